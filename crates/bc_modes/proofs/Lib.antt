@@ -1,0 +1,4 @@
+pub mod Doubling
+pub mod Blocks
+pub mod Along
+pub mod Pieces

@@ -1,0 +1,5 @@
+pub mod Tweak
+pub mod ByBlocks
+pub mod Xts
+pub mod CbcEssiv
+pub mod UnitCipher

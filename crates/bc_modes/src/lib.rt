@@ -1,0 +1,5 @@
+//! The unit ciphers: AES-256-XTS over one data unit.
+#![tactic(auto)]
+
+mod tweak;
+mod xts;

@@ -1,0 +1,48 @@
+//! Tweaks: what XTS adds to a block before and after its encipherment.
+//!
+//! A tweak is a polynomial of 128 coefficients, here the bits of a `u128`. The next block's tweak is this one times x.
+ghost use Rattle.std.specs.Prelude.{◌≡◌, length};
+ghost use Rattle.bc_modes.specs.ByBlocks.{xor_bytes};
+ghost use Rattle.bc_modes.specs.Tweak.{tweak_at};
+ghost use Rattle.bc_modes.specs.Xts.{tweak_bytes};
+
+/// How many bytes are enciphered together: eight blocks. Every data unit has a whole number of such pieces.
+pub(crate) const PIECE: usize = 128;
+
+/// How many blocks that is.
+const BLOCKS: usize = 8;
+
+/// The next block's tweak: this one times x, where x^128 is x^7 + x^2 + x + 1 (IEEE 1619, 5.2).
+#[inline(always)]
+#[tactic(auto, using(crate::proofs::Doubling::next_is))]
+fn next_tweak(tweak: u128) -> u128
+    ensures { result ≡ tweak_at tweak 1 }
+{
+    (tweak << 1) ^ ((tweak >> 127) * 0x87)
+}
+
+/// The tweaks of eight blocks, of which `first` is the first one's, and the tweak of the block after them.
+#[inline(always)]
+pub(crate) fn tweaks_from(first: u128) -> ([u8; PIECE], u128)
+    ensures tweaks { result.0 ≡ tweak_bytes first 8 }
+    ensures next { result.1 ≡ tweak_at first 8 }
+{
+    let mut tweaks = [0; PIECE];
+    let mut tweak = first;
+    for block in 0..BLOCKS {
+        tweaks[16 * block..16 * block + 16].copy_from_slice(&tweak.to_le_bytes());
+        tweak = next_tweak(tweak);
+    }
+    (tweaks, tweak)
+}
+
+/// Adds tweaks to a piece.
+#[inline(always)]
+pub(crate) fn add_tweaks(piece: &mut [u8], tweaks: &[u8; PIECE])
+    requires { length piece.old ≡ 128 }
+    ensures { piece.new ≡ xor_bytes piece.old tweaks.now }
+{
+    for i in 0..PIECE {
+        piece[i] ^= tweaks[i];
+    }
+}
