@@ -2,4 +2,7 @@
 #![tactic(auto)]
 
 mod tweak;
+mod unit_cipher;
 mod xts;
+
+pub use unit_cipher::UnitCipher;
