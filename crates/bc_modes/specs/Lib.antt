@@ -3,3 +3,4 @@ pub mod ByBlocks
 pub mod Xts
 pub mod CbcEssiv
 pub mod UnitCipher
+pub mod Laws
