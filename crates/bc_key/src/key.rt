@@ -109,7 +109,10 @@ fn has_equal_halves(mode: Mode, raw: &[u8]) -> bool
     ensures { result ≡ has_equal_halves mode raw.now }
 {
     match mode {
-        Mode::Aes256Xts => raw[..32] == raw[32..],
+        Mode::Aes256Xts => {
+            let (first, second) = raw.split_at(32);
+            first == second
+        }
         Mode::Aes128CbcEssiv => false,
     }
 }
