@@ -1,0 +1,3 @@
+pub mod SupportLaws
+pub mod WordLaws
+pub mod NumberTextLaws
