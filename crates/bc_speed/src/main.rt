@@ -1,0 +1,87 @@
+//! Measures the unit ciphers, and shows what they make of single data units.
+//!
+//! | Words | What is printed |
+//! |---|---|
+//! | `encrypt SIZE UNITS` | how fast so many data units of SIZE bytes are enciphered, and the digest of what comes out |
+//! | `decrypt SIZE UNITS` | the same of deciphering |
+//! | `expand KEYS` | how fast so many keys are expanded |
+//! | `digest SIZE UNITS` | the digests of both ways alone, which are the same at each run |
+//! | `unit encrypt KEY NUMBER TEXT` | the raw bytes of one data unit, all in hexadecimal digits |
+//! | `unit decrypt KEY NUMBER TEXT` | the text of one data unit's raw bytes |
+//!
+//! Unit i of a measurement has the number i, its texts are the same at each run, and the key has the bytes 00 to 3f.
+#![tactic(auto)]
+
+mod measure;
+mod single;
+mod units;
+
+use anyhow::{Context, Result, bail};
+use bc_key::DataUnit;
+use measure::Direction;
+use std::alloc::Global;
+use std::env;
+use std::rt::Clock;
+
+const USAGE: &str = "words: encrypt|decrypt SIZE UNITS, expand KEYS, digest SIZE UNITS, unit encrypt|decrypt KEY NUMBER TEXT";
+
+/// How many data units a measurement may have: those of 4096 bytes then fill 256 MiB.
+const MOST_UNITS: u32 = 65536;
+
+/// How many keys may be expanded.
+const MOST_KEYS: u32 = 100_000_000;
+
+/// A data unit's size.
+fn size(word: &str) -> Result<DataUnit> {
+    let bytes = number(word, 4096)?;
+    DataUnit::of_bytes(bytes).context("SIZE is 512, 1024, 2048 or 4096")
+}
+
+/// A number of at least 1 and at most `most`.
+fn number(word: &str, most: u32) -> Result<u32> {
+    let Ok(number) = word.parse::<u32>() else {
+        bail!("{word:?} is no number");
+    };
+    if number < 1 || most < number {
+        bail!("{number} is not in 1..={most}");
+    }
+    Ok(number)
+}
+
+/// Which way to go.
+fn direction(word: &str) -> Option<Direction> {
+    if word == "encrypt" {
+        Some(Direction::Encrypt)
+    } else if word == "decrypt" {
+        Some(Direction::Decrypt)
+    } else {
+        None
+    }
+}
+
+/// Does what the words ask for.
+fn run(rt: &(impl Print + Clock), alloc: Global, words: &[String]) -> Result<()> {
+    if words.len() == 3 && words[0].as_str() == "digest" {
+        let units = number(words[2].as_str(), MOST_UNITS)?;
+        return measure::digests(rt, alloc, size(words[1].as_str())?, units);
+    }
+    if words.len() == 2 && words[0].as_str() == "expand" {
+        return measure::expansions(rt, number(words[1].as_str(), MOST_KEYS)?);
+    }
+    if words.len() == 5 && words[0].as_str() == "unit" {
+        let way = direction(words[1].as_str()).context(USAGE)?;
+        return single::show(rt, alloc, way, words[2].as_str(), words[3].as_str(), words[4].as_str());
+    }
+    if words.len() == 3 {
+        let way = direction(words[0].as_str()).context(USAGE)?;
+        let units = number(words[2].as_str(), MOST_UNITS)?;
+        return measure::speed(rt, alloc, way, size(words[1].as_str())?, units);
+    }
+    bail!("{USAGE}")
+}
+
+fn main(rt: HostRuntime) -> Result<()> {
+    let alloc = rt.alloc();
+    let words: Vec<String> = env::args(&rt)?.skip(1).collect(alloc)?;
+    run(&rt, alloc, words.as_slice())
+}

@@ -1,0 +1,92 @@
+//! Measurements.
+ghost use Rattle.std.specs.Prelude.{◌≡◌, ◌*◌, length};
+ghost use Rattle.bc_key.specs.DataUnits.{bytes_of};
+
+use crate::units;
+use anyhow::Result;
+use bc_key::{DataUnit, Mode};
+use bc_modes::UnitCipher;
+use sha2::{Digest, Sha256};
+use std::alloc::Global;
+use std::hint::black_box;
+use std::rt::Clock;
+use std::time::{Duration, Instant};
+
+/// Which way the units go.
+#[derive(Clone, Copy, Debug, PartialEq, Eq)]
+pub enum Direction {
+    Encrypt,
+    Decrypt,
+}
+
+/// The key of all measurements: the bytes 00 to 3f.
+fn key() -> [u8; 64] {
+    let mut key = [0; 64];
+    for i in 0..64 {
+        key[i] = i as u8;
+    }
+    key
+}
+
+/// Takes all units one way.
+fn carry_out(way: Direction, cipher: &UnitCipher, texts: &mut [u8], size: usize, units: usize)
+    requires size { size ≡ bytes_of cipher.now.unit }
+    requires whole { length texts.old ≡ units * size }
+{
+    match way {
+        Direction::Encrypt => units::encrypt_all(cipher, texts, size, units),
+        Direction::Decrypt => units::decrypt_all(cipher, texts, size, units),
+    }
+}
+
+/// The work in a microsecond, which is in millions a second.
+fn a_microsecond(work: u64, took: Duration) -> u64 {
+    let micros = took.as_micros().max(1);
+    (u128::from(work) / micros) as u64
+}
+
+/// Prints the digest of the bytes.
+fn print_digest(rt: &impl Print, alloc: Global, what: &str, bytes: &[u8]) -> Result<()> {
+    let digest = hex::encode(alloc, Sha256::digest(bytes))?;
+    println!(rt; "{what} sha256 {digest}")?;
+    Ok(())
+}
+
+/// Prints how fast units of this size go this way, in MB (millions of bytes) a second, and the digest of what comes out.
+pub fn speed(rt: &(impl Print + Clock), alloc: Global, way: Direction, unit: DataUnit, units: u32) -> Result<()> {
+    let size = unit.bytes() as usize;
+    let mut texts = units::texts(alloc, units as usize * size)?;
+    let cipher = UnitCipher::of_parts(Mode::Aes256Xts, unit, &key());
+    let start = Instant::now(rt)?;
+    carry_out(way, &cipher, texts.as_mut_slice(), size, units as usize);
+    let took = start.elapsed(rt)?;
+    let rate = a_microsecond(texts.len() as u64, took);
+    println!(rt; "{way:?} {size}: {rate} MB/s")?;
+    print_digest(rt, alloc, "out", texts.as_slice())
+}
+
+/// Prints the digests of the units enciphered, and of the same units deciphered.
+pub fn digests(rt: &impl Print, alloc: Global, unit: DataUnit, units: u32) -> Result<()> {
+    let size = unit.bytes() as usize;
+    let cipher = UnitCipher::of_parts(Mode::Aes256Xts, unit, &key());
+    let mut texts = units::texts(alloc, units as usize * size)?;
+    units::encrypt_all(&cipher, texts.as_mut_slice(), size, units as usize);
+    print_digest(rt, alloc, "enciphered", texts.as_slice())?;
+    let mut texts = units::texts(alloc, units as usize * size)?;
+    units::decrypt_all(&cipher, texts.as_mut_slice(), size, units as usize);
+    print_digest(rt, alloc, "deciphered", texts.as_slice())
+}
+
+/// Prints how many thousand keys are expanded in a second.
+pub fn expansions(rt: &(impl Print + Clock), keys: u32) -> Result<()> {
+    let mut raw = key();
+    let start = Instant::now(rt)?;
+    for i in 0..keys {
+        raw[0] = (i & 0xff) as u8;
+        drop(black_box(UnitCipher::of_parts(Mode::Aes256Xts, DataUnit::Bytes4096, black_box(&raw))));
+    }
+    let took = start.elapsed(rt)?;
+    let rate = a_microsecond(u64::from(keys) * 1000, took);
+    println!(rt; "expand: {rate} thousand keys/s")?;
+    Ok(())
+}
