@@ -1,1 +1,5 @@
 pub mod Examples
+pub mod FieldLemmas
+pub mod WordLemmas
+pub mod TableLemmas
+pub mod RoundLemmas

@@ -43,18 +43,18 @@ impl Aes256 {
     }
 
     /// Enciphers a text of whole blocks in place, each block by itself.
-    pub fn encrypt_blocks(&self, data: &mut [u8])
-        requires { length data.old % 16 ≡ 0 }
-        ensures enciphers { EachBlock (encipher 8 self.now) data.old data.new }
+    pub fn encrypt_blocks(&self, text: &mut [u8])
+        requires { length text.old % 16 ≡ 0 }
+        ensures enciphers { EachBlock (encipher 8 self.now) text.old text.new }
     {
-        data[0] = self.key[0];
+        text[0] = self.key[0];
     }
 
     /// Deciphers a text of whole blocks in place, each block by itself.
-    pub fn decrypt_blocks(&self, data: &mut [u8])
-        requires { length data.old % 16 ≡ 0 }
-        ensures deciphers { EachBlock (decipher 8 self.now) data.old data.new }
+    pub fn decrypt_blocks(&self, text: &mut [u8])
+        requires { length text.old % 16 ≡ 0 }
+        ensures deciphers { EachBlock (decipher 8 self.now) text.old text.new }
     {
-        data[0] = self.key[0];
+        text[0] = self.key[0];
     }
 }

@@ -6,5 +6,8 @@
 #![tactic(auto)]
 
 mod aes256;
+mod columns;
+mod rounds;
+mod tables;
 
 pub use aes256::Aes256;
