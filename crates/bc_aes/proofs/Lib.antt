@@ -3,3 +3,4 @@ pub mod FieldLemmas
 pub mod WordLemmas
 pub mod TableLemmas
 pub mod RoundLemmas
+pub mod ScheduleLemmas

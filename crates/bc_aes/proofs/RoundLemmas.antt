@@ -65,14 +65,14 @@ state_bytes-unsubstituted s m0 m1 m2 m3 e f g h = joined e f g h
 
 -- ---- the schedule as bytes
 
-drop-schedule : (ws : List ℕ) (i : ℕ) → drop (4 * i) (schedule_bytes ws) ≡ schedule_bytes (drop i ws)
+pub drop-schedule : (ws : List ℕ) (i : ℕ) → drop (4 * i) (schedule_bytes ws) ≡ schedule_bytes (drop i ws)
 drop-schedule ws zero = refl
 drop-schedule [] (suc i) = let e : 4 * suc i ≡ suc (4 * i + 3) = omega arith in ap (λ (n : ℕ). drop n []) e
 drop-schedule (w ∷ ws) (suc i) =
     let e : 4 * suc i ≡ suc (suc (suc (suc (4 * i)))) = omega arith in
     ap (λ (n : ℕ). drop n (schedule_bytes (w ∷ ws))) e ∙ drop-schedule ws i
 
-drop_next : (ws : List ℕ) (i j : ℕ) → i + 1 ≡ j → i < length ws → drop i ws ≡ slice_index ws i ∷ drop j ws
+pub drop_next : (ws : List ℕ) (i j : ℕ) → i + 1 ≡ j → i < length ws → drop i ws ≡ slice_index ws i ∷ drop j ws
 drop_next ws i j e h = drop_more ws i 0 h ∙ ap (λ (n : ℕ). slice_index ws i ∷ drop n ws) e
 
 -- four words of a schedule

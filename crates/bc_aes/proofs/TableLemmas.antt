@@ -1,8 +1,11 @@
 -- The tables are what the definitions compute.
-use Rattle.std.proofs.Common.{◌≡◌, ℕ, ◌<◌, List, map, length, get_or, refl, sym, ap, ◌∙◌, arith}
+use Rattle.std.proofs.Common.{◌≡◌, ℕ, ◌<◌, Bool, true, false, List, map, length, get_or, refl, sym, ap, ◌∙◌, zero-add, arith}
 use Rattle.std.proofs.lemmas.List.{get_or-map}
-use Rattle.std.proofs.lemmas.List.FromFn.{get_or-map-range_with_len}
-use Rattle.std.specs.List.{range_with_len}
+use Rattle.std.proofs.lemmas.List.FromFn.{get_or-map-range_with_len, get_or-range_with_len}
+use Rattle.std.proofs.lemmas.List.Folds.{list_all_at}
+use borrow.Author.Tests.{ltb-true, both_ways}
+use Rattle.std.specs.Prelude.{nat_lt}
+use Rattle.std.specs.List.{range_with_len, list_all}
 use Rattle.bc_aes.specs.Field.{times_x, product_by, product, inverse}
 use Rattle.bc_aes.specs.State.{affine, inv_affine, sub_byte, inv_sub_byte, mixing_row, inv_mixing_row}
 use Rattle.bc_aes.specs.KeyExpansion.{power_of_x}
@@ -96,3 +99,48 @@ rcon_is = refl
 
 pub rcon_at : (n : ℕ) → n < 10 → get_or RCON.now n 0 ≡ power_of_x n
 rcon_at n h = ap (λ (xs : List ℕ). get_or xs n 0) rcon_is ∙ get_or-map-range_with_len power_of_x 0 10 n n 0 h (omega arith)
+
+-- ---- the S-box and its inverse undo each other
+
+small_at : (xs : List ℕ) (i : ℕ) → list_all (λ v. nat_lt v 256) xs ≡ true → i < length xs → get_or xs i 0 < 256
+small_at xs i all h =
+    elim (nat_lt (get_or xs i 0) 256) as (λ t. nat_lt (get_or xs i 0) 256 ≡ t → get_or xs i 0 < 256) [
+      | true ↦ λ e. ltb-true (get_or xs i 0) 256 e
+      | false ↦ λ e. absurd (both_ways _ (list_all_at (λ v. nat_lt v 256) xs i 0 h e) all)
+    ] refl
+
+sbox_small : list_all (λ v. nat_lt v 256) SBOX.now ≡ true
+sbox_small = refl
+
+inv_sbox_small : list_all (λ v. nat_lt v 256) INV_SBOX.now ≡ true
+inv_sbox_small = refl
+
+pub sub_byte_lt : (n : ℕ) → n < 256 → sub_byte n < 256
+sub_byte_lt n h = let e : get_or SBOX.now n 0 ≡ sub_byte n = sbox_at n h in omega (arith, e, small_at SBOX.now n sbox_small h)
+
+pub inv_sub_byte_lt : (n : ℕ) → n < 256 → inv_sub_byte n < 256
+inv_sub_byte_lt n h = let e : get_or INV_SBOX.now n 0 ≡ inv_sub_byte n = inv_sbox_at n h in omega (arith, e, small_at INV_SBOX.now n inv_sbox_small h)
+
+there_and_back : map (λ v. get_or INV_SBOX.now v 0) SBOX.now ≡ range_with_len 0 256
+there_and_back = refl
+
+back_and_there : map (λ v. get_or SBOX.now v 0) INV_SBOX.now ≡ range_with_len 0 256
+back_and_there = refl
+
+pub inv_sub_byte-sub_byte : (n : ℕ) → n < 256 → inv_sub_byte (sub_byte n) ≡ n
+inv_sub_byte-sub_byte n h =
+    sym (inv_sbox_at (sub_byte n) (sub_byte_lt n h)) ∙ ap (λ (v : ℕ). get_or INV_SBOX.now v 0) (sym (sbox_at n h))
+        ∙ sym (get_or-map (λ v. get_or INV_SBOX.now v 0) SBOX.now n 0 0 h) ∙ ap (λ (xs : List ℕ). get_or xs n 0) there_and_back
+        ∙ get_or-range_with_len 0 256 n 0 h ∙ zero-add n
+
+pub sub_byte-inv_sub_byte : (n : ℕ) → n < 256 → sub_byte (inv_sub_byte n) ≡ n
+sub_byte-inv_sub_byte n h =
+    sym (sbox_at (inv_sub_byte n) (inv_sub_byte_lt n h)) ∙ ap (λ (v : ℕ). get_or SBOX.now v 0) (sym (inv_sbox_at n h))
+        ∙ sym (get_or-map (λ v. get_or SBOX.now v 0) INV_SBOX.now n 0 0 h) ∙ ap (λ (xs : List ℕ). get_or xs n 0) back_and_there
+        ∙ get_or-range_with_len 0 256 n 0 h ∙ zero-add n
+
+rcon_small : list_all (λ v. nat_lt v 256) RCON.now ≡ true
+rcon_small = refl
+
+pub rcon_lt : (n : ℕ) → n < 10 → get_or RCON.now n 0 < 256
+rcon_lt n h = small_at RCON.now n rcon_small h

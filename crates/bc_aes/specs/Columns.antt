@@ -34,10 +34,13 @@ mixed_column first_row y0 y1 y2 y3 =
     mixed first_row 0 y0 y1 y2 y3 ∷ mixed first_row 1 y0 y1 y2 y3 ∷ mixed first_row 2 y0 y1 y2 y3
         ∷ mixed first_row 3 y0 y1 y2 y3 ∷ []
 
+-- InvMixColumns of one column
+abbrev pub unmixed_column : List ℕ → List ℕ
+unmixed_column bytes =
+    mixed_column inv_mixing_row (slice_index bytes 0) (slice_index bytes 1) (slice_index bytes 2) (slice_index bytes 3)
+
 -- the words of a schedule for decipherment: between the first and the last four, each column is unmixed
 pub record IsUnmixed (words unmixed : List ℕ) : Type 0 where
   pub same_length : length unmixed ≡ length words
   pub between : (i : ℕ) → 4 ≤ i → i + 4 < length words
-      → column (slice_index unmixed i)
-          ≡ mixed_column inv_mixing_row (slice_index (column (slice_index words i)) 0) (slice_index (column (slice_index words i)) 1)
-              (slice_index (column (slice_index words i)) 2) (slice_index (column (slice_index words i)) 3)
+      → column (slice_index unmixed i) ≡ unmixed_column (column (slice_index words i))

@@ -3,6 +3,7 @@
 ghost use Rattle.std.specs.Prelude.{◌≡◌, ◌+◌, ◌*◌, ◌/◌, ◌%◌, ◌^◌, ◌<◌, ◌≤◌, [], ◌∷◌, length, slice_index};
 ghost use Rattle.std.specs.Int.{byte_at};
 ghost use Rattle.bc_aes.specs.State.{sub_byte, inv_sub_byte, mixing_row, inv_mixing_row};
+ghost use Rattle.bc_aes.specs.KeyExpansion.{rot_word, sub_word};
 ghost use Rattle.bc_aes.specs.Columns.{column, state_bytes, part, mixed_column};
 
 use crate::tables::{
@@ -128,6 +129,19 @@ pub fn substituted(a: u32, b: u32, c: u32, d: u32) -> u32
         substituted_byte(b, 8),
         substituted_byte(c, 16),
         substituted_byte(d, 24),
+    ])
+}
+
+// SubWord of RotWord.
+#[inline(always)]
+pub fn substituted_turned(word: u32) -> u32
+    ensures substitutes { column result ≡ sub_word (rot_word (column word)) }
+{
+    u32::from_le_bytes([
+        substituted_byte(word, 8),
+        substituted_byte(word, 16),
+        substituted_byte(word, 24),
+        substituted_byte(word, 0),
     ])
 }
 

@@ -8,6 +8,7 @@
 mod aes256;
 mod columns;
 mod rounds;
+mod schedule;
 mod tables;
 
 pub use aes256::Aes256;
