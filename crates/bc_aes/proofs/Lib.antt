@@ -4,3 +4,4 @@ pub mod WordLemmas
 pub mod TableLemmas
 pub mod RoundLemmas
 pub mod ScheduleLemmas
+pub mod BlockLemmas

@@ -1,8 +1,8 @@
 -- The rounds over words are those over bytes.
-use Rattle.std.proofs.Common.{◌≡◌, ℕ, zero, suc, ◌+◌, ◌-◌, ◌*◌, ◌<◌, ◌≤◌, List, [], ◌∷◌, ◌++◌, length, get_or, take, drop, refl, sym, ap, ap₂, ◌∙◌, arith, bit_xor}
+use Rattle.std.proofs.Common.{◌≡◌, ℕ, zero, suc, ◌+◌, ◌-◌, ◌*◌, ◌<◌, ◌≤◌, List, [], ◌∷◌, ◌++◌, length, take, drop, refl, sym, ap, ap₂, ◌∙◌, arith, bit_xor}
 use Rattle.std.specs.Prelude.{slice_index}
 use Rattle.std.specs.Int.{byte_at}
-use Rattle.std.proofs.lemmas.List.{drop_more, drop-drop}
+use Rattle.std.proofs.lemmas.List.{drop_more}
 use Rattle.bc_aes.specs.State.{at, circulant, mixed, sub_byte, inv_sub_byte, sub_bytes, inv_sub_bytes, shift_rows, inv_shift_rows, mix_columns_by, mix_columns, inv_mix_columns, mixing_row, inv_mixing_row, add_round_key}
 use Rattle.bc_aes.specs.KeyExpansion.{round_key, xor_word}
 use Rattle.bc_aes.specs.Cipher.{round, after_round, inv_round, after_inv_round}
@@ -17,11 +17,11 @@ joined e f g h = cc
 
 pub state_bytes-xor : (s k : List ℕ)
     → state_bytes (bit_xor (slice_index s 0) (slice_index k 0) ∷ bit_xor (slice_index s 1) (slice_index k 1) ∷ bit_xor (slice_index s 2) (slice_index k 2) ∷ bit_xor (slice_index s 3) (slice_index k 3) ∷ [])
-        ≡ add_round_key (state_bytes s) (state_bytes k)
+    ≡ add_round_key (state_bytes s) (state_bytes k)
 unfolding add_round_key
 state_bytes-xor s k =
     joined (column-xor (slice_index s 0) (slice_index k 0)) (column-xor (slice_index s 1) (slice_index k 1))
-        (column-xor (slice_index s 2) (slice_index k 2)) (column-xor (slice_index s 3) (slice_index k 3))
+    (column-xor (slice_index s 2) (slice_index k 2)) (column-xor (slice_index s 3) (slice_index k 3))
 
 -- SubBytes, ShiftRows and MixColumns, column by column
 pub state_bytes-mixed : (s : List ℕ) (m0 m1 m2 m3 : ℕ) → let a : ℕ = slice_index s 0 in let b : ℕ = slice_index s 1 in let c : ℕ = slice_index s 2 in let d : ℕ = slice_index s 3 in
@@ -80,11 +80,11 @@ four_words : (ws : List ℕ) (i : ℕ) → i + 4 ≤ length ws
     → drop i ws ≡ slice_index ws i ∷ slice_index ws (i + 1) ∷ slice_index ws (i + 2) ∷ slice_index ws (i + 3) ∷ drop (i + 4) ws
 four_words ws i h =
     drop_next ws i (i + 1) refl (omega arith)
-        ∙ ap (λ (v : List ℕ). slice_index ws i ∷ v)
-            (drop_next ws (i + 1) (i + 2) (omega arith) (omega arith)
-                ∙ ap (λ (v : List ℕ). slice_index ws (i + 1) ∷ v)
-                    (drop_next ws (i + 2) (i + 3) (omega arith) (omega arith)
-                        ∙ ap (λ (v : List ℕ). slice_index ws (i + 2) ∷ v) (drop_next ws (i + 3) (i + 4) (omega arith) (omega arith))))
+    ∙ ap (λ (v : List ℕ). slice_index ws i ∷ v)
+    (drop_next ws (i + 1) (i + 2) (omega arith) (omega arith)
+    ∙ ap (λ (v : List ℕ). slice_index ws (i + 1) ∷ v)
+    (drop_next ws (i + 2) (i + 3) (omega arith) (omega arith)
+    ∙ ap (λ (v : List ℕ). slice_index ws (i + 2) ∷ v) (drop_next ws (i + 3) (i + 4) (omega arith) (omega arith))))
 
 pub round_key-schedule : (ws : List ℕ) (round : ℕ) → 4 * round + 4 ≤ length ws
     → state_bytes (slice_index ws (4 * round) ∷ slice_index ws (4 * round + 1) ∷ slice_index ws (4 * round + 2) ∷ slice_index ws (4 * round + 3) ∷ []) ≡ round_key (schedule_bytes ws) round
@@ -92,7 +92,7 @@ round_key-schedule ws round h =
     let size : 16 * round + 16 - 16 * round ≡ 16 = omega arith in
     let place : 16 * round ≡ 4 * (4 * round) = omega arith in
     let here : drop (16 * round) (schedule_bytes ws) ≡ schedule_bytes (slice_index ws (4 * round) ∷ slice_index ws (4 * round + 1) ∷ slice_index ws (4 * round + 2) ∷ slice_index ws (4 * round + 3) ∷ drop (4 * round + 4) ws) =
-        ap (λ (n : ℕ). drop n (schedule_bytes ws)) place ∙ drop-schedule ws (4 * round) ∙ ap (λ (v : List ℕ). schedule_bytes v) (four_words ws (4 * round) h) in
+    ap (λ (n : ℕ). drop n (schedule_bytes ws)) place ∙ drop-schedule ws (4 * round) ∙ ap (λ (v : List ℕ). schedule_bytes v) (four_words ws (4 * round) h) in
     sym (ap₂ (λ (n : ℕ) (v : List ℕ). take n v) size here)
 
 -- ---- the state after the rounds
@@ -125,11 +125,11 @@ mixed-xor m r x0 x1 x2 x3 k0 k1 k2 k3 =
 
 column-mixed : (m x k : List ℕ) (c : ℕ)
     → mixed_column m (bit_xor (at x 0 c) (at k 0 c)) (bit_xor (at x 1 c) (at k 1 c)) (bit_xor (at x 2 c) (at k 2 c)) (bit_xor (at x 3 c) (at k 3 c))
-        ≡ xor_word (mixed_column m (at x 0 c) (at x 1 c) (at x 2 c) (at x 3 c)) (mixed_column m (at k 0 c) (at k 1 c) (at k 2 c) (at k 3 c))
+    ≡ xor_word (mixed_column m (at x 0 c) (at x 1 c) (at x 2 c) (at x 3 c)) (mixed_column m (at k 0 c) (at k 1 c) (at k 2 c) (at k 3 c))
 column-mixed m x k c =
     let same : (r : ℕ) → mixed m r (bit_xor (at x 0 c) (at k 0 c)) (bit_xor (at x 1 c) (at k 1 c)) (bit_xor (at x 2 c) (at k 2 c)) (bit_xor (at x 3 c) (at k 3 c))
-            ≡ bit_xor (mixed m r (at x 0 c) (at x 1 c) (at x 2 c) (at x 3 c)) (mixed m r (at k 0 c) (at k 1 c) (at k 2 c) (at k 3 c)) =
-        λ r. mixed-xor m r (at x 0 c) (at x 1 c) (at x 2 c) (at x 3 c) (at k 0 c) (at k 1 c) (at k 2 c) (at k 3 c) in
+    ≡ bit_xor (mixed m r (at x 0 c) (at x 1 c) (at x 2 c) (at x 3 c)) (mixed m r (at k 0 c) (at k 1 c) (at k 2 c) (at k 3 c)) =
+    λ r. mixed-xor m r (at x 0 c) (at x 1 c) (at x 2 c) (at x 3 c) (at k 0 c) (at k 1 c) (at k 2 c) (at k 3 c) in
     four (same 0) (same 1) (same 2) (same 3)
 
 pub mix_columns_by-add : (m x k : List ℕ) → mix_columns_by m (add_round_key x k) ≡ add_round_key (mix_columns_by m x) (mix_columns_by m k)
@@ -143,14 +143,14 @@ after_inv_round-none nr schedule block = refl
 -- one more round, by the equivalent inverse cipher (5.3.5)
 pub after_inv_round-more : (nr : ℕ) (schedule block : List ℕ) (n : ℕ)
     → after_inv_round nr schedule block (n + 1)
-        ≡ add_round_key (inv_mix_columns (inv_sub_bytes (inv_shift_rows (after_inv_round nr schedule block n)))) (inv_mix_columns (round_key schedule (nr - (n + 1))))
+    ≡ add_round_key (inv_mix_columns (inv_sub_bytes (inv_shift_rows (after_inv_round nr schedule block n)))) (inv_mix_columns (round_key schedule (nr - (n + 1))))
 unfolding after_inv_round inv_round
 after_inv_round-more nr schedule block n =
     let e : n + 1 ≡ suc n = omega arith in
     let key : List ℕ = round_key schedule (nr - suc n) in
     let state : List ℕ = inv_sub_bytes (inv_shift_rows (after_inv_round nr schedule block n)) in
     ap (λ (m : ℕ). after_inv_round nr schedule block m) e ∙ mix_columns_by-add inv_mixing_row state key
-        ∙ ap (λ (m : ℕ). add_round_key (inv_mix_columns state) (inv_mix_columns (round_key schedule (nr - m)))) (sym e)
+    ∙ ap (λ (m : ℕ). add_round_key (inv_mix_columns state) (inv_mix_columns (round_key schedule (nr - m)))) (sym e)
 
 -- a round key between the first and the last, unmixed
 pub round_key-unmixed : (ws us : List ℕ) (round : ℕ) → IsUnmixed ws us → 0 < round → 4 * round + 8 ≤ length ws
@@ -159,6 +159,6 @@ unfolding mix_columns_by
 round_key-unmixed ws us round h low high =
     let length_is : length us ≡ length ws = h.same_length in
     sym (round_key-schedule us round (omega arith))
-        ∙ joined (h.between (4 * round) (omega arith) (omega arith)) (h.between (4 * round + 1) (omega arith) (omega arith))
-            (h.between (4 * round + 2) (omega arith) (omega arith)) (h.between (4 * round + 3) (omega arith) (omega arith))
-        ∙ ap (λ (k : List ℕ). inv_mix_columns k) (round_key-schedule ws round (omega arith))
+    ∙ joined (h.between (4 * round) (omega arith) (omega arith)) (h.between (4 * round + 1) (omega arith) (omega arith))
+    (h.between (4 * round + 2) (omega arith) (omega arith)) (h.between (4 * round + 3) (omega arith) (omega arith))
+    ∙ ap (λ (k : List ℕ). inv_mix_columns k) (round_key-schedule ws round (omega arith))

@@ -1,5 +1,5 @@
 -- The tables are what the definitions compute.
-use Rattle.std.proofs.Common.{◌≡◌, ℕ, ◌<◌, Bool, true, false, List, map, length, get_or, refl, sym, ap, ◌∙◌, zero-add, arith}
+use Rattle.std.proofs.Common.{◌≡◌, ℕ, ◌<◌, true, false, List, map, length, get_or, refl, sym, ap, ◌∙◌, zero-add, arith}
 use Rattle.std.proofs.lemmas.List.{get_or-map}
 use Rattle.std.proofs.lemmas.List.FromFn.{get_or-map-range_with_len, get_or-range_with_len}
 use Rattle.std.proofs.lemmas.List.Folds.{list_all_at}
@@ -130,14 +130,14 @@ back_and_there = refl
 pub inv_sub_byte-sub_byte : (n : ℕ) → n < 256 → inv_sub_byte (sub_byte n) ≡ n
 inv_sub_byte-sub_byte n h =
     sym (inv_sbox_at (sub_byte n) (sub_byte_lt n h)) ∙ ap (λ (v : ℕ). get_or INV_SBOX.now v 0) (sym (sbox_at n h))
-        ∙ sym (get_or-map (λ v. get_or INV_SBOX.now v 0) SBOX.now n 0 0 h) ∙ ap (λ (xs : List ℕ). get_or xs n 0) there_and_back
-        ∙ get_or-range_with_len 0 256 n 0 h ∙ zero-add n
+    ∙ sym (get_or-map (λ v. get_or INV_SBOX.now v 0) SBOX.now n 0 0 h) ∙ ap (λ (xs : List ℕ). get_or xs n 0) there_and_back
+    ∙ get_or-range_with_len 0 256 n 0 h ∙ zero-add n
 
 pub sub_byte-inv_sub_byte : (n : ℕ) → n < 256 → sub_byte (inv_sub_byte n) ≡ n
 sub_byte-inv_sub_byte n h =
     sym (sbox_at (inv_sub_byte n) (inv_sub_byte_lt n h)) ∙ ap (λ (v : ℕ). get_or SBOX.now v 0) (sym (inv_sbox_at n h))
-        ∙ sym (get_or-map (λ v. get_or SBOX.now v 0) INV_SBOX.now n 0 0 h) ∙ ap (λ (xs : List ℕ). get_or xs n 0) back_and_there
-        ∙ get_or-range_with_len 0 256 n 0 h ∙ zero-add n
+    ∙ sym (get_or-map (λ v. get_or SBOX.now v 0) INV_SBOX.now n 0 0 h) ∙ ap (λ (xs : List ℕ). get_or xs n 0) back_and_there
+    ∙ get_or-range_with_len 0 256 n 0 h ∙ zero-add n
 
 rcon_small : list_all (λ v. nat_lt v 256) RCON.now ≡ true
 rcon_small = refl

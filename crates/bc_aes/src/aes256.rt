@@ -4,20 +4,27 @@ ghost use Rattle.std.specs.Prelude.{◌≡◌, ◌%◌, length};
 ghost use Rattle.bc_aes.specs.Cipher.{encipher, decipher};
 ghost use Rattle.bc_aes.specs.Blocks.{EachBlock};
 
+use crate::blocks::{decrypt_each, encrypt_each};
+use crate::rounds::{decrypt, encrypt};
+use crate::schedule::{expand, unmix};
 use std::marker::Model;
 
-/// AES-256 under one key (FIPS 197). A contract sees the key, 32 bytes.
+/// AES-256 under one key (FIPS 197), expanded for both directions. A contract sees the key, 32 bytes.
 #[derive(Drop)]
 pub struct Aes256 {
-    key: [u8; 32],
+    schedule: [u32; 60],
+    unmixed: [u32; 60],
 }
 
 impl Model for Aes256 {
-    ghost use Rattle.std.specs.Prelude.{ℕ, List};
+    ghost use Rattle.std.specs.Prelude.{ℕ, List, take};
+    ghost use Rattle.bc_aes.specs.Columns.{schedule_bytes, IsExpanded};
 
     ghost Value = { List ℕ };
 
-    ghost view = { λ aes. aes.key };
+    ghost view = { λ aes. schedule_bytes (take 8 aes.schedule) };
+
+    ghost invariant = { λ aes. IsExpanded 8 aes.schedule aes.unmixed };
 }
 
 impl Aes256 {
@@ -25,21 +32,27 @@ impl Aes256 {
     pub fn new(key: &[u8; 32]) -> Aes256
         ensures expands { result ≡ key.now }
     {
-        Aes256 { key: *key }
+        let mut schedule = [0; 60];
+        expand(key, &mut schedule);
+        let mut unmixed = [0; 60];
+        unmix(&schedule, &mut unmixed);
+        Aes256 { schedule, unmixed }
     }
 
     /// Enciphers one block of 16 bytes in place (FIPS 197, 5.1).
+    #[inline]
     pub fn encrypt_block(&self, block: &mut [u8; 16])
         ensures enciphers { block.new ≡ encipher 8 self.now block.old }
     {
-        block[0] = self.key[0];
+        encrypt(&self.schedule, block);
     }
 
     /// Deciphers one block of 16 bytes in place (FIPS 197, 5.3).
+    #[inline]
     pub fn decrypt_block(&self, block: &mut [u8; 16])
         ensures deciphers { block.new ≡ decipher 8 self.now block.old }
     {
-        block[0] = self.key[0];
+        decrypt(&self.schedule, &self.unmixed, block);
     }
 
     /// Enciphers a text of whole blocks in place, each block by itself.
@@ -47,7 +60,7 @@ impl Aes256 {
         requires { length text.old % 16 ≡ 0 }
         ensures enciphers { EachBlock (encipher 8 self.now) text.old text.new }
     {
-        text[0] = self.key[0];
+        encrypt_each(&self.schedule, text);
     }
 
     /// Deciphers a text of whole blocks in place, each block by itself.
@@ -55,6 +68,6 @@ impl Aes256 {
         requires { length text.old % 16 ≡ 0 }
         ensures deciphers { EachBlock (decipher 8 self.now) text.old text.new }
     {
-        text[0] = self.key[0];
+        decrypt_each(&self.schedule, &self.unmixed, text);
     }
 }

@@ -7,8 +7,8 @@ ghost use Rattle.bc_aes.specs.KeyExpansion.{rot_word, sub_word};
 ghost use Rattle.bc_aes.specs.Columns.{column, state_bytes, part, mixed_column};
 
 use crate::tables::{
-    INV_SBOX, MIXED_ROW_0, MIXED_ROW_1, MIXED_ROW_2, MIXED_ROW_3, SBOX, UNMIXED_ROW_0, UNMIXED_ROW_1,
-    UNMIXED_ROW_2, UNMIXED_ROW_3,
+    INV_SBOX, MIXED_ROW_0, MIXED_ROW_1, MIXED_ROW_2, MIXED_ROW_3, SBOX, UNMIXED_ROW_0,
+    UNMIXED_ROW_1, UNMIXED_ROW_2, UNMIXED_ROW_3,
 };
 
 // The byte at this shift, as an index of a table.
@@ -172,7 +172,12 @@ pub fn word_at(bytes: &[u8], at: usize) -> u32
 pub fn load(block: &[u8; 16]) -> [u32; 4]
     ensures holds { state_bytes result ≡ block.now }
 {
-    [word_at(block, 0), word_at(block, 4), word_at(block, 8), word_at(block, 12)]
+    [
+        word_at(block, 0),
+        word_at(block, 4),
+        word_at(block, 8),
+        word_at(block, 12),
+    ]
 }
 
 // The block of these columns.
@@ -184,5 +189,7 @@ pub fn store(state: [u32; 4]) -> [u8; 16]
     let [b0, b1, b2, b3] = state[1].to_le_bytes();
     let [c0, c1, c2, c3] = state[2].to_le_bytes();
     let [d0, d1, d2, d3] = state[3].to_le_bytes();
-    [a0, a1, a2, a3, b0, b1, b2, b3, c0, c1, c2, c3, d0, d1, d2, d3]
+    [
+        a0, a1, a2, a3, b0, b1, b2, b3, c0, c1, c2, c3, d0, d1, d2, d3,
+    ]
 }

@@ -5,10 +5,13 @@
 //! expansion (`KeyExpansion`) and the cipher (`Cipher`). Nothing here allocates, waits or refuses.
 #![tactic(auto)]
 
+mod aes128;
 mod aes256;
+mod blocks;
 mod columns;
 mod rounds;
 mod schedule;
 mod tables;
 
+pub use aes128::Aes128;
 pub use aes256::Aes256;

@@ -15,7 +15,12 @@ fn key_of_round(schedule: &[u32], round: usize) -> [u32; 4]
     ensures holds { state_bytes result ≡ round_key (schedule_bytes schedule.now) round }
 {
     let at = 4 * round;
-    [schedule[at], schedule[at + 1], schedule[at + 2], schedule[at + 3]]
+    [
+        schedule[at],
+        schedule[at + 1],
+        schedule[at + 2],
+        schedule[at + 3],
+    ]
 }
 
 // AddRoundKey.
@@ -23,7 +28,12 @@ fn key_of_round(schedule: &[u32], round: usize) -> [u32; 4]
 fn added(state: [u32; 4], key: [u32; 4]) -> [u32; 4]
     ensures adds { state_bytes result ≡ add_round_key (state_bytes state) (state_bytes key) }
 {
-    [state[0] ^ key[0], state[1] ^ key[1], state[2] ^ key[2], state[3] ^ key[3]]
+    [
+        state[0] ^ key[0],
+        state[1] ^ key[1],
+        state[2] ^ key[2],
+        state[3] ^ key[3],
+    ]
 }
 
 // SubBytes, ShiftRows, MixColumns and AddRoundKey.
@@ -32,7 +42,15 @@ fn whole_round(state: [u32; 4], key: [u32; 4]) -> [u32; 4]
     ensures goes_on { state_bytes result ≡ round (state_bytes state) (state_bytes key) }
 {
     let [a, b, c, d] = state;
-    added([mixed(a, b, c, d), mixed(b, c, d, a), mixed(c, d, a, b), mixed(d, a, b, c)], key)
+    added(
+        [
+            mixed(a, b, c, d),
+            mixed(b, c, d, a),
+            mixed(c, d, a, b),
+            mixed(d, a, b, c),
+        ],
+        key,
+    )
 }
 
 // SubBytes, ShiftRows and AddRoundKey.
@@ -41,7 +59,15 @@ fn final_round(state: [u32; 4], key: [u32; 4]) -> [u32; 4]
     ensures ends { state_bytes result ≡ last_round (state_bytes state) (state_bytes key) }
 {
     let [a, b, c, d] = state;
-    added([substituted(a, b, c, d), substituted(b, c, d, a), substituted(c, d, a, b), substituted(d, a, b, c)], key)
+    added(
+        [
+            substituted(a, b, c, d),
+            substituted(b, c, d, a),
+            substituted(c, d, a, b),
+            substituted(d, a, b, c),
+        ],
+        key,
+    )
 }
 
 // The state after the rounds that mix.
@@ -75,7 +101,15 @@ fn whole_inv_round(state: [u32; 4], key: [u32; 4]) -> [u32; 4]
     ensures goes_on { state_bytes result ≡ add_round_key (inv_mix_columns (inv_sub_bytes (inv_shift_rows (state_bytes state)))) (state_bytes key) }
 {
     let [a, b, c, d] = state;
-    added([unmixed(a, d, c, b), unmixed(b, a, d, c), unmixed(c, b, a, d), unmixed(d, c, b, a)], key)
+    added(
+        [
+            unmixed(a, d, c, b),
+            unmixed(b, a, d, c),
+            unmixed(c, b, a, d),
+            unmixed(d, c, b, a),
+        ],
+        key,
+    )
 }
 
 // InvSubBytes, InvShiftRows and AddRoundKey.
@@ -84,7 +118,15 @@ fn final_inv_round(state: [u32; 4], key: [u32; 4]) -> [u32; 4]
     ensures ends { state_bytes result ≡ inv_last_round (state_bytes state) (state_bytes key) }
 {
     let [a, b, c, d] = state;
-    added([unsubstituted(a, d, c, b), unsubstituted(b, a, d, c), unsubstituted(c, b, a, d), unsubstituted(d, c, b, a)], key)
+    added(
+        [
+            unsubstituted(a, d, c, b),
+            unsubstituted(b, a, d, c),
+            unsubstituted(c, b, a, d),
+            unsubstituted(d, c, b, a),
+        ],
+        key,
+    )
 }
 
 // The state after the rounds of the inverse that unmix.

@@ -8,7 +8,7 @@ use Rattle.bc_aes.proofs.rounds.final_inv_round.Goals as goal
 pub returns : goal.returns
 unfolding inv_last_round
 returns c = record {
-    ends = c.added.ensures.adds
-        ∙ ap (λ (s : List ℕ). add_round_key s (state_bytes c.args.key))
-            (state_bytes-unsubstituted c.args.state _ _ _ _ c.unsubstituted.ensures.substitutes c.unsubstituted-2.ensures.substitutes c.unsubstituted-3.ensures.substitutes c.unsubstituted-4.ensures.substitutes)
+  ends = c.added.ensures.adds
+      ∙ ap (λ (s : List ℕ). add_round_key s (state_bytes c.args.key))
+      (state_bytes-unsubstituted c.args.state _ _ _ _ c.unsubstituted.ensures.substitutes c.unsubstituted-2.ensures.substitutes c.unsubstituted-3.ensures.substitutes c.unsubstituted-4.ensures.substitutes);
 }

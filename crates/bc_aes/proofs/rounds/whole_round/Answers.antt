@@ -8,7 +8,7 @@ use Rattle.bc_aes.proofs.rounds.whole_round.Goals as goal
 pub returns : goal.returns
 unfolding round
 returns c = record {
-    goes_on = c.added.ensures.adds
-        ∙ ap (λ (s : List ℕ). add_round_key s (state_bytes c.args.key))
-            (state_bytes-mixed c.args.state _ _ _ _ c.mixed.ensures.mixes c.mixed-2.ensures.mixes c.mixed-3.ensures.mixes c.mixed-4.ensures.mixes)
+  goes_on = c.added.ensures.adds
+      ∙ ap (λ (s : List ℕ). add_round_key s (state_bytes c.args.key))
+      (state_bytes-mixed c.args.state _ _ _ _ c.mixed.ensures.mixes c.mixed-2.ensures.mixes c.mixed-3.ensures.mixes c.mixed-4.ensures.mixes);
 }

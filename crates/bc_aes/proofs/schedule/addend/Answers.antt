@@ -8,15 +8,15 @@ use Rattle.bc_aes.proofs.schedule.addend.Goals.{else-nk-eq8-via-then-nk-eq8+else
 
 pub returns-then-i-nk-eq0 : goal.returns-then-i-nk-eq0
 returns-then-i-nk-eq0 c = record {
-    adds = column-xor c.substituted_turned.result c.constant.result
-        ∙ ap₂ (λ (v w : List ℕ). xor_word v w) c.substituted_turned.ensures.substitutes c.constant.ensures.holds
-        ∙ sym (added_word-first c.args.nk c.args.i (column c.args.word) c.if-i-nk-eq0.true)
+  adds = column-xor c.substituted_turned.result c.constant.result
+      ∙ ap₂ (λ (v w : List ℕ). xor_word v w) c.substituted_turned.ensures.substitutes c.constant.ensures.holds
+      ∙ sym (added_word-first c.args.nk c.args.i (column c.args.word) c.if-i-nk-eq0.true);
 }
 
 pub returns-then-i-eq4 : goal.returns-then-i-eq4
 returns-then-i-eq4 c = record {
-    adds = c.substituted_word.ensures.substitutes
-        ∙ sym (added_word-middle c.args.nk c.args.i (column c.args.word) c.if-i-nk-eq0.false c.if-nk-eq8.true c.if-i-eq4.true)
+  adds = c.substituted_word.ensures.substitutes
+      ∙ sym (added_word-middle c.args.nk c.args.i (column c.args.word) c.if-i-nk-eq0.false c.if-nk-eq8.true c.if-i-eq4.true);
 }
 
 pub returns-else-nk-eq8 : goal.returns-else-nk-eq8

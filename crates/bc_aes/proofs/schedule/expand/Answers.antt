@@ -1,6 +1,6 @@
-use Rattle.std.proofs.Common.{◌≡◌, ℕ, List, ◌+◌, ◌-◌, ◌*◌, ◌/◌, ◌<◌, ◌≤◌, length, get_or, take, sym, ap, ap₂, ◌∙◌, arith}
+use Rattle.std.proofs.Common.{◌≡◌, ℕ, List, ◌-◌, ◌/◌, length, get_or, sym, ap, ◌∙◌, arith}
 use Rattle.std.proofs.lemmas.List.{take_all}
-use Rattle.bc_aes.specs.KeyExpansion.{rounds, xor_word, added_word, expanded}
+use Rattle.bc_aes.specs.KeyExpansion.{xor_word, expanded}
 use Rattle.bc_aes.specs.Columns.{column, schedule_bytes}
 use Rattle.bc_aes.proofs.WordLemmas.{column-xor}
 use Rattle.bc_aes.proofs.ScheduleLemmas.{expanded-none, expanded-more, expanded-all}
@@ -15,7 +15,7 @@ loop-i-preserved c =
     let i : ℕ = c.loop-i.i in
     let before : ℕ = get_or c.loop-i.schedule (i - nk) 0 in
     expanded-more nk c.args.key.now c.loop-i.schedule i _ (omega arith) (omega arith) (omega arith) c.loop-i.invariant
-        (column-xor before c.addend.result ∙ ap (λ (w : List ℕ). xor_word (column before) w) c.addend.ensures.adds)
+    (column-xor before c.addend.result ∙ ap (λ (w : List ℕ). xor_word (column before) w) c.addend.ensures.adds)
 
 pub returns : goal.returns
 returns c =
@@ -23,7 +23,7 @@ returns c =
     let words : ℕ = length c.args.schedule.now in
     let same : c.loop-i.i ≡ words = omega arith in
     record {
-        expands = ap (λ (s : List ℕ). schedule_bytes s) (sym (take_all c.loop-i.i c.loop-i.schedule (omega arith)))
-            ∙ c.loop-i.invariant ∙ ap (λ (n : ℕ). expanded nk c.args.key.now (n - nk)) same
-            ∙ expanded-all nk c.args.key.now words c.requires.schedule_size
+      expands = ap (λ (s : List ℕ). schedule_bytes s) (sym (take_all c.loop-i.i c.loop-i.schedule (omega arith)))
+          ∙ c.loop-i.invariant ∙ ap (λ (n : ℕ). expanded nk c.args.key.now (n - nk)) same
+          ∙ expanded-all nk c.args.key.now words c.requires.schedule_size;
     }
