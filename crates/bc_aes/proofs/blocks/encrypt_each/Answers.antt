@@ -1,0 +1,11 @@
+use Rattle.std.proofs.Common.{List, ℕ, ◌-◌, ◌/◌, length, ap, ◌∙◌}
+use Rattle.bc_aes.specs.Cipher.{encipher_by}
+use Rattle.bc_aes.specs.Columns.{schedule_bytes}
+use Rattle.bc_aes.proofs.BlockLemmas.{ciphered-more}
+use Rattle.bc_aes.proofs.blocks.encrypt_each.Goals as goal
+
+pub loop-i-preserved : goal.loop-i-preserved
+loop-i-preserved c =
+    let cipher : List ℕ → List ℕ = encipher_by (length c.args.schedule.now / 4 - 1) (schedule_bytes c.args.schedule.now) in
+    ciphered-more cipher c.loop-i.i c.args.text.now c.loop-i.text c.put_block.new.text c.loop-i.invariant c.put_block.ensures.before
+    (c.put_block.ensures.here ∙ c.encrypt.ensures.enciphers ∙ ap cipher c.block_at-block.ensures.holds) c.put_block.ensures.after

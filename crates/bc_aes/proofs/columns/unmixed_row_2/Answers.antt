@@ -1,0 +1,6 @@
+use Rattle.std.proofs.Common.{rules}
+use Rattle.bc_aes.proofs.TableLemmas.{unmixed_row_2_at}
+use Rattle.bc_aes.proofs.columns.unmixed_row_2.Goals as goal
+
+pub returns : goal.returns
+returns c = rw c.byte.ensures.value (record { adds = unmixed_row_2_at _ (search rules) })
