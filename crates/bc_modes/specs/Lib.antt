@@ -3,4 +3,5 @@ pub mod ByBlocks
 pub mod Xts
 pub mod CbcEssiv
 pub mod UnitCipher
+pub mod Schedules
 pub mod Laws

@@ -1,6 +1,11 @@
-//! The unit ciphers: AES-256-XTS over one data unit.
+//! The unit ciphers: how one data unit is enciphered and deciphered under a key and a data unit number.
+//!
+//! `UnitCipher` does it for both modes, AES-256-XTS (IEEE 1619) and AES-128-CBC-ESSIV, in place. What comes out is said
+//! by the definitions of `specs/`: `UnitCipher` goes by the mode to `Xts`, whose tweaks are polynomials (`Tweak`), and to
+//! `CbcEssiv`. Nothing here allocates, waits or refuses.
 #![tactic(auto)]
 
+mod essiv;
 mod tweak;
 mod unit_cipher;
 mod xts;

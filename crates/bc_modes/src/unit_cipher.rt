@@ -4,6 +4,7 @@ ghost use Rattle.bc_key.specs.DataUnits.{bytes_of};
 ghost use Rattle.bc_key.specs.KeyData.{key_size};
 ghost use Rattle.bc_modes.specs.UnitCipher.{decipher_unit, encipher_unit, parts_of};
 
+use crate::essiv::Essiv;
 use crate::xts::Xts;
 use bc_key::{DataUnit, Dun, Key, Mode};
 use std::marker::Model;
@@ -14,41 +15,54 @@ use std::marker::Model;
 #[derive(Drop)]
 pub struct UnitCipher {
     unit: DataUnit,
-    xts: Xts,
+    schedules: Schedules,
+}
+
+/// The expanded key of a mode.
+#[derive(Drop)]
+enum Schedules {
+    Xts(Xts),
+    Essiv(Essiv),
 }
 
 impl Model for UnitCipher {
-    ghost use Rattle.bc_key.specs.declared.config.Mode.TheVariants.{Aes256Xts};
     ghost use Rattle.bc_modes.specs.UnitCipher.{CipherParts};
 
     ghost Value = { CipherParts };
 
-    ghost view = { λ cipher. record { mode = Aes256Xts; unit = cipher.unit; raw = cipher.xts } };
+    ghost use Rattle.bc_modes.specs.Schedules.{mode_of, raw_of};
+
+    ghost view = { λ cipher. record { mode = mode_of cipher.schedules; unit = cipher.unit; raw = raw_of cipher.schedules } };
 }
 
 impl UnitCipher {
     /// The cipher of a key.
     pub fn of_key(key: &Key) -> UnitCipher
-        requires { key.now.config.mode ≡ Mode.Aes256Xts }
         ensures { result ≡ parts_of key.now }
     {
-        let mut raw = [0; 64];
-        raw.copy_from_slice(key.raw());
         let config = key.config();
+        let bytes = key.raw();
+        let mut raw = [0; 64];
+        raw[..bytes.len()].copy_from_slice(bytes);
         UnitCipher::of_parts(config.mode, config.unit, &raw)
     }
 
-    /// The cipher of a mode, a data unit's size and the bytes of a key.
+    /// The cipher of a mode, a data unit's size and a key's bytes, of which the mode takes as many as its keys have: all
+    /// 64, or the first 16.
     pub fn of_parts(mode: Mode, unit: DataUnit, raw: &[u8; 64]) -> UnitCipher
-        requires { mode ≡ Mode.Aes256Xts }
         ensures mode { result.mode ≡ mode }
         ensures unit { result.unit ≡ unit }
         ensures raw { result.raw ≡ take (key_size mode) raw.now }
     {
-        UnitCipher {
-            unit,
-            xts: Xts::new(raw),
-        }
+        let schedules = match mode {
+            Mode::Aes256Xts => Schedules::Xts(Xts::new(raw)),
+            Mode::Aes128CbcEssiv => {
+                let mut key = [0; 16];
+                key.copy_from_slice(&raw[..16]);
+                Schedules::Essiv(Essiv::new(&key))
+            }
+        };
+        UnitCipher { unit, schedules }
     }
 
     /// Enciphers one data unit in place.
@@ -56,7 +70,10 @@ impl UnitCipher {
         requires { length text.old ≡ bytes_of self.now.unit }
         ensures enciphers { text.new ≡ encipher_unit self.now.mode self.now.raw dun.now text.old }
     {
-        self.xts.encrypt(dun, text);
+        match &self.schedules {
+            Schedules::Xts(xts) => xts.encrypt(dun, text),
+            Schedules::Essiv(essiv) => essiv.encrypt(dun, text),
+        }
     }
 
     /// Deciphers one data unit in place.
@@ -64,6 +81,9 @@ impl UnitCipher {
         requires { length text.old ≡ bytes_of self.now.unit }
         ensures deciphers { text.new ≡ decipher_unit self.now.mode self.now.raw dun.now text.old }
     {
-        self.xts.decrypt(dun, text);
+        match &self.schedules {
+            Schedules::Xts(xts) => xts.decrypt(dun, text),
+            Schedules::Essiv(essiv) => essiv.decrypt(dun, text),
+        }
     }
 }

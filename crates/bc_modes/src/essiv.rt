@@ -1,0 +1,114 @@
+//! AES-128-CBC-ESSIV over whole data units.
+//!
+//! Each block is added to the ciphertext's block before it. The first is added to the data unit's number, enciphered
+//! under the digest of the key.
+ghost use Rattle.std.specs.Prelude.{◌≡◌, ◌%◌, length};
+ghost use Rattle.bc_aes.specs.Cipher.{decipher, encipher};
+ghost use Rattle.bc_modes.specs.ByBlocks.{xor_bytes};
+ghost use Rattle.bc_modes.specs.CbcEssiv.{essiv, essiv_decipher, essiv_encipher};
+
+use bc_aes::{Aes128, Aes256};
+use bc_key::Dun;
+use sha2::{Digest, Sha256};
+use std::marker::Model;
+
+/// The expanded key for the data, and the expanded digest of the key for the data unit's number.
+#[derive(Drop)]
+pub(crate) struct Essiv {
+    data_key: Aes128,
+    number_key: Aes256,
+}
+
+impl Model for Essiv {
+    ghost use Rattle.std.specs.Prelude.{ℕ, List, ◌≡◌};
+    ghost use Rattle.sha2.specs.Sha256.{sha256};
+
+    ghost Value = { List ℕ };
+
+    ghost view = { λ essiv. essiv.data_key };
+
+    ghost invariant = { λ essiv. essiv.number_key ≡ sha256 essiv.data_key };
+}
+
+impl Essiv {
+    /// Expands a key and its digest.
+    pub(crate) fn new(raw: &[u8; 16]) -> Essiv
+        ensures { result ≡ raw.now }
+    {
+        let digest = Sha256::digest(raw.as_slice());
+        Essiv {
+            data_key: Aes128::new(raw),
+            number_key: Aes256::new(&digest),
+        }
+    }
+
+    /// Enciphers a text of whole blocks in place.
+    pub(crate) fn encrypt(&self, dun: &Dun, text: &mut [u8])
+        requires { length text.old % 16 ≡ 0 }
+        ensures { text.new ≡ essiv_encipher self.now dun.now text.old }
+    {
+        let mut before = self.start(dun);
+        for block in 0..text.len() / 16 {
+            before = self.encrypt_link(&before, &mut text[16 * block..16 * block + 16]);
+        }
+    }
+
+    /// Deciphers a text of whole blocks in place.
+    pub(crate) fn decrypt(&self, dun: &Dun, text: &mut [u8])
+        requires { length text.old % 16 ≡ 0 }
+        ensures { text.new ≡ essiv_decipher self.now dun.now text.old }
+    {
+        let mut before = self.start(dun);
+        for block in 0..text.len() / 16 {
+            before = self.decrypt_link(&before, &mut text[16 * block..16 * block + 16]);
+        }
+    }
+
+    /// What a data unit's first block is added to.
+    fn start(&self, dun: &Dun) -> [u8; 16]
+        ensures { result ≡ essiv self.now dun.now }
+    {
+        let mut block = dun.iv();
+        self.number_key.encrypt_block(&mut block);
+        block
+    }
+
+    /// Enciphers one block, and gives what comes out for the next one.
+    fn encrypt_link(&self, before: &[u8; 16], text: &mut [u8]) -> [u8; 16]
+        requires { length text.old ≡ 16 }
+        ensures enciphers { text.new ≡ encipher 4 self.now (xor_bytes text.old before.now) }
+        ensures next { result ≡ text.new }
+    {
+        let mut block = [0; 16];
+        block.copy_from_slice(text);
+        add_block(&mut block, before);
+        self.data_key.encrypt_block(&mut block);
+        text.copy_from_slice(&block);
+        block
+    }
+
+    /// Deciphers one block, and gives what it was for the next one.
+    fn decrypt_link(&self, before: &[u8; 16], text: &mut [u8]) -> [u8; 16]
+        requires { length text.old ≡ 16 }
+        ensures deciphers { text.new ≡ xor_bytes (decipher 4 self.now text.old) before.now }
+        ensures next { result ≡ text.old }
+    {
+        let mut raw = [0; 16];
+        raw.copy_from_slice(text);
+        let mut block = raw;
+        self.data_key.decrypt_block(&mut block);
+        add_block(&mut block, before);
+        text.copy_from_slice(&block);
+        raw
+    }
+}
+
+/// Adds a block to a block.
+#[inline(always)]
+fn add_block(block: &mut [u8; 16], other: &[u8; 16])
+    ensures { block.new ≡ xor_bytes block.old other.now }
+{
+    for i in 0..16 {
+        block[i] ^= other[i];
+    }
+}
