@@ -5,3 +5,5 @@ pub mod TableLemmas
 pub mod RoundLemmas
 pub mod ScheduleLemmas
 pub mod BlockLemmas
+pub mod ByteLemmas
+pub mod UndoLemmas
