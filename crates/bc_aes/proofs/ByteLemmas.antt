@@ -11,7 +11,7 @@ use Rattle.bc_aes.specs.State.{circulant, mixed, sub_byte, inv_sub_byte, sub_byt
 use Rattle.bc_aes.specs.KeyExpansion.{word, rot_word, sub_word, xor_word, power_of_x, rcon, added_word, with_word, expanded, key_expansion, rounds, round_key}
 use Rattle.bc_aes.specs.Laws.{IsBytes}
 use Rattle.bc_aes.proofs.FieldLemmas.{times_x_lt, product_lt}
-use Rattle.bc_aes.proofs.TableLemmas.{sub_byte_lt, inv_sub_byte_lt}
+use Rattle.bc_aes.proofs.TableLemmas.{small_at, sub_byte_lt, inv_sub_byte_lt}
 
 -- each element is a byte, and so is what is read past the end
 abbrev pub Small : List ℕ → Type 0
@@ -73,6 +73,14 @@ small_if : (t : Bool) (xs ys : List ℕ) → Small xs → Small ys → Small (if
 small_if true xs ys h k = h
 small_if false xs ys h k = k
 
+-- a list that computes
+pub small_literal : (xs : List ℕ) → list_all (λ v. nat_lt v 256) xs ≡ true → Small xs
+small_literal xs all i =
+    elim (cases_lt i (length xs)) [
+      | inl h ↦ small_at xs i all h
+      | inr h ↦ let past : get_or xs i 0 ≡ 0 = get_or_past xs i 0 h in omega arith
+    ]
+
 -- ---- the transformations
 
 pub small-sub_bytes : (s : List ℕ) → Small s → Small (sub_bytes s)
@@ -95,30 +103,30 @@ mixed_lt : (m : List ℕ) (r x0 x1 x2 x3 : ℕ) → Small m → mixed m r x0 x1 
 unfolding mixed
 mixed_lt m r x0 x1 x2 x3 h =
     xor_lt 8 _ _
-        (xor_lt 8 _ _ (xor_lt 8 _ _ (product_lt (circulant m r 0) x0 (h ((0 + 4 - r) % 4))) (product_lt (circulant m r 1) x1 (h ((1 + 4 - r) % 4))))
-            (product_lt (circulant m r 2) x2 (h ((2 + 4 - r) % 4))))
-        (product_lt (circulant m r 3) x3 (h ((3 + 4 - r) % 4)))
+    (xor_lt 8 _ _ (xor_lt 8 _ _ (product_lt (circulant m r 0) x0 (h ((0 + 4 - r) % 4))) (product_lt (circulant m r 1) x1 (h ((1 + 4 - r) % 4))))
+    (product_lt (circulant m r 2) x2 (h ((2 + 4 - r) % 4))))
+    (product_lt (circulant m r 3) x3 (h ((3 + 4 - r) % 4)))
 
 pub small-mix_columns_by : (m s : List ℕ) → Small m → Small (mix_columns_by m s)
 unfolding mix_columns_by
 small-mix_columns_by m s h =
     small_map (λ i. mixed m (i % 4) (slice_index s (0 + 4 * (i / 4))) (slice_index s (1 + 4 * (i / 4))) (slice_index s (2 + 4 * (i / 4))) (slice_index s (3 + 4 * (i / 4))))
-        (range_with_len 0 16)
-        (λ i. mixed_lt m (i % 4) (slice_index s (0 + 4 * (i / 4))) (slice_index s (1 + 4 * (i / 4))) (slice_index s (2 + 4 * (i / 4))) (slice_index s (3 + 4 * (i / 4))) h)
+    (range_with_len 0 16)
+    (λ i. mixed_lt m (i % 4) (slice_index s (0 + 4 * (i / 4))) (slice_index s (1 + 4 * (i / 4))) (slice_index s (2 + 4 * (i / 4))) (slice_index s (3 + 4 * (i / 4))) h)
 
 pub small-add_round_key : (s k : List ℕ) → Small s → Small k → Small (add_round_key s k)
 unfolding add_round_key
 small-add_round_key s k h g =
     small_map (λ i. bit_xor (slice_index s (i % 4 + 4 * (i / 4))) (slice_index k (i % 4 + 4 * (i / 4)))) (range_with_len 0 16)
-        (λ i. xor_lt 8 _ _ (h (i % 4 + 4 * (i / 4))) (g (i % 4 + 4 * (i / 4))))
+    (λ i. xor_lt 8 _ _ (h (i % 4 + 4 * (i / 4))) (g (i % 4 + 4 * (i / 4))))
 
 -- ---- the schedule
 
 small-xor_word : (v w : List ℕ) → Small v → Small w → Small (xor_word v w)
 small-xor_word v w h k =
     small_four (bit_xor (slice_index v 0) (slice_index w 0)) (bit_xor (slice_index v 1) (slice_index w 1))
-        (bit_xor (slice_index v 2) (slice_index w 2)) (bit_xor (slice_index v 3) (slice_index w 3))
-        (xor_lt 8 _ _ (h 0) (k 0)) (xor_lt 8 _ _ (h 1) (k 1)) (xor_lt 8 _ _ (h 2) (k 2)) (xor_lt 8 _ _ (h 3) (k 3))
+    (bit_xor (slice_index v 2) (slice_index w 2)) (bit_xor (slice_index v 3) (slice_index w 3))
+    (xor_lt 8 _ _ (h 0) (k 0)) (xor_lt 8 _ _ (h 1) (k 1)) (xor_lt 8 _ _ (h 2) (k 2)) (xor_lt 8 _ _ (h 3) (k 3))
 
 power_of_x_lt : (n : ℕ) → power_of_x n < 256
 unfolding power_of_x
@@ -130,10 +138,10 @@ unfolding added_word
 small-added_word nk i w h =
     let turned : Small (rot_word w) = small_four (slice_index w 1) (slice_index w 2) (slice_index w 3) (slice_index w 0) (h 1) (h 2) (h 3) (h 0) in
     let constant : Small (rcon (i / nk)) =
-        small_four (power_of_x (i / nk - 1)) 0 0 0 (power_of_x_lt (i / nk - 1)) (omega arith) (omega arith) (omega arith) in
+    small_four (power_of_x (i / nk - 1)) 0 0 0 (power_of_x_lt (i / nk - 1)) (omega arith) (omega arith) (omega arith) in
     small_if (i % nk == 0) (xor_word (sub_word (rot_word w)) (rcon (i / nk))) (if nk == 8 && i % 8 == 4 then sub_word w else w)
-        (small-xor_word (sub_word (rot_word w)) (rcon (i / nk)) (small_map_small sub_byte (rot_word w) sub_byte_lt turned) constant)
-        (small_if (nk == 8 && i % 8 == 4) (sub_word w) w (small_map_small sub_byte w sub_byte_lt h) h)
+    (small-xor_word (sub_word (rot_word w)) (rcon (i / nk)) (small_map_small sub_byte (rot_word w) sub_byte_lt turned) constant)
+    (small_if (nk == 8 && i % 8 == 4) (sub_word w) w (small_map_small sub_byte w sub_byte_lt h) h)
 
 small-expanded : (nk : ℕ) (key : List ℕ) (n : ℕ) → Small key → Small (expanded nk key n)
 unfolding expanded with_word
@@ -144,8 +152,8 @@ small-expanded nk key (suc n) h =
     let before : ℕ = nk + n - nk in
     let last : ℕ = nk + n - 1 in
     small_append s (xor_word (word s before) (added_word nk (nk + n) (word s last))) so_far
-        (small-xor_word (word s before) (added_word nk (nk + n) (word s last)) (small_range s (4 * before) (4 * before + 4) so_far)
-            (small-added_word nk (nk + n) (word s last) (small_range s (4 * last) (4 * last + 4) so_far)))
+    (small-xor_word (word s before) (added_word nk (nk + n) (word s last)) (small_range s (4 * before) (4 * before + 4) so_far)
+    (small-added_word nk (nk + n) (word s last) (small_range s (4 * last) (4 * last + 4) so_far)))
 
 pub small-round_key : (nk : ℕ) (key : List ℕ) (round : ℕ) → Small key → Small (round_key (key_expansion nk key) round)
 unfolding key_expansion

@@ -7,3 +7,4 @@ pub mod ScheduleLemmas
 pub mod BlockLemmas
 pub mod ByteLemmas
 pub mod UndoLemmas
+pub mod CipherLaws

@@ -10,5 +10,4 @@ pub fn cipher_laws()
     ensures encipherment_undoes { EnciphermentUndoes }
     ensures encipherment_makes_blocks { EnciphermentMakesBlocks }
     ensures decipherment_makes_blocks { DeciphermentMakesBlocks }
-{
-}
+{}
