@@ -5,3 +5,6 @@ pub mod TableLemmas
 pub mod RoundLemmas
 pub mod ScheduleLemmas
 pub mod BlockLemmas
+pub mod ByteLemmas
+pub mod UndoLemmas
+pub mod CipherLaws

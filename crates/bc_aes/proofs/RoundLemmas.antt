@@ -109,7 +109,7 @@ after_round-more schedule block n =
 
 -- ---- the inverse rounds: MixColumns takes sums to sums
 
-mixed-xor : (m : List ℕ) (r x0 x1 x2 x3 k0 k1 k2 k3 : ℕ)
+pub mixed-xor : (m : List ℕ) (r x0 x1 x2 x3 k0 k1 k2 k3 : ℕ)
     → mixed m r (bit_xor x0 k0) (bit_xor x1 k1) (bit_xor x2 k2) (bit_xor x3 k3) ≡ bit_xor (mixed m r x0 x1 x2 x3) (mixed m r k0 k1 k2 k3)
 unfolding mixed
 mixed-xor m r x0 x1 x2 x3 k0 k1 k2 k3 =

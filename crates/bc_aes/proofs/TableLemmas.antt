@@ -102,7 +102,7 @@ rcon_at n h = ap (λ (xs : List ℕ). get_or xs n 0) rcon_is ∙ get_or-map-rang
 
 -- ---- the S-box and its inverse undo each other
 
-small_at : (xs : List ℕ) (i : ℕ) → list_all (λ v. nat_lt v 256) xs ≡ true → i < length xs → get_or xs i 0 < 256
+pub small_at : (xs : List ℕ) (i : ℕ) → list_all (λ v. nat_lt v 256) xs ≡ true → i < length xs → get_or xs i 0 < 256
 small_at xs i all h =
     elim (nat_lt (get_or xs i 0) 256) as (λ t. nat_lt (get_or xs i 0) 256 ≡ t → get_or xs i 0 < 256) [
       | true ↦ λ e. ltb-true (get_or xs i 0) 256 e

@@ -9,9 +9,11 @@ mod aes128;
 mod aes256;
 mod blocks;
 mod columns;
+mod laws;
 mod rounds;
 mod schedule;
 mod tables;
 
 pub use aes128::Aes128;
 pub use aes256::Aes256;
+pub use laws::cipher_laws;
