@@ -14,7 +14,7 @@ use Rattle.bc_modes.specs.ByBlocks.{xor_bytes}
 use Rattle.bc_modes.specs.Tweak.{tweak_at}
 use Rattle.bc_modes.specs.Xts.{between_tweaks, tweak_block, tweaked, tweak_bytes}
 use Rattle.bc_modes.proofs.Doubling.{tweak_at-zero, tweak_at-add}
-use Rattle.bc_modes.proofs.Blocks.{block_is, block-suc, flat_map-blocks, take-zip2, drop-zip2, EachBlock-drop, zip2-nil}
+use Rattle.bc_modes.proofs.Blocks.{block_is, block-suc, flat_map-blocks, take-zip2, drop-zip2, EachBlock-drop, zip2-nil, range_with_len-more}
 
 -- the first n blocks, where t is the first one's tweak
 unfoldable pub along : (List ℕ → List ℕ) → ℕ → ℕ → List ℕ → List ℕ
@@ -78,15 +78,10 @@ tweak_bytes-suc t n =
     ∙ ap₂ (λ (xs ys : List ℕ). xs ++ ys) (ap (to_le_bytes w128) (tweak_at-zero t))
     (ap (λ (f : ℕ → List ℕ). flat_map f (range_with_len 0 n)) (λ i j. to_le_bytes w128 (tweak_at-next t j i)))
 
-range_with_len-more : (a n : ℕ) → range_with_len a (n + 1) ≡ range_with_len a n ++ (a + n) ∷ []
-range_with_len-more a n =
-    sym (map-id (range_with_len a (n + 1))) ∙ map-range_with_len_more (λ (j : ℕ). j) a n (a + n) refl
-    ∙ ap (λ xs. xs ++ (a + n) ∷ []) (map-id (range_with_len a n))
-
 -- one tweak more
 tweak_bytes-more : (t n : ℕ) → tweak_bytes t (n + 1) ≡ tweak_bytes t n ++ tweak_block t n
 tweak_bytes-more t n =
-    ap (flat_map (tweak_block t)) (range_with_len-more 0 n ∙ ap (λ j. range_with_len 0 n ++ j ∷ []) (zero-add n))
+    ap (flat_map (tweak_block t)) (range_with_len-more n)
     ∙ sym (flat_map_more (tweak_block t) [] (range_with_len 0 n) n)
 
 -- a loop that writes tweak after tweak: one more

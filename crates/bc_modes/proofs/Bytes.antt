@@ -17,7 +17,7 @@ AreBytes bytes = All (λ b. b < 256) bytes
 pub IsBytes-take : (n : ℕ) (bytes : List ℕ) → n ≤ length bytes → AreBytes bytes → IsBytes n (take n bytes)
 IsBytes-take n bytes h are =
     let l = length-take-le n bytes h in record {
-      length_is = l;
+      size_is = l;
       bytes_are = λ k d lt. subst (λ b. b < 256) (sym (get_or-take n bytes k d (omega arith))) (are k d (omega arith));
     }
 
@@ -27,11 +27,11 @@ AreBytes-drop n bytes are =
 
 pub IsBytes-xor : (n : ℕ) (xs ys : List ℕ) → IsBytes n xs → IsBytes n ys → IsBytes n (xor_bytes xs ys)
 IsBytes-xor n xs ys x y =
-    let l : length (xor_bytes xs ys) ≡ length xs = length-zip2 bit_xor xs ys (x.length_is ∙ sym y.length_is) in record {
-      length_is = l ∙ x.length_is;
+    let l : length (xor_bytes xs ys) ≡ length xs = length-zip2 bit_xor xs ys (x.size_is ∙ sym y.size_is) in record {
+      size_is = l ∙ x.size_is;
       bytes_are = All-from_get_or (λ b. b < 256) (xor_bytes xs ys) 0 (λ k lt.
         let in_x : k < length xs = omega arith in
-        let in_y : k < length ys = omega (arith, x.length_is, y.length_is) in
+        let in_y : k < length ys = omega (arith, x.size_is, y.size_is) in
         subst (λ b. b < 256) (sym (get_or-zip2 bit_xor xs ys k 0 0 0 in_x in_y))
           (xor_of_8 (get_or xs k 0) (get_or ys k 0) (x.bytes_are k 0 in_x) (y.bytes_are k 0 in_y)));
     }
@@ -46,7 +46,7 @@ AreBytes-low_first i (suc k) n = All-cons (λ b. b < 256) (byte_at i n) (bytes_l
 
 -- a number's sixteen bytes are bytes
 pub IsBytes-le_bytes : (n : ℕ) → IsBytes 16 (to_le_bytes w128 n)
-IsBytes-le_bytes n = record { length_is = refl; bytes_are = AreBytes-low_first 0 16 n }
+IsBytes-le_bytes n = record { size_is = refl; bytes_are = AreBytes-low_first 0 16 n }
 
 -- a sum taken twice is gone
 pub xor_bytes-twice : (xs ys : List ℕ) → length xs ≤ length ys → xor_bytes (xor_bytes xs ys) ys ≡ xs

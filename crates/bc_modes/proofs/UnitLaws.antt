@@ -8,7 +8,7 @@ use Rattle.bc_key.specs.declared.config.Mode.{Mode}
 use Rattle.bc_key.specs.declared.config.Mode.TheVariants.{Aes256Xts, Aes128CbcEssiv}
 use Rattle.bc_aes.specs.Cipher.{encipher, decipher}
 use Rattle.bc_aes.specs.Blocks.{block}
-use Rattle.bc_aes.specs.Laws.{IsBytes, Deciphers}
+use Rattle.bc_aes.specs.Laws.{IsBytes, DeciphermentUndoes}
 use Rattle.bc_modes.specs.ByBlocks.{by_blocks, xor_bytes}
 use Rattle.bc_modes.specs.Tweak.{tweak_at}
 use Rattle.bc_modes.specs.Xts.{between_tweaks, tweak_block, tweaked, first_tweak, xts_encipher, xts_decipher}
@@ -88,9 +88,9 @@ between-undone : (cipher inverse : List ℕ → List ℕ) → Undoes cipher inve
     → between_tweaks inverse t (between_tweaks cipher t b) ≡ b
 between-undone cipher inverse u t b is_t is_b =
     let inner : List ℕ = xor_bytes b t in
-    ap (λ x. xor_bytes (inverse x) t) (xor_bytes-twice (cipher inner) t (omega (arith, u.gives inner, is_t.length_is)))
+    ap (λ x. xor_bytes (inverse x) t) (xor_bytes-twice (cipher inner) t (omega (arith, u.gives inner, is_t.size_is)))
     ∙ ap (λ x. xor_bytes x t) (u.undoes inner (IsBytes-xor 16 b t is_b is_t))
-    ∙ xor_bytes-twice b t (omega (arith, is_b.length_is, is_t.length_is))
+    ∙ xor_bytes-twice b t (omega (arith, is_b.size_is, is_t.size_is))
 
 length-between : (cipher : List ℕ → List ℕ) (t : ℕ) (b : List ℕ) → ((b : List ℕ) → length (cipher b) ≡ 16)
     → length (between_tweaks cipher (to_le_bytes w128 t) b) ≡ 16
@@ -122,12 +122,12 @@ tweaked-undone cipher inverse u t text whole are =
     tweaked_is inverse n t (tweaked cipher t text) (length-tweaked cipher t text whole u.gives ∙ size)
     ∙ ap (along inverse t n) (tweaked_is cipher n t text size) ∙ along-undone cipher inverse u n t text size are
 
-pub xts-undone : Deciphers 8 → (raw : List ℕ) (number : ℕ) (text : List ℕ) → length raw ≡ 64 → AreBytes raw → length text % 16 ≡ 0
+pub xts-undone : DeciphermentUndoes → (raw : List ℕ) (number : ℕ) (text : List ℕ) → length raw ≡ 64 → AreBytes raw → length text % 16 ≡ 0
     → AreBytes text → xts_decipher raw number (xts_encipher raw number text) ≡ text
 unfolding xts_encipher xts_decipher
 xts-undone law raw number text l are_raw whole are =
     let key : List ℕ = take 32 raw in
     let is_key = IsBytes-take 32 raw (omega arith) are_raw in
     tweaked-undone (encipher 8 key) (decipher 8 key)
-      (record { gives = length-encipher 8 key; undoes = λ b is_b. law key b is_key is_b })
+      (record { gives = length-encipher 8 key; undoes = λ b is_b. law 8 key b is_key is_b })
       (first_tweak raw number) text whole are

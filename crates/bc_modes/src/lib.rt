@@ -6,8 +6,10 @@
 #![tactic(auto)]
 
 mod essiv;
+mod laws;
 mod tweak;
 mod unit_cipher;
 mod xts;
 
+pub use laws::unit_laws;
 pub use unit_cipher::UnitCipher;

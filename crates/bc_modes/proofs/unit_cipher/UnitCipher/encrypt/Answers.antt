@@ -1,11 +1,27 @@
-use Rattle.std.proofs.Common.{◌∙◌, ap}
+use Rattle.std.proofs.Common.{◌∙◌, sym, ap}
+use Rattle.bc_modes.specs.declared.unit_cipher.Schedules.{Schedules}
+use Rattle.bc_modes.specs.Schedules.{mode_of, raw_of}
 use Rattle.bc_modes.specs.UnitCipher.{CipherParts, encipher_unit}
 use Rattle.bc_modes.proofs.unit_cipher.UnitCipher.encrypt.Goals as goal
 
-pub returns : goal.returns
+pub returns-in-Xts : goal.returns-in-Xts
 unfolding encipher_unit
-returns c = record {
-  enciphers =
-    c.encrypt.ensures
-    ∙ ap (λ (parts : CipherParts). encipher_unit parts.mode parts.raw c.args.dun.now c.args.text.now) c.self.view_is;
-}
+returns-in-Xts c =
+    let dun = c.args.dun.now in
+    let text = c.args.text.now in
+    record {
+      enciphers =
+        c.encrypt.ensures ∙ ap (λ (s : Schedules). encipher_unit (mode_of s) (raw_of s) dun text) (sym c.in-Xts.is)
+        ∙ ap (λ (parts : CipherParts). encipher_unit parts.mode parts.raw dun text) c.self.view_is;
+    }
+
+pub returns-in-Essiv : goal.returns-in-Essiv
+unfolding encipher_unit
+returns-in-Essiv c =
+    let dun = c.args.dun.now in
+    let text = c.args.text.now in
+    record {
+      enciphers =
+        c.encrypt-in-Essiv.ensures ∙ ap (λ (s : Schedules). encipher_unit (mode_of s) (raw_of s) dun text) (sym c.in-Essiv.is)
+        ∙ ap (λ (parts : CipherParts). encipher_unit parts.mode parts.raw dun text) c.self.view_is;
+    }
