@@ -36,7 +36,7 @@ IsBytes-xor n xs ys x y =
           (xor_of_8 (get_or xs k 0) (get_or ys k 0) (x.bytes_are k 0 in_x) (y.bytes_are k 0 in_y)));
     }
 
-byte_at-lt : (i n : ℕ) → byte_at i n < 256
+pub byte_at-lt : (i n : ℕ) → byte_at i n < 256
 byte_at-lt zero n = mod_below n 256 (omega arith)
 byte_at-lt (suc i) n = mod_below (n / 256 ^ suc i) 256 (omega arith)
 

@@ -6,3 +6,4 @@ pub mod Links
 pub mod Bytes
 pub mod CipherLengths
 pub mod UnitLaws
+pub mod EssivLaws

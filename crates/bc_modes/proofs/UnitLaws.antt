@@ -29,7 +29,7 @@ length-blocks (suc n) at h =
     let first = h 0 (omega arith) in
     ap length (flat_map-blocks at n) ∙ length-append (at 0) (flat_map (λ j. at (suc j)) (range_with_len 0 n)) ∙ omega arith
 
-length-by_blocks : (text : List ℕ) (at : ℕ → List ℕ) → length text % 16 ≡ 0 → ((j : ℕ) → j < length text / 16 → length (at j) ≡ 16)
+pub length-by_blocks : (text : List ℕ) (at : ℕ → List ℕ) → length text % 16 ≡ 0 → ((j : ℕ) → j < length text / 16 → length (at j) ≡ 16)
     → length (by_blocks text at) ≡ length text
 length-by_blocks text at whole h = length-blocks (length text / 16) at h ∙ omega arith
 
@@ -47,7 +47,7 @@ length-tweaked cipher first text whole gives =
     length-by_blocks text (λ j. between_tweaks cipher (tweak_block first j) (block text j)) whole
       (λ j h. length-xor (cipher (xor_bytes (block text j) (tweak_block first j))) (tweak_block first j) (gives _) refl)
 
-length-chained : (key start text : List ℕ) (j : ℕ) → length (chained key start text j) ≡ 16
+pub length-chained : (key start text : List ℕ) (j : ℕ) → length (chained key start text j) ≡ 16
 unfolding chained
 length-chained key start text zero = length-encipher 4 key _
 length-chained key start text (suc j) = length-encipher 4 key _

@@ -8,6 +8,7 @@ use bc_key::Mode;
 /// from this call.
 pub fn unit_laws()
     ensures xts { DecipheringUndoes Mode.Aes256Xts }
+    ensures essiv { DecipheringUndoes Mode.Aes128CbcEssiv }
 {
     cipher_laws();
 }
