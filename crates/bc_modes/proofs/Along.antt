@@ -1,12 +1,10 @@
 -- XTS block after block, each tweak made of the one before it.
-use Rattle.std.proofs.Common.{◌≡◌, ℕ, zero, suc, ◌+◌, ◌-◌, ◌*◌, ◌/◌, ◌<◌, ◌≤◌, List, [], ◌∷◌, ◌++◌, length, take, drop, refl, sym, ap, ap₂, ◌∙◌, arith, bit_xor, one-add, zero-add}
+use Rattle.std.proofs.Common.{◌≡◌, ℕ, zero, suc, ◌+◌, ◌-◌, ◌*◌, ◌/◌, ◌<◌, ◌≤◌, List, [], ◌++◌, length, take, drop, refl, sym, ap, ap₂, ◌∙◌, arith, bit_xor, one-add, zero-add}
 use Rattle.std.proofs.Math.Nat.{suc-add}
 use Rattle.std.specs.Int.{w128, to_le_bytes}
 use Rattle.std.specs.List.{flat_map, range_with_len}
-use Rattle.std.specs.Simd.Lanes.{zip2}
 use Rattle.std.proofs.lemmas.List.{drop-drop, length-drop, append_assoc, take-append-drop, take_at, drop_at, take-take, drop-take}
-use Rattle.std.proofs.lemmas.List.{map-id, flat_map_more}
-use Rattle.std.proofs.lemmas.List.FromFn.{map-range_with_len_more}
+use Rattle.std.proofs.lemmas.List.{flat_map_more}
 use Rattle.std.proofs.lemmas.Slice.{take-put_mid}
 use borrow.Rule.Slice.PartMut.{put_mid}
 use Rattle.bc_aes.specs.Blocks.{block, EachBlock}
@@ -14,7 +12,7 @@ use Rattle.bc_modes.specs.ByBlocks.{xor_bytes}
 use Rattle.bc_modes.specs.Tweak.{tweak_at}
 use Rattle.bc_modes.specs.Xts.{between_tweaks, tweak_block, tweaked, tweak_bytes}
 use Rattle.bc_modes.proofs.Doubling.{tweak_at-zero, tweak_at-add}
-use Rattle.bc_modes.proofs.Blocks.{block_is, block-suc, flat_map-blocks, take-zip2, drop-zip2, EachBlock-drop, zip2-nil, range_with_len-more}
+use Rattle.bc_modes.proofs.Blocks.{block-suc, flat_map-blocks, take-zip2, drop-zip2, EachBlock-drop, zip2-nil, range_with_len-more}
 
 -- the first n blocks, where t is the first one's tweak
 unfoldable pub along : (List ℕ → List ℕ) → ℕ → ℕ → List ℕ → List ℕ

@@ -1,5 +1,5 @@
 -- Lists of bytes, and sums of blocks: a sum taken twice is gone.
-use Rattle.std.proofs.Common.{◌≡◌, ℕ, zero, suc, ◌+◌, ◌%◌, ◌/◌, ◌^◌, ◌<◌, ◌≤◌, List, [], ◌∷◌, length, take, drop, get_or, refl, sym, ap, ap₂, ◌∙◌, subst, arith, bit_xor}
+use Rattle.std.proofs.Common.{◌≡◌, ℕ, zero, suc, ◌+◌, ◌/◌, ◌^◌, ◌<◌, ◌≤◌, List, [], ◌∷◌, length, take, drop, get_or, refl, sym, ap, ap₂, ◌∙◌, subst, arith, bit_xor}
 use Rattle.std.specs.List.{All}
 use Rattle.std.specs.Int.{w128, to_le_bytes, byte_at, bytes_low_first}
 use Rattle.std.specs.Int.Bits.{xor_assoc, xor_self, xor_zero_r}
@@ -30,9 +30,9 @@ IsBytes-xor n xs ys x y =
     let l : length (xor_bytes xs ys) ≡ length xs = length-zip2 bit_xor xs ys (x.size_is ∙ sym y.size_is) in record {
       size_is = l ∙ x.size_is;
       bytes_are = All-from_get_or (λ b. b < 256) (xor_bytes xs ys) 0 (λ k lt.
-        let in_x : k < length xs = omega arith in
-        let in_y : k < length ys = omega (arith, x.size_is, y.size_is) in
-        subst (λ b. b < 256) (sym (get_or-zip2 bit_xor xs ys k 0 0 0 in_x in_y))
+          let in_x : k < length xs = omega arith in
+          let in_y : k < length ys = omega (arith, x.size_is, y.size_is) in
+          subst (λ b. b < 256) (sym (get_or-zip2 bit_xor xs ys k 0 0 0 in_x in_y))
           (xor_of_8 (get_or xs k 0) (get_or ys k 0) (x.bytes_are k 0 in_x) (y.bytes_are k 0 in_y)));
     }
 
@@ -54,4 +54,4 @@ xor_bytes-twice [] ys h = refl
 xor_bytes-twice (x ∷ xs) [] h = absurd (omega arith)
 xor_bytes-twice (x ∷ xs) (y ∷ ys) h =
     ap₂ (λ (b : ℕ) (bs : List ℕ). b ∷ bs)
-      (xor_assoc x y y ∙ ap (bit_xor x) (xor_self y) ∙ xor_zero_r x) (xor_bytes-twice xs ys (omega arith))
+    (xor_assoc x y y ∙ ap (bit_xor x) (xor_self y) ∙ xor_zero_r x) (xor_bytes-twice xs ys (omega arith))

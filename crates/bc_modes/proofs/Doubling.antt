@@ -1,10 +1,10 @@
 -- Tweaks one after the other: each is the one before it, times x.
-use Rattle.std.proofs.Common.{◌≡◌, ℕ, zero, suc, ◌+◌, ◌-◌, ◌*◌, ◌/◌, ◌%◌, ◌^◌, ◌<◌, ◌≤◌, ◌==◌, if◌then◌else◌, Bool, true, false, cond, eqb, refl, sym, ap, ap₂, ◌∙◌, subst, arith, bit_xor, add-zero}
+use Rattle.std.proofs.Common.{◌≡◌, ℕ, zero, suc, ◌+◌, ◌*◌, ◌/◌, ◌%◌, ◌^◌, ◌<◌, ◌==◌, if◌then◌else◌, Bool, true, false, cond, refl, sym, ap, ap₂, ◌∙◌, subst, arith, bit_xor, add-zero}
 use Rattle.std.proofs.Math.Nat.{pow-suc, mul_assoc, add-suc}
-use Rattle.std.proofs.lemmas.Nat.{pow-add, pow_pos, xor_lt, xor_block, shr_below, shr_split, mod_below}
+use Rattle.std.proofs.lemmas.Nat.{pow-add, pow_pos, xor_block, shr_below, shr_split, mod_below}
 use Rattle.std.specs.Int.Bits.{xor_zero_r}
 use Rattle.std.proofs.Math.Numerals.{one-add}
-use Rattle.std.proofs.lemmas.Nat.Bits.{bit_at-suc, bit_at-lt}
+use Rattle.std.proofs.lemmas.Nat.Bits.{bit_at-suc}
 use Rattle.std.specs.Int.{bit_at}
 use Rattle.bc_modes.specs.Tweak.{modulus, remainder, tweak_at}
 

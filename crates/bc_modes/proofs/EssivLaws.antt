@@ -1,12 +1,12 @@
 -- In CBC-ESSIV deciphering undoes enciphering.
-use Rattle.std.proofs.Common.{◌≡◌, ℕ, zero, suc, ◌+◌, ◌-◌, ◌*◌, ◌/◌, ◌%◌, ◌<◌, ◌≤◌, ◌^◌, List, [], ◌∷◌, ◌++◌, length, take, drop, refl, sym, ap, ap₂, ◌∙◌, subst, arith, bit_xor, slice_index}
+use Rattle.std.proofs.Common.{◌≡◌, ℕ, zero, suc, ◌+◌, ◌*◌, ◌/◌, ◌%◌, ◌<◌, ◌≤◌, ◌^◌, List, [], ◌∷◌, ◌++◌, length, drop, refl, sym, ap, ap₂, ◌∙◌, subst, arith, slice_index}
 use Rattle.std.specs.List.{flat_map, range_with_len}
-use Rattle.std.specs.Int.{w32, w128, to_be_bytes, to_le_bytes, bytes_high_first}
+use Rattle.std.specs.Int.{w32, to_be_bytes, bytes_high_first}
 use Rattle.std.proofs.lemmas.List.{length-drop, take-append-drop, take_at, drop_at}
 use Rattle.std.proofs.lemmas.List.Elements.{All-nil, All-cons, All-head, All-tail}
 use Rattle.sha2.specs.Sha256.{sha256, digest_bytes}
 use Rattle.sha2.proofs.Facts256.{length-sha256}
-use Rattle.bc_aes.specs.Cipher.{encipher, decipher}
+use Rattle.bc_aes.specs.Cipher.{decipher}
 use Rattle.bc_aes.specs.Blocks.{block}
 use Rattle.bc_aes.specs.Laws.{IsBytes, DeciphermentUndoes, EnciphermentMakesBlocks}
 use Rattle.bc_key.specs.DataUnitNumber.{iv_of}
@@ -37,7 +37,7 @@ joined-blocks at zero (x ∷ xs) l same = absurd (omega arith)
 joined-blocks at (suc n) text l same =
     flat_map-blocks at n
     ∙ ap₂ (λ (xs ys : List ℕ). xs ++ ys) (same 0 (omega arith) ∙ block_is text 0)
-        (joined-blocks (λ j. at (suc j)) n (drop 16 text) (omega (arith, length-drop 16 text)) (λ j h. same (suc j) (omega arith) ∙ block-suc text j))
+    (joined-blocks (λ j. at (suc j)) n (drop 16 text) (omega (arith, length-drop 16 text)) (λ j h. same (suc j) (omega arith) ∙ block-suc text j))
     ∙ take-append-drop 16 text
 
 -- ---- bytes
@@ -69,7 +69,7 @@ module _ (undoes : DeciphermentUndoes) (makes : EnciphermentMakesBlocks) (key : 
   IsBytes-block : (text : List ℕ) (j : ℕ) → AreBytes text → 16 * j + 16 ≤ length text → IsBytes 16 (block text j)
   IsBytes-block text j are room =
       subst (IsBytes 16) (sym (block_is text j))
-        (IsBytes-take 16 (drop (16 * j) text) (omega (arith, length-drop (16 * j) text)) (AreBytes-drop (16 * j) text are))
+      (IsBytes-take 16 (drop (16 * j) text) (omega (arith, length-drop (16 * j) text)) (AreBytes-drop (16 * j) text are))
 
   IsBytes-chained : (start text : List ℕ) (j : ℕ) → IsBytes 16 start → AreBytes text → 16 * j + 16 ≤ length text → IsBytes 16 (chained key start text j)
   unfolding chained
@@ -77,8 +77,8 @@ module _ (undoes : DeciphermentUndoes) (makes : EnciphermentMakesBlocks) (key : 
       makes 4 key _ is_key (IsBytes-xor 16 (block text 0) start (IsBytes-block text 0 are room) is_start)
   IsBytes-chained start text (suc j) is_start are room =
       makes 4 key _ is_key
-        (IsBytes-xor 16 (block text (suc j)) (chained key start text j) (IsBytes-block text (suc j) are room)
-          (IsBytes-chained start text j is_start are (omega arith)))
+      (IsBytes-xor 16 (block text (suc j)) (chained key start text j) (IsBytes-block text (suc j) are room)
+      (IsBytes-chained start text j is_start are (omega arith)))
 
   IsBytes-chain : (start text : List ℕ) (j : ℕ) → IsBytes 16 start → AreBytes text → 16 * j + 16 ≤ length text → IsBytes 16 (chain key start text j)
   IsBytes-chain start text zero is_start are room = is_start
@@ -104,7 +104,7 @@ module _ (undoes : DeciphermentUndoes) (makes : EnciphermentMakesBlocks) (key : 
       let is_before = IsBytes-chain start text j is_start are room in
       let is_block = IsBytes-block text j are room in
       ap₂ (λ (xs ys : List ℕ). xor_bytes (decipher 4 key xs) ys)
-        (block-raw start text j h ∙ sym (chained_is key start text j)) (link-raw start text j h)
+      (block-raw start text j h ∙ sym (chained_is key start text j)) (link-raw start text j h)
       ∙ ap (λ xs. xor_bytes xs before) (undoes 4 key (xor_bytes (block text j) before) is_key (IsBytes-xor 16 (block text j) before is_block is_before))
       ∙ xor_bytes-twice (block text j) before (omega (arith, is_block.size_is, is_before.size_is))
 
@@ -116,6 +116,6 @@ module _ (undoes : DeciphermentUndoes) (makes : EnciphermentMakesBlocks) (key : 
       let all : List ℕ = raw start text in
       let at : ℕ → List ℕ = λ j. xor_bytes (decipher 4 key (block all j)) (link start all j) in
       let count : length all / 16 ≡ length text / 16 =
-          ap (λ n. n / 16) (length-by_blocks text (chained key start text) whole (λ j h. length-chained key start text j)) in
+      ap (λ n. n / 16) (length-by_blocks text (chained key start text) whole (λ j h. length-chained key start text j)) in
       ap (λ n. flat_map at (range_with_len 0 n)) count
       ∙ joined-blocks at (length text / 16) text (omega arith) (λ j h. block-undone start text j (IsBytes-essiv number) are h)

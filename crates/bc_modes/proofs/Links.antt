@@ -1,5 +1,5 @@
 -- A loop over blocks: those before are done, the others are what they were. And the chain of CBC, one block more.
-use Rattle.std.proofs.Common.{◌≡◌, ℕ, zero, suc, ◌+◌, ◌-◌, ◌*◌, ◌/◌, ◌<◌, ◌≤◌, List, [], ◌∷◌, ◌++◌, length, take, drop, refl, sym, ap, ap₂, ◌∙◌, arith, add-one}
+use Rattle.std.proofs.Common.{◌≡◌, ℕ, zero, suc, ◌+◌, ◌-◌, ◌*◌, ◌/◌, ◌≤◌, List, [], ◌++◌, length, take, drop, refl, sym, ap, ap₂, ◌∙◌, arith, add-one}
 use Rattle.std.specs.List.{flat_map, range_with_len}
 use Rattle.std.proofs.lemmas.List.{drop-drop, take_all, flat_map_more}
 use Rattle.std.proofs.lemmas.Slice.{take-put_mid, drop-put_mid}
@@ -30,13 +30,13 @@ block_more at n was text part room l m after e =
     let end : 16 * n + 16 ≡ 16 * (n + 1) = omega arith in
     record {
       done =
-        take-put_mid (16 * n) (16 * n + 16 - 16 * n) text part (16 * (n + 1)) (omega arith) (omega arith)
-        ∙ ap₂ (λ (xs ys : List ℕ). xs ++ ys) after.done e
-        ∙ flat_map_more at [] (range_with_len 0 n) n ∙ ap (flat_map at) (sym (range_with_len-more n));
+          take-put_mid (16 * n) (16 * n + 16 - 16 * n) text part (16 * (n + 1)) (omega arith) (omega arith)
+          ∙ ap₂ (λ (xs ys : List ℕ). xs ++ ys) after.done e
+          ∙ flat_map_more at [] (range_with_len 0 n) n ∙ ap (flat_map at) (sym (range_with_len-more n));
       left =
-        drop-put_mid (16 * n) (16 * n + 16 - 16 * n) text part (16 * (n + 1)) (omega arith) (omega arith) (omega arith)
-        ∙ ap (λ k. drop k text) (sym end) ∙ sym (drop-drop 16 (16 * n) text) ∙ ap (drop 16) after.left
-        ∙ drop-drop 16 (16 * n) was ∙ ap (λ k. drop k was) end;
+          drop-put_mid (16 * n) (16 * n + 16 - 16 * n) text part (16 * (n + 1)) (omega arith) (omega arith) (omega arith)
+          ∙ ap (λ k. drop k text) (sym end) ∙ sym (drop-drop 16 (16 * n) text) ∙ ap (drop 16) after.left
+          ∙ drop-drop 16 (16 * n) was ∙ ap (λ k. drop k was) end;
     }
 
 -- after the last block the whole text is done

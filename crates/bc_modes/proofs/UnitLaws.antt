@@ -1,8 +1,8 @@
 -- Laws of the unit ciphers: lengths stay, and deciphering undoes enciphering.
-use Rattle.std.proofs.Common.{◌≡◌, ℕ, zero, suc, ◌+◌, ◌*◌, ◌/◌, ◌%◌, ◌<◌, ◌≤◌, List, [], ◌∷◌, ◌++◌, length, take, drop, refl, sym, ap, ap₂, ◌∙◌, arith, bit_xor}
+use Rattle.std.proofs.Common.{◌≡◌, ℕ, zero, suc, ◌*◌, ◌/◌, ◌%◌, ◌<◌, List, [], ◌∷◌, ◌++◌, length, take, drop, refl, sym, ap, ap₂, ◌∙◌, arith, bit_xor}
 use Rattle.std.specs.List.{flat_map, range_with_len}
 use Rattle.std.specs.Int.{w128, to_le_bytes}
-use Rattle.std.proofs.lemmas.List.{length-append, length-drop, length-take-le, take-append-drop, take_at, drop_at, drop_all}
+use Rattle.std.proofs.lemmas.List.{length-append, length-drop, length-take-le, take-append-drop, take_at, drop_at}
 use Rattle.std.proofs.lemmas.Simd.{length-zip2}
 use Rattle.bc_key.specs.declared.config.Mode.{Mode}
 use Rattle.bc_key.specs.declared.config.Mode.TheVariants.{Aes256Xts, Aes128CbcEssiv}
@@ -45,7 +45,7 @@ length-tweaked : (cipher : List ℕ → List ℕ) (first : ℕ) (text : List ℕ
 unfolding tweaked
 length-tweaked cipher first text whole gives =
     length-by_blocks text (λ j. between_tweaks cipher (tweak_block first j) (block text j)) whole
-      (λ j h. length-xor (cipher (xor_bytes (block text j) (tweak_block first j))) (tweak_block first j) (gives _) refl)
+    (λ j h. length-xor (cipher (xor_bytes (block text j) (tweak_block first j))) (tweak_block first j) (gives _) refl)
 
 pub length-chained : (key start text : List ℕ) (j : ℕ) → length (chained key start text j) ≡ 16
 unfolding chained
@@ -73,8 +73,8 @@ length-decipher_unit Aes256Xts raw number text whole =
     length-tweaked (decipher 8 (take 32 raw)) (first_tweak raw number) text whole (length-decipher 8 (take 32 raw))
 length-decipher_unit Aes128CbcEssiv raw number text whole =
     length-by_blocks text (λ j. xor_bytes (decipher 4 raw (block text j)) (link (essiv raw number) text j)) whole
-      (λ j h. length-xor (decipher 4 raw (block text j)) (link (essiv raw number) text j) (length-decipher 4 raw (block text j))
-        (length-link (essiv raw number) text j (length-encipher 8 _ _) h))
+    (λ j h. length-xor (decipher 4 raw (block text j)) (link (essiv raw number) text j) (length-decipher 4 raw (block text j))
+    (length-link (essiv raw number) text j (length-encipher 8 _ _) h))
 
 -- ---- deciphering undoes enciphering, in XTS
 
@@ -108,10 +108,10 @@ along-undone cipher inverse u (suc n) t text l are =
     let rest : List ℕ = along cipher (tweak_at t 1) n (drop 16 text) in
     let long = length-between cipher t (take 16 text) u.gives in
     ap₂ (λ (xs ys : List ℕ). between_tweaks inverse tweak xs ++ along inverse (tweak_at t 1) n ys)
-      (take_at first rest 16 long) (drop_at first rest 16 long)
+    (take_at first rest 16 long) (drop_at first rest 16 long)
     ∙ ap₂ (λ (xs ys : List ℕ). xs ++ ys)
-        (between-undone cipher inverse u tweak (take 16 text) (IsBytes-le_bytes t) (IsBytes-take 16 text (omega arith) are))
-        (along-undone cipher inverse u n (tweak_at t 1) (drop 16 text) (omega (arith, length-drop 16 text)) (AreBytes-drop 16 text are))
+    (between-undone cipher inverse u tweak (take 16 text) (IsBytes-le_bytes t) (IsBytes-take 16 text (omega arith) are))
+    (along-undone cipher inverse u n (tweak_at t 1) (drop 16 text) (omega (arith, length-drop 16 text)) (AreBytes-drop 16 text are))
     ∙ take-append-drop 16 text
 
 tweaked-undone : (cipher inverse : List ℕ → List ℕ) → Undoes cipher inverse → (t : ℕ) (text : List ℕ) → length text % 16 ≡ 0 → AreBytes text
@@ -129,5 +129,5 @@ xts-undone law raw number text l are_raw whole are =
     let key : List ℕ = take 32 raw in
     let is_key = IsBytes-take 32 raw (omega arith) are_raw in
     tweaked-undone (encipher 8 key) (decipher 8 key)
-      (record { gives = length-encipher 8 key; undoes = λ b is_b. law 8 key b is_key is_b })
-      (first_tweak raw number) text whole are
+    (record { gives = length-encipher 8 key; undoes = λ b is_b. law 8 key b is_key is_b })
+    (first_tweak raw number) text whole are

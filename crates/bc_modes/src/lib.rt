@@ -7,6 +7,8 @@
 
 mod essiv;
 mod laws;
+#[cfg(test)]
+mod tests;
 mod tweak;
 mod unit_cipher;
 mod xts;

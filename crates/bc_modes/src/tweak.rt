@@ -15,7 +15,7 @@ const BLOCKS: usize = 8;
 /// The next block's tweak: this one times x, where x^128 is x^7 + x^2 + x + 1 (IEEE 1619, 5.2).
 #[inline(always)]
 #[tactic(auto, using(crate::proofs::Doubling::next_is))]
-fn next_tweak(tweak: u128) -> u128
+pub(crate) fn next_tweak(tweak: u128) -> u128
     ensures { result ≡ tweak_at tweak 1 }
 {
     (tweak << 1) ^ ((tweak >> 127) * 0x87)

@@ -1,4 +1,4 @@
-use Rattle.std.proofs.Common.{◌≡◌, ℕ, ◌<◌, ◌≤◌, length, bit_xor, sym, ◌∙◌, arith}
+use Rattle.std.proofs.Common.{◌≡◌, length, bit_xor, sym, ◌∙◌, arith}
 use Rattle.std.proofs.lemmas.List.{ext_get_or}
 use Rattle.std.proofs.lemmas.Simd.{get_or-zip2, length-zip2}
 use Rattle.bc_modes.proofs.tweak.add_tweaks.Goals as goal

@@ -1,4 +1,4 @@
-use Rattle.std.proofs.Common.{◌≡◌, ◌+◌, ◌*◌, ◌∙◌, take, sym, ap, refl, arith, rules}
+use Rattle.std.proofs.Common.{◌≡◌, ◌*◌, ◌∙◌, take, sym, ap, refl, arith, rules}
 use Rattle.std.proofs.lemmas.List.{places, take_all}
 use Rattle.std.specs.Int.{w128, to_le_bytes}
 use Rattle.bc_modes.specs.Tweak.{tweak_at}

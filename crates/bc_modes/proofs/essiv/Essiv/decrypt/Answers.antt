@@ -1,4 +1,4 @@
-use Rattle.std.proofs.Common.{◌≡◌, ◌∙◌, sym, ap, ap₂, List, ℕ, arith}
+use Rattle.std.proofs.Common.{◌∙◌, sym, ap₂, List, ℕ, arith}
 use Rattle.bc_aes.specs.Cipher.{decipher}
 use Rattle.bc_aes.specs.Blocks.{block}
 use Rattle.bc_modes.specs.ByBlocks.{xor_bytes}
@@ -32,4 +32,4 @@ returns c =
     let start = essiv key c.args.dun.now in
     let was = c.args.text.now in
     all_blocks (λ j. xor_bytes (decipher 4 key (block was j)) (link start was j)) c.loop-block.block was c.loop-block.text
-      (omega arith) (omega arith) c.loop-block.invariant.blocks
+    (omega arith) (omega arith) c.loop-block.invariant.blocks

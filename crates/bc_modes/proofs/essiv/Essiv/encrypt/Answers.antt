@@ -1,4 +1,4 @@
-use Rattle.std.proofs.Common.{◌≡◌, ◌∙◌, sym, ap, ap₂, List, ℕ, arith}
+use Rattle.std.proofs.Common.{◌∙◌, sym, ap₂, List, ℕ, arith}
 use Rattle.bc_aes.specs.Cipher.{encipher}
 use Rattle.bc_modes.specs.ByBlocks.{xor_bytes}
 use Rattle.bc_modes.specs.CbcEssiv.{chained, essiv, essiv_encipher}
@@ -17,8 +17,8 @@ loop-block-preserved c =
     let invariant = c.loop-block.invariant in
     let link = c.encrypt_link-before in
     let enciphered = link.ensures.enciphers
-        ∙ ap₂ (λ (xs ys : List ℕ). encipher 4 key (xor_bytes xs ys)) (next_block _ n was c.loop-block.text invariant.blocks) invariant.next
-        ∙ chained_is key start was n in
+    ∙ ap₂ (λ (xs ys : List ℕ). encipher 4 key (xor_bytes xs ys)) (next_block _ n was c.loop-block.text invariant.blocks) invariant.next
+    ∙ chained_is key start was n in
     record {
       blocks = block_more (chained key start was) n was c.loop-block.text link.new.text (omega arith) (omega arith) (omega arith) invariant.blocks enciphered;
       next = link.ensures.next ∙ enciphered ∙ sym (chain-more key start was n);
@@ -29,4 +29,4 @@ unfolding essiv_encipher
 returns c =
     let key = c.args.self.now in
     all_blocks (chained key (essiv key c.args.dun.now) c.args.text.now) c.loop-block.block c.args.text.now c.loop-block.text
-      (omega arith) (omega arith) c.loop-block.invariant.blocks
+    (omega arith) (omega arith) c.loop-block.invariant.blocks

@@ -1,4 +1,4 @@
-use Rattle.std.proofs.Common.{◌≡◌, ◌∙◌, ap, ap₂, List, ℕ}
+use Rattle.std.proofs.Common.{◌∙◌, ap, ap₂, List, ℕ}
 use Rattle.sha2.specs.Sha256.{sha256}
 use Rattle.bc_aes.specs.Cipher.{encipher}
 use Rattle.bc_modes.specs.CbcEssiv.{essiv}

@@ -11,8 +11,8 @@ returns-in-Xts c =
     let text = c.args.text.now in
     record {
       deciphers =
-        c.decrypt.ensures ∙ ap (λ (s : Schedules). decipher_unit (mode_of s) (raw_of s) dun text) (sym c.in-Xts.is)
-        ∙ ap (λ (parts : CipherParts). decipher_unit parts.mode parts.raw dun text) c.self.view_is;
+          c.decrypt.ensures ∙ ap (λ (s : Schedules). decipher_unit (mode_of s) (raw_of s) dun text) (sym c.in-Xts.is)
+          ∙ ap (λ (parts : CipherParts). decipher_unit parts.mode parts.raw dun text) c.self.view_is;
     }
 
 pub returns-in-Essiv : goal.returns-in-Essiv
@@ -22,6 +22,6 @@ returns-in-Essiv c =
     let text = c.args.text.now in
     record {
       deciphers =
-        c.decrypt-in-Essiv.ensures ∙ ap (λ (s : Schedules). decipher_unit (mode_of s) (raw_of s) dun text) (sym c.in-Essiv.is)
-        ∙ ap (λ (parts : CipherParts). decipher_unit parts.mode parts.raw dun text) c.self.view_is;
+          c.decrypt-in-Essiv.ensures ∙ ap (λ (s : Schedules). decipher_unit (mode_of s) (raw_of s) dun text) (sym c.in-Essiv.is)
+          ∙ ap (λ (parts : CipherParts). decipher_unit parts.mode parts.raw dun text) c.self.view_is;
     }

@@ -1,4 +1,4 @@
-use Rattle.std.proofs.Common.{◌≡◌, ◌+◌, ◌*◌, ◌∙◌, sym, ap, take, refl, arith}
+use Rattle.std.proofs.Common.{◌≡◌, ◌+◌, ◌*◌, ◌∙◌, sym, ap, take, arith}
 use Rattle.bc_aes.specs.Cipher.{encipher}
 use Rattle.bc_modes.specs.Tweak.{tweak_at}
 use Rattle.bc_modes.specs.Xts.{first_tweak, xts_encipher}

@@ -1,4 +1,4 @@
-use Rattle.std.proofs.Common.{◌≡◌, ◌∙◌, sym, ap, take, arith}
+use Rattle.std.proofs.Common.{◌∙◌, sym, ap, take, arith}
 use Rattle.std.proofs.lemmas.List.{take_at}
 use Rattle.bc_aes.specs.Cipher.{encipher}
 use Rattle.bc_modes.specs.Xts.{tweaked}

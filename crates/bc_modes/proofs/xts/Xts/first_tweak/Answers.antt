@@ -1,4 +1,4 @@
-use Rattle.std.proofs.Common.{◌≡◌, ◌∙◌, ◌++◌, sym, ap, ap₂, List, ℕ, drop}
+use Rattle.std.proofs.Common.{◌∙◌, sym, ap, ap₂, List, ℕ, drop}
 use Rattle.std.specs.Int.{w128, from_le_bytes}
 use Rattle.std.proofs.lemmas.List.{drop_at}
 use Rattle.bc_aes.specs.Cipher.{encipher}

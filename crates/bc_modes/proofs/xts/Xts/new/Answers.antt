@@ -1,4 +1,4 @@
-use Rattle.std.proofs.Common.{◌≡◌, ◌∙◌, ◌++◌, ap₂, List, ℕ, length, take, drop, arith}
+use Rattle.std.proofs.Common.{◌∙◌, ◌++◌, ap₂, List, ℕ, drop, arith}
 use Rattle.std.proofs.lemmas.List.{take-append-drop, take_all, length-drop}
 use Rattle.bc_modes.proofs.xts.Xts.new.Goals as goal
 
