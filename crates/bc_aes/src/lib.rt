@@ -3,8 +3,8 @@
 //! `Aes128` and `Aes256` hold an expanded key, and encipher and decipher blocks of 16 bytes in place, one at a time
 //! or a text of whole blocks at once. What each call does is said by the definitions of `specs/`, in the standard's
 //! names and order: the field (`Field`), the transformations of the state (`State`), the key expansion
-//! (`KeyExpansion`) and the cipher (`Cipher`). `cipher_laws` states that either direction undoes the other. Nothing
-//! here allocates, waits or refuses.
+//! (`KeyExpansion`) and the cipher (`Cipher`). `cipher_laws` states that either direction undoes the other. `plain` is
+//! the slow program that computes as the definitions do. Nothing here allocates, waits or refuses.
 //!
 //! The rounds look up tables, whose entries a key and a text choose: time and caches tell of both.
 #![tactic(auto)]
@@ -14,6 +14,7 @@ mod aes256;
 mod blocks;
 mod columns;
 mod laws;
+pub mod plain;
 mod rounds;
 mod schedule;
 mod tables;

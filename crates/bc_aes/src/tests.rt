@@ -1,6 +1,6 @@
 //! The example vectors of FIPS 197 (appendix C) and of NIST SP 800-38A (F.1, electronic codebook).
 
-use crate::{Aes128, Aes256};
+use crate::{Aes128, Aes256, plain};
 
 const PLAIN: u128 = 0x00112233445566778899aabbccddeeff;
 
@@ -79,4 +79,41 @@ fn texts_under_aes_256(rt: HostRuntime) {
     aes.decrypt_blocks(&mut text);
     assert_eq!(rt; text, BOOK);
     aes.encrypt_blocks(&mut []);
+}
+
+#[test]
+fn plain_vectors(rt: HostRuntime) {
+    let short_key = 0x000102030405060708090a0b0c0d0e0f_u128.to_be_bytes();
+    let short = plain::encipher(&short_key, &PLAIN.to_be_bytes());
+    assert_eq!(rt;
+        u128::from_be_bytes(short),
+        0x69c4e0d86a7b0430d8cdb78070b4c55a
+    );
+    assert_eq!(rt;
+        u128::from_be_bytes(plain::decipher(&short_key, &short)),
+        PLAIN
+    );
+    let long = plain::encipher(&COUNTED_KEY, &PLAIN.to_be_bytes());
+    assert_eq!(rt;
+        u128::from_be_bytes(long),
+        0x8ea2b7ca516745bfeafc49904b496089
+    );
+    assert_eq!(rt;
+        u128::from_be_bytes(plain::decipher(&COUNTED_KEY, &long)),
+        PLAIN
+    );
+}
+
+// The fast program beside the plain one.
+#[test]
+fn fast_is_plain(rt: HostRuntime) {
+    let aes = Aes256::new(&BOOK_KEY);
+    for input in [0, 1, PLAIN, PLAIN << 1, u128::MAX] {
+        let mut block = input.to_be_bytes();
+        aes.encrypt_block(&mut block);
+        assert_eq!(rt; block, plain::encipher(&BOOK_KEY, &input.to_be_bytes()));
+        let mut raw = input.to_be_bytes();
+        aes.decrypt_block(&mut raw);
+        assert_eq!(rt; raw, plain::decipher(&BOOK_KEY, &input.to_be_bytes()));
+    }
 }
