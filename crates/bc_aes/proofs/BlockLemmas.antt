@@ -1,5 +1,5 @@
 -- A text whose first blocks are ciphered.
-use Rattle.std.proofs.Common.{◌≡◌, ℕ, ◌+◌, ◌-◌, ◌*◌, ◌<◌, ◌≤◌, List, length, take, drop, refl, sym, ap, ◌∙◌, arith, below_more}
+use Rattle.std.proofs.Common.{◌≡◌, ℕ, ◌+◌, ◌-◌, ◌*◌, ◌<◌, ◌≤◌, List, take, drop, sym, ap, ◌∙◌, arith, below_more}
 use Rattle.std.specs.Prelude.{slice_range}
 use Rattle.std.proofs.lemmas.List.{take-take, drop-drop}
 use Rattle.std.proofs.lemmas.Slice.{between_is}
@@ -9,9 +9,6 @@ use Rattle.bc_aes.specs.Blocks.{block, EachBlock}
 pub record Ciphered (cipher : List ℕ → List ℕ) (n : ℕ) (old new : List ℕ) : Type 0 where
   pub done : (k : ℕ) → k < n → block new k ≡ cipher (block old k)
   pub rest : drop (16 * n) new ≡ drop (16 * n) old
-
-pub ciphered-none : (cipher : List ℕ → List ℕ) (text : List ℕ) → Ciphered cipher 0 text text
-ciphered-none cipher text = record { done = λ k h. absurd (omega arith); rest = refl }
 
 kept : (xs ys : List ℕ) (n a b : ℕ) → take n xs ≡ take n ys → b ≤ n → slice_range xs a b ≡ slice_range ys a b
 kept xs ys n a b e h =
@@ -31,10 +28,6 @@ ciphered-more cipher n old now next h before here after =
       rest = ap (λ (m : ℕ). drop m next) place ∙ after ∙ sym (drop-drop 16 (16 * n) now) ∙ ap (λ (v : List ℕ). drop 16 v) h.rest
           ∙ drop-drop 16 (16 * n) old ∙ ap (λ (m : ℕ). drop m old) (sym place);
     }
-
-pub ciphered-all : (cipher : List ℕ → List ℕ) (n : ℕ) (old new : List ℕ) → Ciphered cipher n old new → length new ≡ length old
-    → length old ≤ 16 * n → EachBlock cipher old new
-ciphered-all cipher n old new h e full = record { same_length = e; ciphered = λ k lt. h.done k (omega arith) }
 
 -- two ciphers that agree
 pub each_block-same : (f g : List ℕ → List ℕ) (old new : List ℕ) → ((b : List ℕ) → f b ≡ g b) → EachBlock f old new → EachBlock g old new

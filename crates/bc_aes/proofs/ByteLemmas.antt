@@ -1,15 +1,13 @@
 -- Lists of bytes: each transformation of bytes gives bytes.
-use Rattle.std.proofs.Common.{◌≡◌, ℕ, zero, suc, ◌+◌, ◌-◌, ◌*◌, ◌/◌, ◌%◌, ◌<◌, ◌≤◌, ◌==◌, Bool, true, false, List, [], ◌∷◌, ◌++◌, length, map, get_or, take, drop, refl, sym, ap, ap₂, ◌∙◌, arith, bit_xor, inl, inr, ⊎_elim, subst}
+use Rattle.std.proofs.Common.{◌≡◌, ℕ, zero, suc, ◌+◌, ◌-◌, ◌*◌, ◌/◌, ◌%◌, ◌<◌, ◌==◌, Bool, true, false, List, [], ◌∷◌, ◌++◌, length, map, get_or, take, drop, arith, bit_xor, inl, inr}
 use Rattle.std.specs.Prelude.{slice_index, if◌then◌else◌, nat_lt, All, ◌&&◌, slice_range}
 use Rattle.std.specs.List.{range_with_len, list_all}
 use Rattle.std.proofs.lemmas.Bool.{cases_lt}
 use Rattle.std.proofs.lemmas.Nat.{xor_lt}
 use Rattle.std.proofs.lemmas.List.{get_or_past}
 use Rattle.std.proofs.lemmas.List.Elements.{All-from_get_or}
-use borrow.Author.Tests.{ltb-true, both_ways}
-use Rattle.bc_aes.specs.State.{circulant, mixed, sub_byte, inv_sub_byte, sub_bytes, inv_sub_bytes, shift_rows, inv_shift_rows, mix_columns_by, add_round_key, state_of}
+use Rattle.bc_aes.specs.State.{circulant, mixed, sub_byte, inv_sub_byte, sub_bytes, inv_sub_bytes, shift_rows, inv_shift_rows, mix_columns_by, add_round_key}
 use Rattle.bc_aes.specs.KeyExpansion.{word, rot_word, sub_word, xor_word, power_of_x, rcon, added_word, with_word, expanded, key_expansion, rounds, round_key}
-use Rattle.bc_aes.specs.Laws.{IsBytes}
 use Rattle.bc_aes.proofs.FieldLemmas.{times_x_lt, product_lt}
 use Rattle.bc_aes.proofs.TableLemmas.{small_at, sub_byte_lt, inv_sub_byte_lt}
 

@@ -37,7 +37,7 @@ sums_of_four a b c d a' b' c' d' e f g h =
 
 -- ---- bounds
 
-reduced_lt : (a : ℕ) → a < 256 → 128 ≤ a → bit_xor (2 * a) 0x11B < 256
+pub reduced_lt : (a : ℕ) → a < 256 → 128 ≤ a → bit_xor (2 * a) 0x11B < 256
 reduced_lt a h k =
     let r : ℕ = 2 * a - 256 in
     let split : 2 * a ≡ 1 * 256 + r = omega arith in

@@ -8,3 +8,4 @@ pub mod BlockLemmas
 pub mod ByteLemmas
 pub mod UndoLemmas
 pub mod CipherLaws
+pub mod PlainLemmas

@@ -3,7 +3,7 @@ use Rattle.std.proofs.Common.{◌≡◌, ℕ, zero, suc, ◌+◌, ◌-◌, ◌*�
 use Rattle.std.specs.Prelude.{slice_index, if◌then◌else◌, ◌&&◌}
 use borrow.Author.Tests.{ne_eqb}
 use Rattle.std.specs.Int.{byte_at}
-use Rattle.std.proofs.lemmas.List.{take_more_set, get_or-take, take_more, length-take-le, take_at, append-nil}
+use Rattle.std.proofs.lemmas.List.{take_more_set, get_or-take, length-take-le, take_at, append-nil}
 use Rattle.bc_aes.specs.State.{sub_byte, inv_sub_byte, inv_mixing_row}
 use Rattle.bc_aes.specs.KeyExpansion.{word, rot_word, sub_word, xor_word, rcon, added_word, with_word, expanded, key_expansion, rounds}
 use Rattle.bc_aes.specs.Cipher.{encipher_by, decipher_by, encipher, decipher}
@@ -52,26 +52,6 @@ word-schedule : (ws : List ℕ) (j : ℕ) → j < length ws → word (schedule_b
 word-schedule ws j h =
     let size : 4 * j + 4 - 4 * j ≡ 4 = omega arith in
     ap₂ (λ (n : ℕ) (bs : List ℕ). take n bs) size (drop-schedule ws j ∙ ap (λ (v : List ℕ). schedule_bytes v) (drop_next ws j (j + 1) refl h))
-
-take_next : (xs : List ℕ) (i j : ℕ) → i + 1 ≡ j → i < length xs → take j xs ≡ take i xs ++ slice_index xs i ∷ []
-take_next xs i j e h = ap (λ (n : ℕ). take n xs) (sym e) ∙ take_more xs i 0 h
-
-take_four : (xs : List ℕ) (i j : ℕ) → i + 4 ≡ j → i + 4 ≤ length xs
-    → take j xs ≡ take i xs ++ (slice_index xs i ∷ slice_index xs (i + 1) ∷ slice_index xs (i + 2) ∷ slice_index xs (i + 3) ∷ [])
-take_four xs i j e h =
-    let a : take (i + 1) xs ≡ take i xs ++ slice_index xs i ∷ [] = take_next xs i (i + 1) refl (omega arith) in
-    let b : take (i + 2) xs ≡ take (i + 1) xs ++ slice_index xs (i + 1) ∷ [] = take_next xs (i + 1) (i + 2) (omega arith) (omega arith) in
-    let c : take (i + 3) xs ≡ take (i + 2) xs ++ slice_index xs (i + 2) ∷ [] = take_next xs (i + 2) (i + 3) (omega arith) (omega arith) in
-    let d : take j xs ≡ take (i + 3) xs ++ slice_index xs (i + 3) ∷ [] = take_next xs (i + 3) j (omega arith) (omega arith) in
-    rw (d, c, b, a) (simp append_assoc)
-
--- one more word of the key
-pub begun-more : (ws key : List ℕ) (i v : ℕ) → i < length ws → 4 * i + 4 ≤ length key → schedule_bytes (take i ws) ≡ take (4 * i) key
-    → column v ≡ slice_index key (4 * i) ∷ slice_index key (4 * i + 1) ∷ slice_index key (4 * i + 2) ∷ slice_index key (4 * i + 3) ∷ []
-    → schedule_bytes (take (i + 1) (set ws i v)) ≡ take (4 * (i + 1)) key
-begun-more ws key i v h k e f =
-    ap (λ (s : List ℕ). schedule_bytes s) (take_more_set ws i v h) ∙ schedule_bytes-push (take i ws) v
-    ∙ ap₂ (λ (p q : List ℕ). p ++ q) e f ∙ sym (take_four key (4 * i) (4 * (i + 1)) (omega arith) k)
 
 -- one more word of the schedule
 pub expanded-more : (nk : ℕ) (key ws : List ℕ) (i v : ℕ) → 0 < nk → nk ≤ i → i < length ws → schedule_bytes (take i ws) ≡ expanded nk key (i - nk)

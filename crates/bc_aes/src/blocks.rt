@@ -45,15 +45,15 @@ pub fn encrypt_each(schedule: &[u32], text: &mut [u8])
 
 /// Deciphers each block in place.
 #[inline]
-pub fn decrypt_each(schedule: &[u32], unmixed_schedule: &[u32], text: &mut [u8])
+pub fn decrypt_each(schedule: &[u32], unmixed_schedule: &[u32], raw: &mut [u8])
     requires long { 8 ≤ length schedule.now }
     requires unmixed { IsUnmixed schedule.now unmixed_schedule.now }
-    requires whole_blocks { length text.old % 16 ≡ 0 }
-    ensures deciphers { EachBlock (decipher_by (length schedule.now / 4 - 1) (schedule_bytes schedule.now)) text.old text.new }
+    requires whole_blocks { length raw.old % 16 ≡ 0 }
+    ensures deciphers { EachBlock (decipher_by (length schedule.now / 4 - 1) (schedule_bytes schedule.now)) raw.old raw.new }
 {
-    for i in 0..text.len() / 16 {
-        let mut block = block_at(text, 16 * i);
+    for i in 0..raw.len() / 16 {
+        let mut block = block_at(raw, 16 * i);
         decrypt(schedule, unmixed_schedule, &mut block);
-        put_block(text, 16 * i, &block);
+        put_block(raw, 16 * i, &block);
     }
 }

@@ -1,8 +1,12 @@
-//! The block cipher AES, as FIPS 197 defines it.
+//! The block cipher AES, as FIPS 197 defines it, under keys of 16 bytes (AES-128) and of 32 bytes (AES-256).
 //!
-//! `Aes256` holds an expanded key and enciphers and deciphers blocks of 16 bytes in place. What each call does is
-//! said by the definitions of `specs/`: the field (`Field`), the transformations of the state (`State`), the key
-//! expansion (`KeyExpansion`) and the cipher (`Cipher`). Nothing here allocates, waits or refuses.
+//! `Aes128` and `Aes256` hold an expanded key, and encipher and decipher blocks of 16 bytes in place, one at a time
+//! or a text of whole blocks at once. What each call does is said by the definitions of `specs/`, in the standard's
+//! names and order: the field (`Field`), the transformations of the state (`State`), the key expansion
+//! (`KeyExpansion`) and the cipher (`Cipher`). `cipher_laws` states that either direction undoes the other. `plain` is
+//! the slow program that computes as the definitions do. Nothing here allocates, waits or refuses.
+//!
+//! The rounds look up tables, whose entries a key and a text choose: time and caches tell of both.
 #![tactic(auto)]
 
 mod aes128;
@@ -10,6 +14,7 @@ mod aes256;
 mod blocks;
 mod columns;
 mod laws;
+pub mod plain;
 mod rounds;
 mod schedule;
 mod tables;
@@ -17,3 +22,6 @@ mod tables;
 pub use aes128::Aes128;
 pub use aes256::Aes256;
 pub use laws::cipher_laws;
+
+#[cfg(test)]
+mod tests;

@@ -10,7 +10,7 @@ use crate::columns::{load, mixed, store, substituted, unmixed, unsubstituted};
 
 // The words of a round.
 #[inline(always)]
-fn key_of_round(schedule: &[u32], round: usize) -> [u32; 4]
+pub fn key_of_round(schedule: &[u32], round: usize) -> [u32; 4]
     requires { 4 * round + 4 ≤ length schedule.now }
     ensures holds { state_bytes result ≡ round_key (schedule_bytes schedule.now) round }
 {

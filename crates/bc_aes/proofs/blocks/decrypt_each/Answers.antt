@@ -7,5 +7,5 @@ use Rattle.bc_aes.proofs.blocks.decrypt_each.Goals as goal
 pub loop-i-preserved : goal.loop-i-preserved
 loop-i-preserved c =
     let cipher : List ℕ → List ℕ = decipher_by (length c.args.schedule.now / 4 - 1) (schedule_bytes c.args.schedule.now) in
-    ciphered-more cipher c.loop-i.i c.args.text.now c.loop-i.text c.put_block.new.text c.loop-i.invariant c.put_block.ensures.before
+    ciphered-more cipher c.loop-i.i c.args.raw.now c.loop-i.raw c.put_block.new.text c.loop-i.invariant c.put_block.ensures.before
     (c.put_block.ensures.here ∙ c.decrypt.ensures.deciphers ∙ ap cipher c.block_at-block.ensures.holds) c.put_block.ensures.after

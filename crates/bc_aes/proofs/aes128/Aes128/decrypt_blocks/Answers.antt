@@ -11,7 +11,7 @@ returns c =
     let words : List ℕ = c.self.inside.schedule in
     let rounds : length words / 4 - 1 ≡ 10 = omega arith in
     record {
-      deciphers = each_block-same (decipher_by (length words / 4 - 1) (schedule_bytes words)) (decipher 4 c.args.self.now) c.args.text.now c.decrypt_each.new.text
+      deciphers = each_block-same (decipher_by (length words / 4 - 1) (schedule_bytes words)) (decipher 4 c.args.self.now) c.args.text.now c.decrypt_each.new.raw
           (decipher-by 4 (length words / 4 - 1) (schedule_bytes words) c.args.self.now rounds
           (c.self.invariant.schedule_is ∙ ap (λ (key : List ℕ). key_expansion 4 key) c.self.view_is))
           c.decrypt_each.ensures.deciphers;

@@ -1,0 +1,63 @@
+-- The steps of the plain program's loops.
+use Rattle.std.proofs.Common.{◌≡◌, ℕ, suc, ◌+◌, ◌-◌, ◌/◌, ◌%◌, ◌<◌, ◌≤◌, ◌==◌, Bool, Option, Some, List, refl, sym, ap, ◌∙◌, arith, bit_xor, eq-eqb}
+use Rattle.std.specs.Prelude.{find, unwrap_or, if◌then◌else◌}
+use Rattle.std.specs.List.{range_with_len}
+use Rattle.std.specs.Int.Bits.{xor_zero_r}
+use borrow.Author.Tests.{ne_eqb}
+use Rattle.bc_aes.specs.Field.{times_x, product_by, product, inverse}
+use Rattle.bc_aes.specs.KeyExpansion.{round_key}
+use Rattle.bc_aes.specs.Cipher.{inv_round, after_inv_round}
+use Rattle.bc_aes.proofs.FieldLemmas.{xor_assoc}
+
+pub product-begun : (a b : ℕ) → bit_xor 0 (product_by (8 - 0) a b) ≡ product a b
+unfolding product
+product-begun a b = refl
+
+pub product-more : (sum i a b all : ℕ) → i < 8 → bit_xor sum (product_by (8 - i) a b) ≡ all
+    → bit_xor (bit_xor sum (if b % 2 == 1 then a else 0)) (product_by (8 - (i + 1)) (times_x a) (b / 2)) ≡ all
+unfolding product_by
+product-more sum i a b all h e =
+    let n : ℕ = 8 - (i + 1) in
+    let left : 8 - i ≡ suc n = omega arith in
+    xor_assoc sum (if b % 2 == 1 then a else 0) (product_by n (times_x a) (b / 2))
+    ∙ ap (λ (m : ℕ). bit_xor sum (product_by m a b)) (sym left) ∙ e
+
+pub product-done : (sum i a b all : ℕ) → 8 ≤ i → bit_xor sum (product_by (8 - i) a b) ≡ all → sum ≡ all
+unfolding product_by
+product-done sum i a b all h e =
+    let none : 8 - i ≡ 0 = omega arith in
+    sym (xor_zero_r sum) ∙ ap (λ (m : ℕ). bit_xor sum (product_by m a b)) (sym none) ∙ e
+
+-- the first byte from b on whose product with a is 1
+abbrev pub first_from : ℕ → ℕ → Option ℕ
+first_from a b = find (λ c. product a c == 1) (range_with_len b (256 - b))
+
+first_from-here : (a b : ℕ) → b < 256 → first_from a b ≡ (if product a b == 1 then Some b else first_from a (b + 1))
+first_from-here a b h =
+    let left : 256 - b ≡ suc (256 - (b + 1)) = omega arith in
+    ap (λ (n : ℕ). find (λ c. product a c == 1) (range_with_len b n)) left
+
+pub inverse-found : (a b : ℕ) → b < 256 → product a b ≡ 1 → first_from a b ≡ first_from a 0 → b ≡ inverse a
+unfolding inverse
+inverse-found a b h one e =
+    ap (λ (o : Option ℕ). unwrap_or o 0)
+    (sym (first_from-here a b h ∙ ap (λ (t : Bool). if t then Some b else first_from a (b + 1)) (eq-eqb (product a b) 1 one)) ∙ e)
+
+pub inverse-missed : (a b : ℕ) → b < 256 → (product a b ≡ 1 → ⊥) → first_from a b ≡ first_from a 0 → first_from a (b + 1) ≡ first_from a 0
+inverse-missed a b h other e =
+    sym (first_from-here a b h ∙ ap (λ (t : Bool). if t then Some b else first_from a (b + 1)) (ne_eqb (product a b) 1 other)) ∙ e
+
+pub inverse-none : (a b : ℕ) → 256 ≤ b → first_from a b ≡ first_from a 0 → 0 ≡ inverse a
+unfolding inverse
+inverse-none a b h e =
+    let none : 256 - b ≡ 0 = omega arith in
+    ap (λ (o : Option ℕ). unwrap_or o 0) (sym (ap (λ (n : ℕ). find (λ c. product a c == 1) (range_with_len b n)) none) ∙ e)
+
+-- one more round of the inverse, in the standard's order (5.3)
+pub after_inv_round-plain : (nr : ℕ) (schedule block : List ℕ) (n : ℕ)
+    → after_inv_round nr schedule block (n + 1) ≡ inv_round (after_inv_round nr schedule block n) (round_key schedule (nr - (n + 1)))
+unfolding after_inv_round
+after_inv_round-plain nr schedule block n =
+    let e : n + 1 ≡ suc n = omega arith in
+    ap (λ (m : ℕ). after_inv_round nr schedule block m) e
+    ∙ ap (λ (m : ℕ). inv_round (after_inv_round nr schedule block n) (round_key schedule (nr - m))) (sym e)

@@ -1,0 +1,119 @@
+//! The example vectors of FIPS 197 (appendix C) and of NIST SP 800-38A (F.1, electronic codebook).
+
+use crate::{Aes128, Aes256, plain};
+
+const PLAIN: u128 = 0x00112233445566778899aabbccddeeff;
+
+// The bytes 00 to 1f.
+const COUNTED_KEY: [u8; 32] = [
+    0x00, 0x01, 0x02, 0x03, 0x04, 0x05, 0x06, 0x07, 0x08, 0x09, 0x0a, 0x0b, 0x0c, 0x0d, 0x0e, 0x0f,
+    0x10, 0x11, 0x12, 0x13, 0x14, 0x15, 0x16, 0x17, 0x18, 0x19, 0x1a, 0x1b, 0x1c, 0x1d, 0x1e, 0x1f,
+];
+
+// The key of F.1.5.
+const BOOK_KEY: [u8; 32] = [
+    0x60, 0x3d, 0xeb, 0x10, 0x15, 0xca, 0x71, 0xbe, 0x2b, 0x73, 0xae, 0xf0, 0x85, 0x7d, 0x77, 0x81,
+    0x1f, 0x35, 0x2c, 0x07, 0x3b, 0x61, 0x08, 0xd7, 0x2d, 0x98, 0x10, 0xa3, 0x09, 0x14, 0xdf, 0xf4,
+];
+
+const BOOK: [u8; 48] = [
+    0x6b, 0xc1, 0xbe, 0xe2, 0x2e, 0x40, 0x9f, 0x96, 0xe9, 0x3d, 0x7e, 0x11, 0x73, 0x93, 0x17, 0x2a,
+    0xae, 0x2d, 0x8a, 0x57, 0x1e, 0x03, 0xac, 0x9c, 0x9e, 0xb7, 0x6f, 0xac, 0x45, 0xaf, 0x8e, 0x51,
+    0x30, 0xc8, 0x1c, 0x46, 0xa3, 0x5c, 0xe4, 0x11, 0xe5, 0xfb, 0xc1, 0x19, 0x1a, 0x0a, 0x52, 0xef,
+];
+
+const BOOK_256: [u8; 48] = [
+    0xf3, 0xee, 0xd1, 0xbd, 0xb5, 0xd2, 0xa0, 0x3c, 0x06, 0x4b, 0x5a, 0x7e, 0x3d, 0xb1, 0x81, 0xf8,
+    0x59, 0x1c, 0xcb, 0x10, 0xd4, 0x10, 0xed, 0x26, 0xdc, 0x5b, 0xa7, 0x4a, 0x31, 0x36, 0x28, 0x70,
+    0xb6, 0xed, 0x21, 0xb9, 0x9c, 0xa6, 0xf4, 0xf9, 0xf1, 0x53, 0xe7, 0xb1, 0xbe, 0xaf, 0xed, 0x1d,
+];
+
+const BOOK_128: [u8; 48] = [
+    0x3a, 0xd7, 0x7b, 0xb4, 0x0d, 0x7a, 0x36, 0x60, 0xa8, 0x9e, 0xca, 0xf3, 0x24, 0x66, 0xef, 0x97,
+    0xf5, 0xd3, 0xd5, 0x85, 0x03, 0xb9, 0x69, 0x9d, 0xe7, 0x85, 0x89, 0x5a, 0x96, 0xfd, 0xba, 0xaf,
+    0x43, 0xb1, 0xcd, 0x7f, 0x59, 0x8e, 0xce, 0x23, 0x88, 0x1b, 0x00, 0xe3, 0xed, 0x03, 0x06, 0x88,
+];
+
+#[test]
+fn blocks_under_aes_128(rt: HostRuntime) {
+    let aes = Aes128::new(&0x000102030405060708090a0b0c0d0e0f_u128.to_be_bytes());
+    let mut block = PLAIN.to_be_bytes();
+    aes.encrypt_block(&mut block);
+    assert_eq!(rt;
+        u128::from_be_bytes(block),
+        0x69c4e0d86a7b0430d8cdb78070b4c55a
+    );
+    aes.decrypt_block(&mut block);
+    assert_eq!(rt; u128::from_be_bytes(block), PLAIN);
+}
+
+#[test]
+fn blocks_under_aes_256(rt: HostRuntime) {
+    let aes = Aes256::new(&COUNTED_KEY);
+    let mut block = PLAIN.to_be_bytes();
+    aes.encrypt_block(&mut block);
+    assert_eq!(rt;
+        u128::from_be_bytes(block),
+        0x8ea2b7ca516745bfeafc49904b496089
+    );
+    aes.decrypt_block(&mut block);
+    assert_eq!(rt; u128::from_be_bytes(block), PLAIN);
+}
+
+#[test]
+fn texts_under_aes_128(rt: HostRuntime) {
+    let aes = Aes128::new(&0x2b7e151628aed2a6abf7158809cf4f3c_u128.to_be_bytes());
+    let mut text = BOOK;
+    aes.encrypt_blocks(&mut text);
+    assert_eq!(rt; text, BOOK_128);
+    aes.decrypt_blocks(&mut text);
+    assert_eq!(rt; text, BOOK);
+}
+
+#[test]
+fn texts_under_aes_256(rt: HostRuntime) {
+    let aes = Aes256::new(&BOOK_KEY);
+    let mut text = BOOK;
+    aes.encrypt_blocks(&mut text);
+    assert_eq!(rt; text, BOOK_256);
+    aes.decrypt_blocks(&mut text);
+    assert_eq!(rt; text, BOOK);
+    aes.encrypt_blocks(&mut []);
+}
+
+#[test]
+fn plain_vectors(rt: HostRuntime) {
+    let short_key = 0x000102030405060708090a0b0c0d0e0f_u128.to_be_bytes();
+    let short = plain::encipher(&short_key, &PLAIN.to_be_bytes());
+    assert_eq!(rt;
+        u128::from_be_bytes(short),
+        0x69c4e0d86a7b0430d8cdb78070b4c55a
+    );
+    assert_eq!(rt;
+        u128::from_be_bytes(plain::decipher(&short_key, &short)),
+        PLAIN
+    );
+    let long = plain::encipher(&COUNTED_KEY, &PLAIN.to_be_bytes());
+    assert_eq!(rt;
+        u128::from_be_bytes(long),
+        0x8ea2b7ca516745bfeafc49904b496089
+    );
+    assert_eq!(rt;
+        u128::from_be_bytes(plain::decipher(&COUNTED_KEY, &long)),
+        PLAIN
+    );
+}
+
+// The fast program beside the plain one.
+#[test]
+fn fast_is_plain(rt: HostRuntime) {
+    let aes = Aes256::new(&BOOK_KEY);
+    for input in [0, 1, PLAIN, PLAIN << 1, u128::MAX] {
+        let mut block = input.to_be_bytes();
+        aes.encrypt_block(&mut block);
+        assert_eq!(rt; block, plain::encipher(&BOOK_KEY, &input.to_be_bytes()));
+        let mut raw = input.to_be_bytes();
+        aes.decrypt_block(&mut raw);
+        assert_eq!(rt; raw, plain::decipher(&BOOK_KEY, &input.to_be_bytes()));
+    }
+}
