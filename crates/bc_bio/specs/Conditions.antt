@@ -1,5 +1,5 @@
 -- What the calls on bios ask for.
-use Rattle.std.specs.Prelude.{ℕ, ◌^◌, ◌<◌, List, length, Option, Some, None, ⊤}
+use Rattle.std.specs.Prelude.{◌^◌, ◌<◌, List, length, Option, Some, None, ⊤}
 use Rattle.bc_key.specs.KeyData.{KeyData}
 use Rattle.bc_bio.specs.declared.bio.Context.{Context}
 use Rattle.bc_bio.specs.Extent.{Extent, end_of}

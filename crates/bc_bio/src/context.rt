@@ -55,8 +55,9 @@ pub(crate) fn context_runs_on(first: Option<Context>, units: u64, second: Option
 {
     match (first, second) {
         (None, None) => true,
-        (Some(first), Some(second)) => first.key == second.key
-            && first.dun.runs_on(units, &second.dun),
+        (Some(first), Some(second)) => {
+            first.key == second.key && first.dun.runs_on(units, &second.dun)
+        }
         _ => false,
     }
 }

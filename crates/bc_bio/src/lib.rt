@@ -15,3 +15,6 @@ pub use bio::{Access, Bio, Context, back_runs_on};
 pub use refusal::{BioError, Refusal};
 pub use reply::Reply;
 pub use unit::Unit;
+
+#[cfg(test)]
+mod tests;
