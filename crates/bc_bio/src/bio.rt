@@ -52,10 +52,12 @@ impl Bio {
     pub fn check(&self, keys: &Keys, sectors: u32) -> Result<(), BioError>
         requires { HasKey keys.now.keys self.now.context }
         ensures accepts { OnOk result (check_of keys.now.keys sectors (extent_of self.now) ≡ None) }
-        ensures refuses { IfErr result (λ error. check_of keys.now.keys sectors (extent_of self.now) ≡ Some error) }
+        ensures refuses { IfErr result (λ error.
+            check_of keys.now.keys sectors (extent_of self.now) ≡ Some error) }
 
         // No number of a well formed bio wraps.
-        ensures no_wrap { OnOk result ((i : ℕ) → i ≤ length self.now.units → context_on i self.now.context ≡ context_after i self.now.context) }
+        ensures no_wrap { OnOk result ((i : ℕ) → i ≤ length self.now.units →
+            context_on i self.now.context ≡ context_after i self.now.context) }
     {
         if self.units.len() == 0 {
             return Err(BioError::Empty);
@@ -99,7 +101,8 @@ impl Bio {
         requires not_all { units < length self.units }
         ensures first { IfOk result (λ parts. parts.0 ≡ front_of units self) }
         ensures second { IfOk result (λ parts. parts.1 ≡ rest_of keys.now.keys units self) }
-        ensures units { IfOk result (λ parts. units_of keys.now.keys parts.0 ++ units_of keys.now.keys parts.1 ≡ units_of keys.now.keys self) }
+        ensures units { IfOk result (λ parts.
+            units_of keys.now.keys parts.0 ++ units_of keys.now.keys parts.1 ≡ units_of keys.now.keys self) }
         ensures back { IfErr result (λ bio. bio ≡ self) }
     {
         let sector = self.sector + units * unit_sectors(keys, self.context);
