@@ -1,0 +1,46 @@
+-- What the command `serial` carries out: the script that its text says, over an image of zeros, with one shard.
+use Rattle.std.specs.Prelude.{◌≡◌, ℕ, ◌*◌, ◌≤◌, List, [], ◌∷◌, codes, length, replicate}
+use Rattle.bc_run.specs.Script.{Script}
+use Rattle.bc_run.specs.ScriptText.{Says, NoScriptHas}
+use Rattle.bc_run.specs.Report.{Report}
+use Rattle.bc_run.specs.ReportText.{report_text}
+use Rattle.bc_run.specs.LawfulRun.{LawfulRun, IsSerial}
+
+-- the words are the one command that there is
+abbrev pub IsCommand : List (List ℕ) → Type 0
+IsCommand words = words ≡ codes "serial" ∷ []
+
+-- the most bytes of a script's text, 16 MiB
+abbrev pub script_limit : ℕ
+script_limit = 16777216
+
+abbrev pub IsWithinLimit : List ℕ → Type 0
+IsWithinLimit text = length text ≤ script_limit
+
+-- the text is this script's, within the limit
+pub record IsTextOf (text : List ℕ) (script : Script) : Type 0 where
+  pub within : IsWithinLimit text
+  pub says : Says text script
+
+-- the text is within the limit, and no script's
+pub record IsNoScript (text : List ℕ) : Type 0 where
+  pub within : IsWithinLimit text
+  pub none : NoScriptHas text
+
+-- an image of zeros, of the length that the script asks for
+abbrev pub zeros_for : Script → List ℕ
+zeros_for script = replicate (4096 * script.blocks) 0
+
+-- the report is that of a lawful run of the script over zeros, with one shard, section after section
+pub record IsReportOf (script : Script) (report : Report) : Type 0 where
+  pub left : List ℕ
+  pub lawful : LawfulRun script (zeros_for script) 1 report left
+  pub serial : IsSerial script report
+
+-- the text is a script's, and this was done with the text of its report
+pub record IsCarriedOut (Done : List ℕ → Type 0) (text : List ℕ) : Type 0 where
+  pub script : Script
+  pub accepted : IsTextOf text script
+  pub report : Report
+  pub carried_out : IsReportOf script report
+  pub done : Done (report_text report)

@@ -1,0 +1,124 @@
+//! Scripts that are carried out, with the answers and entries that the rules of scripts give them.
+
+ghost use Rattle.std.specs.Prelude.{◌≡◌, ◌*◌, ◌<◌, ◌≤◌, [], ◌∷◌, IfOk};
+ghost use Rattle.bc_run.specs.Script.{IsDiskSize, IsNamedKey, IsSection};
+
+use super::*;
+use crate::name::Name;
+use crate::named_key::NamedKey;
+use bc_key::{Key, KeyNo, Mode};
+use std::test::Fail;
+
+/// Key a: AES-256-XTS over data units of 512 bytes, with 8 number bytes, under the bytes 00 to 3f.
+fn key_a() -> Result<NamedKey, Fail>
+    ensures { IfOk result IsNamedKey }
+{
+    let mut raw = [0; 64];
+    for i in 0..64 {
+        raw[i] = i as u8;
+    }
+    let key = Key::new(Mode::Aes256Xts, &raw, 512, 8)?;
+    let Some(name) = Name::of(b"a") else {
+        unreachable!()
+    };
+    Ok(NamedKey { name, key })
+}
+
+/// The context of key 0 and number 0.
+fn context() -> Option<Context>
+    ensures { result ≡ Some (record { key = record { 0 = 0 }; dun = 0 }) }
+{
+    Some(Context {
+        key: KeyNo(0),
+        dun: Dun::from_words([0; 4]),
+    })
+}
+
+/// Writes one unit, of this byte throughout.
+fn write(sector: u32, byte: u8) -> Op
+    ensures { result ≡ Op.Write (Some (record { key = record { 0 = 0 }; dun = 0 })) sector 1 (Text.Fill byte) }
+{
+    Op::Write {
+        context: context(),
+        sector,
+        units: 1,
+        text: Text::Fill(byte),
+    }
+}
+
+/// Reads one unit.
+fn read(sector: u32) -> Op
+    ensures { result ≡ Op.Read (Some (record { key = record { 0 = 0 }; dun = 0 })) sector 1 }
+{
+    Op::Read {
+        context: context(),
+        sector,
+        units: 1,
+    }
+}
+
+/// A script of one key and one section.
+fn script_of(
+    alloc: Global,
+    blocks: u32,
+    named: NamedKey,
+    section: Vec<Op>,
+) -> Result<Script, Fail>
+    requires blocks { IsDiskSize blocks }
+    requires key { IsNamedKey named }
+    requires section { IsSection (named.key ∷ []) (8 * blocks) section.items }
+    ensures { IfOk result (λ script. script.blocks ≡ blocks) }
+{
+    let mut keys = Vec::new(alloc);
+    keys.push(named)?;
+    let mut threads = Vec::new(alloc);
+    threads.push(Items::from_vec(section))?;
+    Ok(Script::new(
+        blocks,
+        Items::from_vec(keys),
+        Items::from_vec(threads),
+    ))
+}
+
+/// The entry of operation number op of thread 0.
+fn soft(op: u32) -> Line {
+    Line {
+        name: UnitName {
+            thread: 0,
+            op,
+            unit: 0,
+        },
+        via: Via::Soft,
+    }
+}
+
+#[test]
+fn a_write_and_a_read_of_one_unit(rt: HostRuntime) -> Result<(), Fail> {
+    let alloc = rt.alloc();
+    let section = vec![in alloc; write(0, 0), read(0)]?;
+    let script = script_of(alloc, 1, key_a()?, section)?;
+    let finished = serial(alloc, &script, vec![in alloc; 0; 4096]?, 1)?;
+
+    let answers = finished.report.threads();
+    assert_eq!(rt; answers.len(), 1);
+    assert_eq!(rt; answers[0].as_slice(), [Answer::Wrote, Answer::ReadFill(0)].as_slice());
+    let lines = finished.report.shards();
+    assert_eq!(rt; lines.len(), 1);
+    assert_eq!(rt; lines[0].as_slice(), [soft(0), soft(1)].as_slice());
+    Ok(())
+}
+
+#[test]
+fn blocks_take_turns_among_the_shards(rt: HostRuntime) -> Result<(), Fail> {
+    let alloc = rt.alloc();
+    let section = vec![in alloc; write(0, 1), write(8, 2), write(16, 3), write(24, 4)]?;
+    let script = script_of(alloc, 4, key_a()?, section)?;
+    let finished = serial(alloc, &script, vec![in alloc; 0; 16384]?, 3)?;
+
+    let lines = finished.report.shards();
+    assert_eq!(rt; lines.len(), 3);
+    assert_eq!(rt; lines[0].as_slice(), [soft(0), soft(3)].as_slice());
+    assert_eq!(rt; lines[1].as_slice(), [soft(1)].as_slice());
+    assert_eq!(rt; lines[2].as_slice(), [soft(2)].as_slice());
+    Ok(())
+}

@@ -1,0 +1,205 @@
+//! A run, from its words to its report, stage by stage.
+
+ghost use Rattle.std.specs.Prelude.{◌≡◌, ◌≢◌, ◌↔◌, ◌⊎◌, ◌*◌, ◌≤◌, ◌<◌, [], ◌∷◌, codes, map, length, replicate, IfSome, IsOk, IfOk, IfErr, OnOk, MatchResult, Ok, Err};
+ghost use Rattle.std.specs.String.{string_bytes};
+ghost use Rattle.std.specs.Io.KnownBytes.{Consumes, Appends, IsAtEnd, Keeps};
+ghost use Rattle.bc_base.specs.Outside.{Rose, HasCause, AppendsFront};
+ghost use Rattle.bc_run.specs.ScriptText.{Says, NoScriptHas};
+ghost use Rattle.bc_run.specs.ReportText.{report_text};
+ghost use Rattle.bc_run.specs.Run.{IsCommand, script_limit, IsTextOf, IsReportOf, zeros_for};
+ghost use Rattle.bc_run.specs.Statuses.{EndsBy, ReadRose, WriteRose, IsNotBuilt, IsParseStatus};
+ghost use Rattle.bc_run.specs.Script as specs;
+
+use crate::one_caller::serial;
+use crate::report::Report;
+use crate::report_text::print;
+use crate::script::Script;
+use crate::script_error::ParseError;
+use crate::script_text::parse;
+use crate::status::Status;
+use bc_base::{ReadError, Sink, Source, read_all, write_all};
+use std::alloc::{AllocError, Global};
+
+/// The most bytes of a script's text: 16 MiB.
+const SCRIPT_LIMIT: u64 = 16777216;
+
+/// The bytes of a block.
+const BLOCK_BYTES: usize = 4096;
+
+/// Runs the command that the words say. `serial` reads a script from the source, carries it out over an image of
+/// zeros with one shard, and writes its report to the sink. The words are those behind the program's name. Nothing is
+/// written before the whole report stands; a sink that then fails holds a front of it.
+///
+/// Folder and gate aren't used by this command.
+pub fn run<Rt, S: Source, K: Sink, F, G>(
+    _rt: &Rt,
+    alloc: Global,
+    words: &[String],
+    script: &mut S,
+    out: &mut K,
+    _folder: &mut F,
+    _gate: &G,
+) -> Status
+    // Why it ended so.
+    ensures status { EndsBy (record {
+      words = map string_bytes words.now;
+      text = S.left script.old;
+      read_faults_before = S.faults script.old;
+      read_faults_after = S.faults script.new;
+      write_faults_before = K.faults out.old;
+      write_faults_after = K.faults out.new;
+      held_before = K.held out.old;
+      held_after = K.held out.new;
+    }) result }
+    ensures usage { result ≡ Status.Usage ↔ (IsCommand (map string_bytes words.now) → ⊥) }
+    ensures end { result ≡ Status.Ok → IsAtEnd (S.left script.new) }
+    ensures untouched { result ≢ Status.Ok → result ≢ Status.WriteFault → Keeps (K.held out.old) (K.held out.new) }
+    ensures read_cause { HasCause (S.faults script.old) (S.faults script.new) (result ≡ Status.ReadFault) }
+    ensures write_cause { HasCause (K.faults out.old) (K.faults out.new) (result ≡ Status.WriteFault) }
+
+    // A script within the limit is carried out, unless a count of faults rose or memory ran out.
+    ensures complete { IsCommand (map string_bytes words.now)
+        → IfSome (S.left script.old) (λ text. (said : specs.Script) → IsTextOf text said
+        → (Rose (S.faults script.old) (S.faults script.new) → ⊥) → (Rose (K.faults out.old) (K.faults out.new) → ⊥)
+        → (result ≡ Status.Ok) ⊎ (result ≡ Status.NoMemory)) }
+{
+    match stages(alloc, words, script, out) {
+        Ok(()) => Status::Ok,
+        Err(status) => status,
+    }
+}
+
+/// The stages, in their order; the first that refuses ends the run.
+fn stages<S: Source, K: Sink>(
+    alloc: Global,
+    words: &[String],
+    source: &mut S,
+    out: &mut K,
+) -> Result<(), Status>
+    ensures ok { OnOk result (EndsBy (record {
+      words = map string_bytes words.now;
+      text = S.left source.old;
+      read_faults_before = S.faults source.old;
+      read_faults_after = S.faults source.new;
+      write_faults_before = K.faults out.old;
+      write_faults_after = K.faults out.new;
+      held_before = K.held out.old;
+      held_after = K.held out.new;
+    }) Status.Ok) }
+    ensures err { IfErr result (EndsBy (record {
+      words = map string_bytes words.now;
+      text = S.left source.old;
+      read_faults_before = S.faults source.old;
+      read_faults_after = S.faults source.new;
+      write_faults_before = K.faults out.old;
+      write_faults_after = K.faults out.new;
+      held_before = K.held out.old;
+      held_after = K.held out.new;
+    })) }
+    ensures usage { (IsCommand (map string_bytes words.now) → ⊥) → result ≡ Err Status.Usage }
+    ensures end { OnOk result (IsAtEnd (S.left source.new)) }
+    ensures not_ok { IfErr result (λ e. e ≢ Status.Ok) }
+    ensures untouched { IfErr result (λ e. e ≢ Status.WriteFault → Keeps (K.held out.old) (K.held out.new)) }
+    ensures read_cause { HasCause (S.faults source.old) (S.faults source.new) (result ≡ Err Status.ReadFault) }
+    ensures write_cause { HasCause (K.faults out.old) (K.faults out.new) (result ≡ Err Status.WriteFault) }
+{
+    command(words)?;
+    let text = read_script(alloc, source)?;
+    let script = parsed(alloc, &text)?;
+    let report = carried_out(alloc, &script)?;
+    let text = printed(alloc, &report)?;
+    written(out, &text)
+}
+
+/// The words are the command.
+fn command(words: &[String]) -> Result<(), Status>
+    ensures ok { IsOk result ↔ (map string_bytes words.now ≡ codes "serial" ∷ []) }
+    ensures usage { IfErr result (λ e. e ≡ Status.Usage) }
+{
+    match words {
+        [word] if word.as_str() == "serial" => Ok(()),
+        _ => Err(Status::Usage),
+    }
+}
+
+/// The text of the script: all that is left in the source.
+fn read_script<S: Source>(alloc: Global, source: &mut S) -> Result<Vec<u8>, Status>
+    ensures all { IfOk result (λ bytes. Consumes (S.left source.old) (S.left source.new) bytes.items) }
+    ensures end { OnOk result (IsAtEnd (S.left source.new)) }
+    ensures within { IfOk result (λ bytes. length bytes.items ≤ script_limit) }
+    ensures statuses { IfErr result (λ e. (e ≡ Status.ReadFault) ⊎ ((e ≡ Status.TooLong script_limit) ⊎ (e ≡ Status.NoMemory))) }
+    ensures too_long { result ≡ Err (Status.TooLong script_limit) → IfSome (S.left source.old) (λ left. script_limit < length left) }
+    ensures cause { HasCause (S.faults source.old) (S.faults source.new) (result ≡ Err Status.ReadFault) }
+{
+    match read_all(alloc, source, SCRIPT_LIMIT) {
+        Ok(bytes) => Ok(bytes),
+        Err(ReadError::Failed) => Err(Status::ReadFault),
+        Err(ReadError::TooLong) => Err(Status::TooLong {
+            limit: SCRIPT_LIMIT,
+        }),
+        Err(ReadError::Memory) => Err(Status::NoMemory),
+    }
+}
+
+/// The script that the text says.
+fn parsed(alloc: Global, text: &[u8]) -> Result<Script, Status>
+    ensures ok { IfOk result (Says text.now) }
+    ensures bad { IfErr result (IsParseStatus text.now) }
+{
+    match parse(alloc, text) {
+        Ok(script) => Ok(script),
+        Err(ParseError::Bad(error)) => Err(Status::BadScript(error)),
+        Err(ParseError::Memory) => Err(Status::NoMemory),
+    }
+}
+
+/// The report of the script, which is carried out over zeros with one shard.
+fn carried_out(alloc: Global, script: &Script) -> Result<Report, Status>
+    ensures ok { IfOk result (IsReportOf script.now) }
+    ensures memory { IfErr result (λ e. e ≡ Status.NoMemory) }
+{
+    match carried_out_over_zeros(alloc, script) {
+        Ok(report) => Ok(report),
+        Err(AllocError) => Err(Status::NoMemory),
+    }
+}
+
+fn carried_out_over_zeros(alloc: Global, script: &Script) -> Result<Report, AllocError>
+    ensures { IfOk result (IsReportOf script.now) }
+{
+    let image = zeros(alloc, script)?;
+    let finished = serial(alloc, script, image, 1)?;
+    Ok(finished.report)
+}
+
+/// An image of zeros, as long as the script's disk.
+fn zeros(alloc: Global, script: &Script) -> Result<Vec<u8>, AllocError>
+    ensures { IfOk result (λ image. image.items ≡ zeros_for script.now) }
+{
+    let length = BLOCK_BYTES * script.blocks() as usize;
+    Ok(vec![in alloc; 0; length]?)
+}
+
+/// The text of the report.
+fn printed(alloc: Global, report: &Report) -> Result<Vec<u8>, Status>
+    ensures ok { IfOk result (λ text. text.items ≡ report_text report.now) }
+    ensures memory { IfErr result (λ e. e ≡ Status.NoMemory) }
+{
+    match print(alloc, report) {
+        Ok(text) => Ok(text),
+        Err(AllocError) => Err(Status::NoMemory),
+    }
+}
+
+/// Writes the text of the report.
+fn written<K: Sink>(out: &mut K, text: &[u8]) -> Result<(), Status>
+    ensures ok { OnOk result (Appends (K.held out.old) (K.held out.new) text.now) }
+    ensures front { AppendsFront (K.held out.old) (K.held out.new) text.now }
+    ensures fault { IfErr result (λ e. e ≡ Status.WriteFault) }
+    ensures cause { HasCause (K.faults out.old) (K.faults out.new) (result ≡ Err Status.WriteFault) }
+{
+    match write_all(out, text) {
+        Ok(()) => Ok(()),
+        Err(_) => Err(Status::WriteFault),
+    }
+}

@@ -1,0 +1,208 @@
+ghost use Rattle.std.specs.Prelude.{length, ◌^◌, ◌<◌};
+
+use super::*;
+use bc_base::{Items, MemSink, MemSource};
+use bc_bio::{BioError, Refusal};
+use std::alloc::Global;
+use std::test::Fail;
+
+const EMPTY_SCRIPT: &[u8] = b"blkcrypt 1\ndisk 1\nfallback on\nend\n";
+
+const EMPTY_REPORT: &[u8] = b"report 1\nshard 0 0\nend\n";
+
+const FIRST_SCRIPT: &[u8] = b"blkcrypt 1\ndisk 1\nfallback on\n\
+    key a aes-256-xts 512 8 000102030405060708090a0b0c0d0e0f101112131415161718191a1b1c1d1e1f202122232425262728292a2b2c2d2e2f303132333435363738393a3b3c3d3e3f\n\
+    thread\nwrite a 0 1 0 fill 00\nread a 0 1 0\nend\n";
+
+const FIRST_REPORT: &[u8] = b"report 1\nthread 0\ndone\ndone fill 00\n\
+    shard 0 2\n0 0 0 soft\n0 1 0 soft\nend\n";
+
+// ---- helpers
+
+fn owned(alloc: Global, words: &[&str]) -> Result<Vec<String>, Fail> {
+    let mut all = Vec::new(alloc);
+    for word in words {
+        all.push(String::from_str(alloc, word)?)?;
+    }
+    Ok(all)
+}
+
+/// Runs the words over a source that gives the text, at most `piece` bytes in a call.
+fn status_of(
+    rt: &HostRuntime,
+    words: &[&str],
+    text: &[u8],
+    piece: usize,
+    out: &mut MemSink,
+) -> Result<Status, Fail>
+    requires { 0 < piece }
+{
+    let alloc = rt.alloc();
+    let words = owned(alloc, words)?;
+    let mut script = MemSource::new(text.to_vec(alloc)?, piece, Vec::new(alloc));
+    Ok(run(rt, alloc, &words, &mut script, out, &mut (), &()))
+}
+
+/// A sink with room for any report of these tests.
+fn sink(alloc: Global) -> Result<MemSink, Fail> {
+    Ok(MemSink::new(alloc, 4096, 10, Vec::new(alloc))?)
+}
+
+// ---- the text of a report
+
+fn line(thread: u16, op: u32, unit: u32, via: Via) -> Line {
+    let name = UnitName { thread, op, unit };
+    Line { name, via }
+}
+
+/// A report of two threads, the second without an operation, and two shards, the second without an entry.
+fn report(alloc: Global, answers: Vec<Answer>, entries: Vec<Line>) -> Result<Report, Fail>
+    requires { length entries.items < 2 ^ 32 }
+{
+    let threads = vec![in alloc; Items::from_vec(answers), Items::new(alloc)]?;
+    let shards = vec![in alloc; Items::from_vec(entries), Items::new(alloc)]?;
+    Ok(Report::new(Items::from_vec(threads), Items::from_vec(shards)))
+}
+
+#[test]
+fn a_report_with_each_answer_is_printed(rt: HostRuntime) -> Result<(), Fail> {
+    let alloc = rt.alloc();
+    let mut digest = [0u8; 32];
+    for (i, byte) in digest.iter_mut().enumerate() {
+        *byte = i as u8;
+    }
+    let answers = vec![in alloc;
+        Answer::Wrote,
+        Answer::ReadFill(10),
+        Answer::ReadSum(digest),
+        Answer::Fault(3),
+        Answer::Refused(Refusal::Bio(BioError::Empty)),
+        Answer::Refused(Refusal::Bio(BioError::Misaligned)),
+        Answer::Refused(Refusal::Bio(BioError::Outside)),
+        Answer::Refused(Refusal::Bio(BioError::DunRange)),
+        Answer::Refused(Refusal::Unsupported),
+    ]?;
+    let entries = vec![in alloc; line(0, 0, 0, Via::Plain), line(15, 65535, 255, Via::Soft)]?;
+    assert_eq!(rt; entries.len(), 2);
+    let text = print(alloc, &report(alloc, answers, entries)?)?;
+    let wanted = b"report 1\nthread 0\ndone\ndone fill 0a\n\
+        done sha256 000102030405060708090a0b0c0d0e0f101112131415161718191a1b1c1d1e1f\n\
+        fault 3\nrefused empty\nrefused misaligned\nrefused outside\nrefused dun\nrefused unsupported\n\
+        thread 1\nshard 0 2\n0 0 0 plain\n15 65535 255 soft\nshard 1 0\nend\n";
+    assert_eq!(rt; text.as_slice(), wanted.as_slice());
+    Ok(())
+}
+
+// ---- the statuses
+
+#[test]
+fn each_status_has_its_number_and_its_line(rt: HostRuntime) -> Result<(), Fail> {
+    let bad = ScriptError {
+        line: 1,
+        why: ScriptWhy::NotBuilt,
+    };
+    let table = [
+        (Status::Ok, 0, ""),
+        (Status::Usage, 1, "bad command line"),
+        (Status::BadScript(bad), 2, "script line 1: not built"),
+        (Status::ReadFault, 3, "reading failed"),
+        (Status::WriteFault, 4, "writing failed"),
+        (
+            Status::TooLong { limit: 16777216 },
+            7,
+            "input longer than 16777216 bytes",
+        ),
+        (Status::NoMemory, 9, "no memory"),
+    ];
+    for (status, code, line) in table {
+        assert_eq!(rt; status.code(), code);
+        assert_eq!(rt; format!(in rt.alloc(); "{status}")?.as_str(), line);
+    }
+    Ok(())
+}
+
+// ---- runs that write their report
+
+#[test]
+fn an_empty_script_has_a_report_without_a_thread(rt: HostRuntime) -> Result<(), Fail> {
+    for piece in [1, 4096] {
+        let mut out = sink(rt.alloc())?;
+        let status = status_of(&rt, &["serial"], EMPTY_SCRIPT, piece, &mut out)?;
+        assert_eq!(rt; status, Status::Ok);
+        assert_eq!(rt; out.held(), EMPTY_REPORT);
+        assert_eq!(rt; out.held().len(), 23);
+    }
+    Ok(())
+}
+
+#[test]
+fn a_sector_is_written_and_read_back(rt: HostRuntime) -> Result<(), Fail> {
+    let mut out = sink(rt.alloc())?;
+    let status = status_of(&rt, &["serial"], FIRST_SCRIPT, 4096, &mut out)?;
+    assert_eq!(rt; status, Status::Ok);
+    assert_eq!(rt; out.held(), FIRST_REPORT);
+    Ok(())
+}
+
+// ---- runs that don't
+
+#[test]
+fn words_that_are_no_command_are_refused(rt: HostRuntime) -> Result<(), Fail> {
+    let wrong: [&[&str]; 4] = [&[], &["serial", "x"], &["Serial"], &["threads"]];
+    for words in wrong {
+        let mut out = sink(rt.alloc())?;
+        let status = status_of(&rt, words, EMPTY_SCRIPT, 4096, &mut out)?;
+        assert_eq!(rt; status, Status::Usage);
+        assert_eq!(rt; out.held().len(), 0);
+    }
+    Ok(())
+}
+
+#[test]
+fn a_number_with_a_leading_zero_is_no_number(rt: HostRuntime) -> Result<(), Fail> {
+    let mut out = sink(rt.alloc())?;
+    let text = b"blkcrypt 1\ndisk 01\nfallback on\nend\n";
+    let status = status_of(&rt, &["serial"], text, 4096, &mut out)?;
+    let error = ScriptError {
+        line: 1,
+        why: ScriptWhy::NotBuilt,
+    };
+    assert_eq!(rt; status, Status::BadScript(error));
+    assert_eq!(rt; out.held().len(), 0);
+    Ok(())
+}
+
+#[test]
+fn a_source_that_fails_ends_the_run(rt: HostRuntime) -> Result<(), Fail> {
+    let alloc = rt.alloc();
+    let words = owned(alloc, &["serial"])?;
+    let mut script = MemSource::new(EMPTY_SCRIPT.to_vec(alloc)?, 4096, vec![in alloc; 0]?);
+    let mut out = sink(alloc)?;
+    let status = run(&rt, alloc, &words, &mut script, &mut out, &mut (), &());
+    assert_eq!(rt; status, Status::ReadFault);
+    assert_eq!(rt; out.held().len(), 0);
+    Ok(())
+}
+
+#[test]
+fn a_sink_that_fails_holds_a_front_of_the_report(rt: HostRuntime) -> Result<(), Fail> {
+    let alloc = rt.alloc();
+    let mut out = MemSink::new(alloc, 4096, 10, vec![in alloc; 1]?)?;
+    let status = status_of(&rt, &["serial"], EMPTY_SCRIPT, 4096, &mut out)?;
+    assert_eq!(rt; status, Status::WriteFault);
+    assert_eq!(rt; out.held(), b"report 1\ns".as_slice());
+    Ok(())
+}
+
+#[test]
+fn a_script_of_one_byte_more_than_the_limit_is_too_long(rt: HostRuntime) -> Result<(), Fail> {
+    let alloc = rt.alloc();
+    let words = owned(alloc, &["serial"])?;
+    let text = vec![in alloc; b'a'; 16777217]?;
+    let mut script = MemSource::new(text, 4096, Vec::new(alloc));
+    let mut out = sink(alloc)?;
+    let status = run(&rt, alloc, &words, &mut script, &mut out, &mut (), &());
+    assert_eq!(rt; status, Status::TooLong { limit: 16777216 });
+    assert_eq!(rt; out.held().len(), 0);
+    Ok(())
+}

@@ -1,0 +1,34 @@
+//! blkcrypt: carries out a script of requests to an encrypted disk and writes a report of what each was answered.
+//!
+//! The command is read from the program's words, the script from standard input, and the report is written to
+//! standard output. Where a run ends without its whole report, one line on standard error says why, and the process
+//! ends with the number of that status.
+#![tactic(auto)]
+
+mod std_sink;
+mod std_source;
+mod words;
+
+use bc_run::{Status, run};
+use std::process::ExitCode;
+use std_sink::StdSink;
+use std_source::StdSource;
+
+fn main(rt: HostRuntime) -> ExitCode {
+    let status = match words::words(&rt) {
+        Ok(words) => run_over_streams(&rt, &words),
+        Err(status) => status,
+    };
+    if status != Status::Ok {
+        // Where standard error fails too, the number of the status is all that is left to tell.
+        let _ = eprintln!(rt; "blkcrypt: {status}");
+    }
+    ExitCode::from(status.code())
+}
+
+/// Runs the words over standard input and output.
+fn run_over_streams(rt: &HostRuntime, words: &[String]) -> Status {
+    let mut script = StdSource::new(rt.stdin());
+    let mut out = StdSink::new(rt.stdout());
+    run(rt, rt.alloc(), words, &mut script, &mut out, &mut (), &())
+}
