@@ -42,13 +42,13 @@ unit_more cipher size n number was texts unit room l m is after e =
     let part : take (n * size + size - n * size) (drop (n * size) texts) ≡ take size (drop (n * size) was) = ap₂ (λ (k : ℕ) (xs : List ℕ). take k xs) width after.left in
     record {
       ciphered =
-        take-put_mid (n * size) (n * size + size - n * size) texts unit ((n + 1) * size) (omega arith) (omega arith)
-        ∙ ap₂ (λ (xs ys : List ℕ). xs ++ ys) after.ciphered (e ∙ ap₂ (λ (k : ℕ) (xs : List ℕ). cipher k xs) is part)
-        ∙ sym (each_unit-more cipher size n was);
+          take-put_mid (n * size) (n * size + size - n * size) texts unit ((n + 1) * size) (omega arith) (omega arith)
+          ∙ ap₂ (λ (xs ys : List ℕ). xs ++ ys) after.ciphered (e ∙ ap₂ (λ (k : ℕ) (xs : List ℕ). cipher k xs) is part)
+          ∙ sym (each_unit-more cipher size n was);
       left =
-        drop-put_mid (n * size) (n * size + size - n * size) texts unit ((n + 1) * size) (omega arith) (omega arith) (omega arith)
-        ∙ ap (λ k. drop k texts) (sym end) ∙ sym (drop-drop size (n * size) texts) ∙ ap (drop size) after.left
-        ∙ drop-drop size (n * size) was ∙ ap (λ k. drop k was) end;
+          drop-put_mid (n * size) (n * size + size - n * size) texts unit ((n + 1) * size) (omega arith) (omega arith) (omega arith)
+          ∙ ap (λ k. drop k texts) (sym end) ∙ sym (drop-drop size (n * size) texts) ∙ ap (drop size) after.left
+          ∙ drop-drop size (n * size) was ∙ ap (λ k. drop k was) end;
     }
 
 pub all_units : (cipher : ℕ → List ℕ → List ℕ) (size n m : ℕ) (was texts : List ℕ) → length texts ≡ m * size → n ≡ m

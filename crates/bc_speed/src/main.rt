@@ -2,28 +2,32 @@
 //!
 //! | Words | What is printed |
 //! |---|---|
-//! | `encrypt SIZE UNITS` | how fast so many data units of SIZE bytes are enciphered, and the digest of what comes out |
-//! | `decrypt SIZE UNITS` | the same of deciphering |
-//! | `expand KEYS` | how fast so many keys are expanded |
-//! | `digest SIZE UNITS` | the digests of both ways alone, which are the same at each run |
+//! | `encrypt MODE SIZE UNITS` | how fast so many data units of SIZE bytes are enciphered, and the digest of what comes out |
+//! | `decrypt MODE SIZE UNITS` | the same of deciphering |
+//! | `expand MODE KEYS` | how fast so many keys are expanded |
+//! | `digest MODE SIZE UNITS` | the digests of both ways alone, which are the same at each run |
 //! | `unit encrypt KEY NUMBER TEXT` | the raw bytes of one data unit, all in hexadecimal digits |
 //! | `unit decrypt KEY NUMBER TEXT` | the text of one data unit's raw bytes |
 //!
-//! Unit i of a measurement has the number i, its texts are the same at each run, and the key has the bytes 00 to 3f.
+//! MODE is `xts` or `essiv`; of a single unit the length of KEY tells it. Unit i of a measurement has the number i, its
+//! texts are the same at each run, and the key has the bytes 00 to 3f, or 00 to 0f.
 #![tactic(auto)]
+
+ghost use Rattle.std.specs.Prelude.{◌≡◌, length};
 
 mod measure;
 mod single;
 mod units;
 
 use anyhow::{Context, Result, bail};
-use bc_key::DataUnit;
+use bc_key::{DataUnit, Mode};
 use measure::Direction;
 use std::alloc::Global;
 use std::env;
 use std::rt::Clock;
 
-const USAGE: &str = "words: encrypt|decrypt SIZE UNITS, expand KEYS, digest SIZE UNITS, unit encrypt|decrypt KEY NUMBER TEXT";
+const USAGE: &str =
+    "words: encrypt|decrypt|digest xts|essiv SIZE UNITS, expand xts|essiv KEYS, unit encrypt|decrypt KEY NUMBER TEXT";
 
 /// How many data units a measurement may have: those of 4096 bytes then fill 256 MiB.
 const MOST_UNITS: u32 = 65536;
@@ -59,23 +63,44 @@ fn direction(word: &str) -> Option<Direction> {
     }
 }
 
+/// Which mode.
+fn mode(word: &str) -> Result<Mode> {
+    if word == "xts" {
+        Ok(Mode::Aes256Xts)
+    } else if word == "essiv" {
+        Ok(Mode::Aes128CbcEssiv)
+    } else {
+        bail!("MODE is xts or essiv")
+    }
+}
+
+/// Measures, or prints digests: a word, the mode, the data unit's size and how many units.
+fn many_units(rt: &(impl Print + Clock), alloc: Global, words: &[String]) -> Result<()>
+    requires { length words.now ≡ 4 }
+{
+    let mode = mode(words[1].as_str())?;
+    let unit = size(words[2].as_str())?;
+    let units = number(words[3].as_str(), MOST_UNITS)?;
+    if words[0].as_str() == "digest" {
+        return measure::digests(rt, alloc, mode, unit, units);
+    }
+    let way = direction(words[0].as_str()).context(USAGE)?;
+    measure::speed(rt, alloc, way, mode, unit, units)
+}
+
 /// Does what the words ask for.
 fn run(rt: &(impl Print + Clock), alloc: Global, words: &[String]) -> Result<()> {
-    if words.len() == 3 && words[0].as_str() == "digest" {
-        let units = number(words[2].as_str(), MOST_UNITS)?;
-        return measure::digests(rt, alloc, size(words[1].as_str())?, units);
+    if words.len() == 4 {
+        return many_units(rt, alloc, words);
     }
-    if words.len() == 2 && words[0].as_str() == "expand" {
-        return measure::expansions(rt, number(words[1].as_str(), MOST_KEYS)?);
+    if words.len() == 3 && words[0].as_str() == "expand" {
+        let keys = number(words[2].as_str(), MOST_KEYS)?;
+        return measure::expansions(rt, mode(words[1].as_str())?, keys);
     }
     if words.len() == 5 && words[0].as_str() == "unit" {
         let way = direction(words[1].as_str()).context(USAGE)?;
-        return single::show(rt, alloc, way, words[2].as_str(), words[3].as_str(), words[4].as_str());
-    }
-    if words.len() == 3 {
-        let way = direction(words[0].as_str()).context(USAGE)?;
-        let units = number(words[2].as_str(), MOST_UNITS)?;
-        return measure::speed(rt, alloc, way, size(words[1].as_str())?, units);
+        let (key, number, text) = (words[2].as_str(), words[3].as_str(), words[4].as_str());
+        return single::show(rt, alloc, way, key, number, text);
     }
     bail!("{USAGE}")
 }

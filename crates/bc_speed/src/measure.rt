@@ -19,7 +19,7 @@ pub enum Direction {
     Decrypt,
 }
 
-/// The key of all measurements: the bytes 00 to 3f.
+/// The key of all measurements: the bytes 00 to 3f, of which ESSIV takes the first 16.
 fn key() -> [u8; 64] {
     let mut key = [0; 64];
     for i in 0..64 {
@@ -53,22 +53,35 @@ fn print_digest(rt: &impl Print, alloc: Global, what: &str, bytes: &[u8]) -> Res
 }
 
 /// Prints how fast units of this size go this way, in MB (millions of bytes) a second, and the digest of what comes out.
-pub fn speed(rt: &(impl Print + Clock), alloc: Global, way: Direction, unit: DataUnit, units: u32) -> Result<()> {
+pub fn speed(
+    rt: &(impl Print + Clock),
+    alloc: Global,
+    way: Direction,
+    mode: Mode,
+    unit: DataUnit,
+    units: u32,
+) -> Result<()> {
     let size = unit.bytes() as usize;
     let mut texts = units::texts(alloc, units as usize * size)?;
-    let cipher = UnitCipher::of_parts(Mode::Aes256Xts, unit, &key());
+    let cipher = UnitCipher::of_parts(mode, unit, &key());
     let start = Instant::now(rt)?;
     carry_out(way, &cipher, texts.as_mut_slice(), size, units as usize);
     let took = start.elapsed(rt)?;
     let rate = a_microsecond(texts.len() as u64, took);
-    println!(rt; "{way:?} {size}: {rate} MB/s")?;
+    println!(rt; "{way:?} {mode:?} {size}: {rate} MB/s")?;
     print_digest(rt, alloc, "out", texts.as_slice())
 }
 
 /// Prints the digests of the units enciphered, and of the same units deciphered.
-pub fn digests(rt: &impl Print, alloc: Global, unit: DataUnit, units: u32) -> Result<()> {
+pub fn digests(
+    rt: &impl Print,
+    alloc: Global,
+    mode: Mode,
+    unit: DataUnit,
+    units: u32,
+) -> Result<()> {
     let size = unit.bytes() as usize;
-    let cipher = UnitCipher::of_parts(Mode::Aes256Xts, unit, &key());
+    let cipher = UnitCipher::of_parts(mode, unit, &key());
     let mut texts = units::texts(alloc, units as usize * size)?;
     units::encrypt_all(&cipher, texts.as_mut_slice(), size, units as usize);
     print_digest(rt, alloc, "enciphered", texts.as_slice())?;
@@ -78,15 +91,15 @@ pub fn digests(rt: &impl Print, alloc: Global, unit: DataUnit, units: u32) -> Re
 }
 
 /// Prints how many thousand keys are expanded in a second.
-pub fn expansions(rt: &(impl Print + Clock), keys: u32) -> Result<()> {
+pub fn expansions(rt: &(impl Print + Clock), mode: Mode, keys: u32) -> Result<()> {
     let mut raw = key();
     let start = Instant::now(rt)?;
     for i in 0..keys {
         raw[0] = (i & 0xff) as u8;
-        drop(black_box(UnitCipher::of_parts(Mode::Aes256Xts, DataUnit::Bytes4096, black_box(&raw))));
+        drop(black_box(UnitCipher::of_parts(mode, DataUnit::Bytes4096, black_box(&raw))));
     }
     let took = start.elapsed(rt)?;
     let rate = a_microsecond(u64::from(keys) * 1000, took);
-    println!(rt; "expand: {rate} thousand keys/s")?;
+    println!(rt; "expand {mode:?}: {rate} thousand keys/s")?;
     Ok(())
 }

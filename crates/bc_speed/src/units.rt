@@ -18,13 +18,19 @@ pub fn texts(alloc: Global, bytes: usize) -> Result<Vec<u8>, AllocError>
 }
 
 /// Byte i is the lowest byte of 31·i / 8.
-fn fill(texts: &mut [u8])
-{
+fn fill(texts: &mut [u8]) {
     let mut product = 0u64;
     for byte in texts.iter_mut() {
         *byte = (product >> 3 & 0xff) as u8;
         product = product.wrapping_add(31);
     }
+}
+
+/// The number of a unit.
+fn number(unit: usize) -> Dun
+    ensures { result ≡ unit }
+{
+    Dun::from_words([unit as u64, 0, 0, 0])
 }
 
 /// Enciphers the units in place.
@@ -34,8 +40,7 @@ pub fn encrypt_all(cipher: &UnitCipher, texts: &mut [u8], size: usize, units: us
     ensures { texts.new ≡ each_unit (encipher_unit cipher.now.mode cipher.now.raw) size units texts.old }
 {
     for unit in 0..units {
-        let dun = Dun::from_words([unit as u64, 0, 0, 0]);
-        cipher.encrypt(&dun, &mut texts[unit * size..unit * size + size]);
+        cipher.encrypt(&number(unit), &mut texts[unit * size..unit * size + size]);
     }
 }
 
@@ -46,7 +51,6 @@ pub fn decrypt_all(cipher: &UnitCipher, texts: &mut [u8], size: usize, units: us
     ensures { texts.new ≡ each_unit (decipher_unit cipher.now.mode cipher.now.raw) size units texts.old }
 {
     for unit in 0..units {
-        let dun = Dun::from_words([unit as u64, 0, 0, 0]);
-        cipher.decrypt(&dun, &mut texts[unit * size..unit * size + size]);
+        cipher.decrypt(&number(unit), &mut texts[unit * size..unit * size + size]);
     }
 }
