@@ -138,7 +138,7 @@ script_lines_are_lines s valid =
         (
           (omega arith, (IsField-from_test (codes "fallback") refl, (IsField-from_test (codes "on") refl, tt))),
           All-append _ _ (key_lines_are s.keys valid.keys.each)
-          (All-append _ _ (sections_are s.keys (8 * s.blocks) valid.keys (omega arith) s.threads valid.threads.each) ((omega arith, (IsField-from_test (codes "end") refl, tt)), tt)),
+              (All-append _ _ (sections_are s.keys (8 * s.blocks) valid.keys (omega arith) s.threads valid.threads.each) ((omega arith, (IsField-from_test (codes "end") refl, tt)), tt)),
         ),
       ),
     )

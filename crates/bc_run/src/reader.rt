@@ -17,6 +17,7 @@ use std::alloc::{AllocError, AllocFailed, Global};
 
 /// The most keys, and the most operations of a section.
 const MAX_KEYS: usize = 1;
+
 const MAX_OPS: usize = 65536;
 
 /// Why lines were not read.

@@ -9,19 +9,23 @@ use crate::named_key::NamedKey;
 use bc_key::{Key, KeyNo, Mode};
 use std::test::Fail;
 
-/// Key a: AES-256-XTS over data units of 512 bytes, with 8 number bytes, under the bytes 00 to 3f.
-fn key_a() -> Result<NamedKey, Fail>
+/// A key of AES-256-XTS over data units of 512 bytes, with 8 number bytes.
+fn key_of(raw: &[u8]) -> Result<NamedKey, Fail>
     ensures { IfOk result IsNamedKey }
 {
-    let mut raw = [0; 64];
-    for i in 0..64 {
-        raw[i] = i as u8;
-    }
-    let key = Key::new(Mode::Aes256Xts, &raw, 512, 8)?;
+    let key = Key::new(Mode::Aes256Xts, raw, 512, 8)?;
     let Some(name) = Name::of(b"a") else {
         unreachable!()
     };
     Ok(NamedKey { name, key })
+}
+
+/// The one whose bytes are 00 to 3f.
+fn key_a(alloc: Global) -> Result<NamedKey, Fail>
+    ensures { IfOk result IsNamedKey }
+{
+    let raw: Vec<u8> = (0..64u8).collect(alloc)?;
+    key_of(raw.as_slice())
 }
 
 /// The context of key 0 and number 0.
@@ -58,12 +62,7 @@ fn read(sector: u32) -> Op
 }
 
 /// A script of one key and one section.
-fn script_of(
-    alloc: Global,
-    blocks: u32,
-    named: NamedKey,
-    section: Vec<Op>,
-) -> Result<Script, Fail>
+fn script_of(alloc: Global, blocks: u32, named: NamedKey, section: Vec<Op>) -> Result<Script, Fail>
     requires blocks { IsDiskSize blocks }
     requires key { IsNamedKey named }
     requires section { IsSection (named.key ∷ []) (8 * blocks) section.items }
@@ -73,11 +72,7 @@ fn script_of(
     keys.push(named)?;
     let mut threads = Vec::new(alloc);
     threads.push(Items::from_vec(section))?;
-    Ok(Script::new(
-        blocks,
-        Items::from_vec(keys),
-        Items::from_vec(threads),
-    ))
+    Ok(Script::new(blocks, Items::from_vec(keys), Items::from_vec(threads)))
 }
 
 /// The entry of operation number op of thread 0.
@@ -96,12 +91,15 @@ fn soft(op: u32) -> Line {
 fn a_write_and_a_read_of_one_unit(rt: HostRuntime) -> Result<(), Fail> {
     let alloc = rt.alloc();
     let section = vec![in alloc; write(0, 0), read(0)]?;
-    let script = script_of(alloc, 1, key_a()?, section)?;
+    let script = script_of(alloc, 1, key_a(alloc)?, section)?;
     let finished = serial(alloc, &script, vec![in alloc; 0; 4096]?, 1)?;
 
     let answers = finished.report.threads();
     assert_eq!(rt; answers.len(), 1);
-    assert_eq!(rt; answers[0].as_slice(), [Answer::Wrote, Answer::ReadFill(0)].as_slice());
+    assert_eq!(rt;
+        answers[0].as_slice(),
+        [Answer::Wrote, Answer::ReadFill(0)].as_slice()
+    );
     let lines = finished.report.shards();
     assert_eq!(rt; lines.len(), 1);
     assert_eq!(rt; lines[0].as_slice(), [soft(0), soft(1)].as_slice());
@@ -112,7 +110,7 @@ fn a_write_and_a_read_of_one_unit(rt: HostRuntime) -> Result<(), Fail> {
 fn blocks_take_turns_among_the_shards(rt: HostRuntime) -> Result<(), Fail> {
     let alloc = rt.alloc();
     let section = vec![in alloc; write(0, 1), write(8, 2), write(16, 3), write(24, 4)]?;
-    let script = script_of(alloc, 4, key_a()?, section)?;
+    let script = script_of(alloc, 4, key_a(alloc)?, section)?;
     let finished = serial(alloc, &script, vec![in alloc; 0; 16384]?, 3)?;
 
     let lines = finished.report.shards();
