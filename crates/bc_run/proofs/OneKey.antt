@@ -1,9 +1,8 @@
 -- A script of one key and one section keeps the rules where they do.
-use Rattle.std.proofs.Common.{◌≡◌, ℕ, ◌*◌, ◌^◌, ◌<◌, ◌≤◌, List, [], ◌∷◌, refl, arith, Some}
-use Rattle.bc_key.specs.KeyData.{KeyData}
+use Rattle.std.proofs.Common.{ℕ, ◌*◌, ◌^◌, ◌<◌, List, [], ◌∷◌, arith}
 use Rattle.bc_run.specs.declared.named_key.NamedKey.{NamedKey}
 use Rattle.bc_run.specs.declared.op.Op.{Op}
-use Rattle.bc_run.specs.Script.{Script, IsScript, IsDiskSize, IsNamedKey, IsSection, IsContext}
+use Rattle.bc_run.specs.Script.{IsScript, IsDiskSize, IsNamedKey, IsSection}
 
 pub one_key : (blocks : ℕ) (named : NamedKey) (section : List Op) → IsDiskSize blocks → IsNamedKey named → IsSection (named.key ∷ []) (8 * blocks) section
     → IsScript (record { blocks = blocks; keys = named ∷ []; threads = section ∷ [] })

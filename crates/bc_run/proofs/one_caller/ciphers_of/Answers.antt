@@ -1,4 +1,4 @@
-use Rattle.std.proofs.Common.{◌≡◌, map, ap, sym, ◌∙◌, arith}
+use Rattle.std.proofs.Common.{map, ap, sym, ◌∙◌, arith}
 use Rattle.std.proofs.lemmas.List.{take_all}
 use Rattle.bc_modes.specs.UnitCipher.{parts_of}
 use Rattle.bc_run.specs.declared.named_key.NamedKey.{NamedKey}

@@ -1,4 +1,4 @@
-use Rattle.std.proofs.Common.{◌≡◌, false, length, refl, ap}
+use Rattle.std.proofs.Common.{◌≡◌, false, length, refl}
 use Rattle.std.specs.List.{list_any}
 use Rattle.bc_text.specs.Fields.{is_upper_digit}
 use Rattle.bc_text.proofs.HexTexts.{decoded_into, not_decoded_into, lower-encode_lower}
