@@ -15,34 +15,43 @@ if ! [ -x "$program" ]; then
 fi
 command -v openssl >/dev/null || { echo "speed: no openssl here" >&2; exit 1; }
 
-# ours WAY SIZE UNITS: MB/s
+# ours MODE WAY SIZE: MB/s
 ours() {
-    "$program" "$1" xts "$2" "$3" | sed -n 's/^.*: \([0-9]*\) MB\/s$/\1/p'
+    "$program" "$2" "$1" "$3" $((67108864 / $3 / 2)) | sed -n 's/^.*: \([0-9]*\) MB\/s$/\1/p'
 }
 
-# theirs FLAG SIZE: MB/s, where FLAG is -decrypt or empty
+# theirs MODE WAY SIZE: MB/s of the cipher that is nearest
 theirs() {
-    openssl speed -elapsed -seconds 1 $1 -evp aes-256-xts -bytes "$2" 2>/dev/null |
-        sed -n 's/^AES-256-XTS *\([0-9]*\).*k$/\1/p' | awk '{ printf "%d", $1 / 1000 }'
+    case $1 in
+        xts) cipher=aes-256-xts ;;
+        *) cipher=aes-128-cbc ;;
+    esac
+    case $2 in
+        decrypt) flag=-decrypt ;;
+        *) flag= ;;
+    esac
+    openssl speed -elapsed -seconds 1 $flag -evp "$cipher" -bytes "$3" 2>/dev/null |
+        sed -n 's/^AES-[A-Z0-9-]* *\([0-9]*\).*k$/\1/p' | awk '{ printf "%d", $1 / 1000 }'
 }
 
 best() {
     if [ "$1" -gt "$2" ]; then echo "$1"; else echo "$2"; fi
 }
 
-printf '%-8s %5s %10s %22s %18s %7s\n' way bytes "ours MB/s" "without hardware AES" "with hardware AES" ratio
-for size in 4096 512; do
-    for way in encrypt decrypt; do
-        if [ "$way" = decrypt ]; then flag=-decrypt; else flag=; fi
-        our=0 soft=0 hard=0 round=0
-        while [ "$round" -lt "$rounds" ]; do
-            our=$(best "$(ours "$way" "$size" $((67108864 / size / 2)))" "$our")
-            soft=$(best "$(OPENSSL_ia32cap='~0x200000200000000' theirs "$flag" "$size")" "$soft")
-            hard=$(best "$(theirs "$flag" "$size")" "$hard")
-            round=$((round + 1))
+printf '%-6s %-8s %5s %10s %22s %18s %7s\n' mode way bytes "ours MB/s" "without hardware AES" "with hardware AES" ratio
+for mode in xts essiv; do
+    for size in 4096 512; do
+        for way in encrypt decrypt; do
+            our=0 soft=0 hard=0 round=0
+            while [ "$round" -lt "$rounds" ]; do
+                our=$(best "$(ours "$mode" "$way" "$size")" "$our")
+                soft=$(best "$(OPENSSL_ia32cap='~0x200000200000000' theirs "$mode" "$way" "$size")" "$soft")
+                hard=$(best "$(theirs "$mode" "$way" "$size")" "$hard")
+                round=$((round + 1))
+            done
+            ratio=$(awk "BEGIN { printf \"%.2f\", $our / $soft }")
+            printf '%-6s %-8s %5s %10s %22s %18s %7s\n' "$mode" "$way" "$size" "$our" "$soft" "$hard" "$ratio"
         done
-        ratio=$(awk "BEGIN { printf \"%.2f\", $our / $soft }")
-        printf '%-8s %5s %10s %22s %18s %7s\n' "$way" "$size" "$our" "$soft" "$hard" "$ratio"
     done
 done
 "$program" expand xts 200000
