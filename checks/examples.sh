@@ -1,0 +1,84 @@
+#!/bin/sh
+# Runs the program as a user does. Each examples/NAME.txt must print exactly examples/NAME.out. Then each way in which a
+# run ends without a report must have its status and its one line on standard error, and nothing on standard output.
+#
+# The .out files are written by hand from the rules of docs/SCRIPT.md, and the digest in one of them was computed with
+# Python's `cryptography`. The program made none of them.
+set -u
+cd "$(dirname "$0")/.." || exit 1
+
+# One run, which builds the program where it isn't built. Where it can't be run at all, the launcher has said why.
+./blkcrypt serial <examples/empty.txt >/dev/null || { echo "examples: the program doesn't run"; exit 1; }
+
+scratch=$(mktemp -d) || exit 1
+trap 'rm -rf "$scratch"' EXIT
+found=$scratch/found
+said=$scratch/said
+count=0
+
+fail() {
+    echo "examples: $1"
+    exit 1
+}
+
+# example NAME: the script prints its report and says nothing else
+example() {
+    ./blkcrypt serial <"examples/$1.txt" >"$found" 2>"$said" || fail "$1 ends with status $?"
+    diff "examples/$1.out" "$found" || fail "$1 prints another report"
+    [ -s "$said" ] && fail "$1 says on standard error: $(cat "$said")"
+    count=$((count + 1))
+}
+
+# ends NAME STATUS WANTED LINE: the run that left $found and $said ended with WANTED and said LINE
+ends() {
+    [ "$2" = "$3" ] || fail "$1 ends with status $2, not $3"
+    [ "$(cat "$said")" = "blkcrypt: $4" ] || fail "$1 says: $(cat "$said")"
+    [ "$(wc -l <"$said")" -eq 1 ] || fail "$1 says more than one line"
+    [ -s "$found" ] && fail "$1 writes to standard output"
+    count=$((count + 1))
+}
+
+for script in examples/*.txt; do
+    example "$(basename "$script" .txt)"
+done
+
+# words that are no command
+./blkcrypt <examples/first.txt >"$found" 2>"$said"
+ends "no word" $? 1 "bad command line"
+./blkcrypt serial x <examples/first.txt >"$found" 2>"$said"
+ends "a word too many" $? 1 "bad command line"
+./blkcrypt Serial <examples/first.txt >"$found" 2>"$said"
+ends "another word" $? 1 "bad command line"
+./blkcrypt "serial " <examples/first.txt >"$found" 2>"$said"
+ends "a word with a blank" $? 1 "bad command line"
+./blkcrypt "$(printf '\377')" <examples/first.txt >"$found" 2>"$said"
+ends "a word that isn't UTF-8" $? 1 "bad command line"
+
+# a text that is no script
+printf 'blkcrypt 2\n' | ./blkcrypt serial >"$found" 2>"$said"
+ends "a broken text" $? 2 "script line 1: not built"
+./blkcrypt serial </dev/null >"$found" 2>"$said"
+ends "an empty text" $? 2 "script line 1: not built"
+
+# standard input that can't be read
+./blkcrypt serial <. >"$found" 2>"$said"
+ends "a directory as standard input" $? 3 "reading failed"
+./blkcrypt serial <&- >"$found" 2>"$said"
+ends "a closed standard input" $? 3 "reading failed"
+
+# standard output that can't be written
+: >"$found"
+./blkcrypt serial <examples/first.txt 2>"$said" >&-
+ends "a closed standard output" $? 4 "writing failed"
+if [ -c /dev/full ]; then
+    ./blkcrypt serial <examples/first.txt 2>"$said" >/dev/full
+    ends "a full standard output" $? 4 "writing failed"
+fi
+
+# the longest text that is read, and one byte more
+head -c 16777216 /dev/zero | ./blkcrypt serial >"$found" 2>"$said"
+ends "a text of 16777216 bytes" $? 2 "script line 1: not built"
+head -c 16777217 /dev/zero | ./blkcrypt serial >"$found" 2>"$said"
+ends "a text of 16777217 bytes" $? 7 "input longer than 16777216 bytes"
+
+echo "examples: $count runs as expected"
