@@ -81,4 +81,9 @@ ends "a text of 16777216 bytes" $? 2 "script line 1: not built"
 head -c 16777217 /dev/zero | ./blkcrypt serial >"$found" 2>"$said"
 ends "a text of 16777217 bytes" $? 7 "input longer than 16777216 bytes"
 
+# a disk of 64 MiB where a process gets less
+printf 'blkcrypt 1\ndisk 16384\nfallback on\nend\n' >"$scratch/large"
+(ulimit -v 60000 && exec ./blkcrypt serial) <"$scratch/large" >"$found" 2>"$said"
+ends "a disk larger than memory" $? 9 "no memory"
+
 echo "examples: $count runs as expected"
