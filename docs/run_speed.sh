@@ -4,8 +4,9 @@
 #     docs/run_speed.sh [ROUNDS]        15 rounds where no number is given
 #
 # The run has as many operations as a script may have, half of them writes and half reads, spread over the largest disk.
-# The ciphers alone take as many data units one way and the other. It needs `rt`, or blkcrypt and bc_speed that are
-# built, and GNU time for the peak of memory. Run it on a machine that does nothing else. MB are millions of bytes.
+# A second run has as many over a disk of one block, so that the image costs it nothing. The ciphers alone take as many
+# data units one way and the other. It needs `rt`, or blkcrypt and bc_speed that are built, and GNU time for the peak of
+# memory. Run it on a machine that does nothing else. MB are millions of bytes.
 set -u
 cd "$(dirname "$0")/.." || exit 1
 rounds=${1:-15}
@@ -21,18 +22,33 @@ fi
 scratch=$(mktemp -d) || exit 1
 trap 'rm -rf "$scratch"' EXIT
 
-# Each sector that is used has its own place, number and byte, and is written and then read.
-awk -v blocks="$blocks" -v pairs="$pairs" 'BEGIN {
-    print "blkcrypt 1\ndisk " blocks "\nfallback on"
-    printf "key a aes-256-xts 512 8 "
-    for (i = 0; i < 64; i++) printf "%02x", i
-    print "\nthread"
-    for (i = 0; i < pairs; i++) {
-        sector = i * (8 * blocks / pairs)
-        printf "write a %d 1 %x fill %02x\nread a %d 1 %x\n", sector, sector, i % 256, sector, sector
-    }
-    print "end"
-}' >"$scratch/script"
+# script BLOCKS: each data unit has its own number and byte, and is written and then read
+script() {
+    awk -v blocks="$1" -v pairs="$pairs" 'BEGIN {
+        print "blkcrypt 1\ndisk " blocks "\nfallback on"
+        printf "key a aes-256-xts 512 8 "
+        for (i = 0; i < 64; i++) printf "%02x", i
+        print "\nthread"
+        for (i = 0; i < pairs; i++) {
+            sector = int(i * 8 * blocks / pairs)
+            printf "write a %d 1 %x fill %02x\nread a %d 1 %x\n", sector, 4 * i, i % 256, sector, 4 * i
+        }
+        print "end"
+    }'
+}
+script "$blocks" >"$scratch/script"
+script 1 >"$scratch/small_script"
+
+# run SCRIPT: microseconds, and a line with the peak of memory
+run() {
+    start=$(date +%s%N)
+    /usr/bin/time -f %M -a -o "$scratch/$1_memory" "$program" serial <"$scratch/$1" >"$scratch/report" || exit 1
+    echo $((($(date +%s%N) - start) / 1000)) >>"$scratch/$1_time"
+    if [ "$(grep -c '^done fill' "$scratch/report")" -ne "$pairs" ]; then
+        echo "run_speed: a read gave another text" >&2
+        exit 1
+    fi
+}
 
 # cipher WAY: microseconds for all data units of one way
 cipher() {
@@ -47,24 +63,22 @@ middle() {
 round=0
 while [ "$round" -lt "$rounds" ]; do
     cipher encrypt >>"$scratch/encipher"
-    start=$(date +%s%N)
-    /usr/bin/time -f %M -a -o "$scratch/memory" "$program" serial <"$scratch/script" >"$scratch/report" || exit 1
-    echo $((($(date +%s%N) - start) / 1000)) >>"$scratch/run"
+    run script
+    run small_script
     cipher decrypt >>"$scratch/decipher"
     round=$((round + 1))
 done
 
-if [ "$(grep -c '^done fill' "$scratch/report")" -ne "$pairs" ]; then
-    echo "run_speed: a read gave another text" >&2
-    exit 1
-fi
-awk -v run="$(middle run)" -v encipher="$(middle encipher)" -v decipher="$(middle decipher)" \
-    -v kibibytes="$(sort -n "$scratch/memory" | tail -n 1)" -v image=$((4096 * blocks)) \
+awk -v run="$(middle script_time)" -v small="$(middle small_script_time)" \
+    -v encipher="$(middle encipher)" -v decipher="$(middle decipher)" \
+    -v kibibytes="$(sort -n "$scratch/script_memory" | tail -n 1)" -v image=$((4096 * blocks)) \
     -v text="$(wc -c <"$scratch/script")" 'BEGIN {
     alone = encipher + decipher
     printf "the run          %6.0f ms\n", run / 1e3
     printf "ciphers alone    %6.0f ms: %.0f and %.0f for the two ways\n", alone / 1e3, encipher / 1e3, decipher / 1e3
     printf "all else         %6.0f ms: %.2f of the run\n", (run - alone) / 1e3, (run - alone) / run
+    printf "the second run   %6.0f ms\n", small / 1e3
+    printf "all else         %6.0f ms: %.2f of the second run\n", (small - alone) / 1e3, (small - alone) / small
     printf "peak of memory   %6.1f MB\n", kibibytes * 1024 / 1e6
     printf "image and text   %6.1f MB and %.2f MB; twice the one and 16 times the other are %.1f MB\n",
         image / 1e6, text / 1e6, (2 * image + 16 * text) / 1e6
