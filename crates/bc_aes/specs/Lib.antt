@@ -4,4 +4,5 @@ pub mod KeyExpansion
 pub mod Cipher
 pub mod Columns
 pub mod Blocks
+pub mod Slices
 pub mod Laws

@@ -17,6 +17,7 @@ mod laws;
 pub mod plain;
 mod rounds;
 mod schedule;
+mod slices;
 mod tables;
 
 pub use aes128::Aes128;
