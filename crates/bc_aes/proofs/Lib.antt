@@ -9,3 +9,5 @@ pub mod ByteLemmas
 pub mod UndoLemmas
 pub mod CipherLaws
 pub mod PlainLemmas
+pub mod CircuitLemmas
+pub mod CircuitTables

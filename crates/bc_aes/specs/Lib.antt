@@ -5,4 +5,5 @@ pub mod Cipher
 pub mod Columns
 pub mod Blocks
 pub mod Slices
+pub mod Circuit
 pub mod Laws

@@ -12,6 +12,7 @@
 mod aes128;
 mod aes256;
 mod blocks;
+mod circuit;
 mod columns;
 mod laws;
 pub mod plain;
