@@ -10,7 +10,7 @@ pub record Ciphered (cipher : List ℕ → List ℕ) (n : ℕ) (old new : List �
   pub done : (k : ℕ) → k < n → block new k ≡ cipher (block old k)
   pub rest : drop (16 * n) new ≡ drop (16 * n) old
 
-kept : (xs ys : List ℕ) (n a b : ℕ) → take n xs ≡ take n ys → b ≤ n → slice_range xs a b ≡ slice_range ys a b
+pub kept : (xs ys : List ℕ) (n a b : ℕ) → take n xs ≡ take n ys → b ≤ n → slice_range xs a b ≡ slice_range ys a b
 kept xs ys n a b e h =
     between_is xs a b ∙ ap (λ (v : List ℕ). drop a v) (sym (take-take b n xs h) ∙ ap (λ (v : List ℕ). take b v) e ∙ take-take b n ys h)
     ∙ sym (between_is ys a b)

@@ -11,3 +11,5 @@ pub mod CipherLaws
 pub mod PlainLemmas
 pub mod CircuitLemmas
 pub mod CircuitTables
+pub mod ExchangeLemmas
+pub mod TransposeLemmas

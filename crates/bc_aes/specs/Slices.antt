@@ -1,6 +1,6 @@
 -- Eight blocks of 16 bytes in bit slices: bit k of byte p of slice j is bit j of byte p of block k. The contracts of
 -- private functions speak of these; no public one does.
-use Rattle.std.specs.Prelude.{◌≡◌, ℕ, ◌<◌, List, [], ◌∷◌, map, slice_index, slice_index_or}
+use Rattle.std.specs.Prelude.{◌≡◌, ℕ, ◌+◌, ◌-◌, ◌/◌, ◌%◌, ◌==◌, ◌<◌, if◌then◌else◌, List, [], ◌∷◌, map, slice_index, slice_index_or}
 use Rattle.std.specs.List.{range_with_len}
 use Rattle.std.specs.Int.{bit_at}
 use Rattle.bc_aes.specs.State.{byte_of_bits}
@@ -21,3 +21,24 @@ block_of slices k = map (byte_of slices k) (range_with_len 0 16)
 -- each block of the new slices is `f` of that block of the old ones
 pub record EachSlicedBlock (f : List ℕ → List ℕ) (old new : List (List ℕ)) : Type 0 where
   pub each : (k : ℕ) → k < 8 → block_of new k ≡ f (block_of old k)
+
+-- the 16 numbers of a slice are bytes
+abbrev pub AreBytes : List ℕ → Type 0
+AreBytes slice = (p : ℕ) → p < 16 → slice_index slice p < 256
+
+-- the bits of byte p of a slice
+abbrev pub bits_at : ℕ → List ℕ → List ℕ
+bits_at p slice = map (bit_at (slice_index slice p)) (range_with_len 0 8)
+
+-- bits of a that stay where they are by this step, and between them those of b, one step on
+abbrev pub lower_bits : ℕ → List ℕ → List ℕ → List ℕ
+lower_bits n a b = map (λ i. if i / n % 2 == 0 then slice_index a i else slice_index b (i - n)) (range_with_len 0 8)
+
+-- bits of b that stay where they are by this step, and between them those of a, one step back
+abbrev pub upper_bits : ℕ → List ℕ → List ℕ → List ℕ
+upper_bits n a b = map (λ i. if i / n % 2 == 0 then slice_index a (i + n) else slice_index b i) (range_with_len 0 8)
+
+-- c and d are slices a and b with the bits at every other step of n bits exchanged
+pub record Exchanged (n : ℕ) (a b c d : List ℕ) : Type 0 where
+  pub lower : (p : ℕ) → p < 16 → bits_at p c ≡ lower_bits n (bits_at p a) (bits_at p b)
+  pub upper : (p : ℕ) → p < 16 → bits_at p d ≡ upper_bits n (bits_at p a) (bits_at p b)
