@@ -11,7 +11,7 @@ use Rattle.bc_aes.specs.Blocks.{block}
 use Rattle.bc_aes.specs.Laws.{IsBytes, DeciphermentUndoes, EnciphermentMakesBlocks}
 use Rattle.bc_key.specs.DataUnitNumber.{iv_of}
 use Rattle.bc_modes.specs.ByBlocks.{by_blocks, xor_bytes}
-use Rattle.bc_modes.specs.CbcEssiv.{chained, link, essiv, essiv_encipher, essiv_decipher}
+use Rattle.bc_modes.specs.CbcEssiv.{chained, unchained, link, essiv, essiv_encipher, essiv_decipher}
 use Rattle.bc_modes.proofs.Blocks.{block_is, block-suc, flat_map-blocks}
 use Rattle.bc_modes.proofs.Bytes.{AreBytes, IsBytes-take, AreBytes-drop, IsBytes-xor, IsBytes-le_bytes, byte_at-lt, xor_bytes-twice}
 use Rattle.bc_modes.proofs.Links.{chain, chained_is}
@@ -110,7 +110,7 @@ module _ (undoes : DeciphermentUndoes) (makes : EnciphermentMakesBlocks) (key : 
 
   pub essiv-undone : (number : ℕ) (text : List ℕ) → length text % 16 ≡ 0 → AreBytes text
       → essiv_decipher key number (essiv_encipher key number text) ≡ text
-  unfolding essiv_encipher essiv_decipher
+  unfolding essiv_encipher essiv_decipher unchained
   essiv-undone number text whole are =
       let start : List ℕ = essiv key number in
       let all : List ℕ = raw start text in

@@ -3,6 +3,7 @@ pub mod Blocks
 pub mod Along
 pub mod Pieces
 pub mod Links
+pub mod Unchained
 pub mod Bytes
 pub mod CipherLengths
 pub mod UnitLaws

@@ -12,7 +12,7 @@ use Rattle.bc_aes.specs.Laws.{IsBytes, DeciphermentUndoes}
 use Rattle.bc_modes.specs.ByBlocks.{by_blocks, xor_bytes}
 use Rattle.bc_modes.specs.Tweak.{tweak_at}
 use Rattle.bc_modes.specs.Xts.{between_tweaks, tweak_block, tweaked, first_tweak, xts_encipher, xts_decipher}
-use Rattle.bc_modes.specs.CbcEssiv.{chained, link, essiv, essiv_encipher, essiv_decipher}
+use Rattle.bc_modes.specs.CbcEssiv.{chained, unchained, link, essiv, essiv_encipher, essiv_decipher}
 use Rattle.bc_modes.specs.UnitCipher.{encipher_unit, decipher_unit}
 use Rattle.bc_modes.proofs.Blocks.{block_is, flat_map-blocks}
 use Rattle.bc_modes.proofs.Bytes.{AreBytes, IsBytes-take, AreBytes-drop, IsBytes-xor, IsBytes-le_bytes, xor_bytes-twice}
@@ -68,7 +68,7 @@ length-encipher_unit Aes128CbcEssiv raw number text whole =
 -- and the contrary
 pub length-decipher_unit : (mode : Mode) (raw : List ℕ) (number : ℕ) (text : List ℕ) → length text % 16 ≡ 0
     → length (decipher_unit mode raw number text) ≡ length text
-unfolding decipher_unit xts_decipher essiv_decipher essiv
+unfolding decipher_unit xts_decipher essiv_decipher unchained essiv
 length-decipher_unit Aes256Xts raw number text whole =
     length-tweaked (decipher 8 (take 32 raw)) (first_tweak raw number) text whole (length-decipher 8 (take 32 raw))
 length-decipher_unit Aes128CbcEssiv raw number text whole =

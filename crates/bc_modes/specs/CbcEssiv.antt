@@ -25,7 +25,10 @@ link start text (suc j) = block text j
 unfoldable pub essiv_encipher : List ℕ → ℕ → List ℕ → List ℕ
 essiv_encipher key number text = by_blocks text (chained key (essiv key number) text)
 
--- the plaintext of a data unit: P_0 = D(C_0) xor S, and P_j = D(C_j) xor C_(j - 1)
+-- the plaintext of a chain that starts so: P_0 = D(C_0) xor S, and P_j = D(C_j) xor C_(j - 1)
+unfoldable pub unchained : List ℕ → List ℕ → List ℕ → List ℕ
+unchained key start text = by_blocks text (λ j. xor_bytes (decipher 4 key (block text j)) (link start text j))
+
+-- the plaintext of a data unit
 unfoldable pub essiv_decipher : List ℕ → ℕ → List ℕ → List ℕ
-essiv_decipher key number text =
-    by_blocks text (λ j. xor_bytes (decipher 4 key (block text j)) (link (essiv key number) text j))
+essiv_decipher key number text = unchained key (essiv key number) text

@@ -1,12 +1,14 @@
 //! AES-128-CBC-ESSIV over whole data units.
 //!
 //! Each block is added to the ciphertext's block before it. The first is added to the data unit's number, enciphered
-//! under the digest of the key.
-ghost use Rattle.std.specs.Prelude.{◌≡◌, ◌%◌, length};
-ghost use Rattle.bc_aes.specs.Cipher.{decipher, encipher};
+//! under the digest of the key. So encipherment goes from block to block, and decipherment takes eight at once.
+ghost use Rattle.std.specs.Prelude.{◌≡◌, ◌%◌, ◌++◌, length, take};
+ghost use Rattle.bc_aes.specs.Blocks.{block};
+ghost use Rattle.bc_aes.specs.Cipher.{encipher};
 ghost use Rattle.bc_modes.specs.ByBlocks.{xor_bytes};
-ghost use Rattle.bc_modes.specs.CbcEssiv.{essiv, essiv_decipher, essiv_encipher};
+ghost use Rattle.bc_modes.specs.CbcEssiv.{essiv, essiv_decipher, essiv_encipher, unchained};
 
+use crate::piece::{PIECE, add_blocks};
 use bc_aes::{Aes128, Aes256};
 use bc_key::Dun;
 use sha2::{Digest, Sha256};
@@ -53,14 +55,14 @@ impl Essiv {
         }
     }
 
-    /// Deciphers a text of whole blocks in place.
+    /// Deciphers a text of whole pieces in place.
     pub(crate) fn decrypt(&self, dun: &Dun, text: &mut [u8])
-        requires { length text.old % 16 ≡ 0 }
+        requires { length text.old % 128 ≡ 0 }
         ensures { text.new ≡ essiv_decipher self.now dun.now text.old }
     {
         let mut before = self.start(dun);
-        for block in 0..text.len() / 16 {
-            before = self.decrypt_link(&before, &mut text[16 * block..16 * block + 16]);
+        for piece in 0..text.len() / PIECE {
+            before = self.decrypt_piece(&before, &mut text[piece * PIECE..piece * PIECE + PIECE]);
         }
     }
 
@@ -87,20 +89,42 @@ impl Essiv {
         block
     }
 
-    /// Deciphers one block, and gives what it was for the next one.
-    fn decrypt_link(&self, before: &[u8; 16], text: &mut [u8]) -> [u8; 16]
-        requires { length text.old ≡ 16 }
-        ensures deciphers { text.new ≡ xor_bytes (decipher 4 self.now text.old) before.now }
-        ensures next { result ≡ text.old }
+    /// Deciphers eight blocks, and gives what the last one was for the next piece.
+    fn decrypt_piece(&self, before: &[u8; 16], piece: &mut [u8]) -> [u8; 16]
+        requires { length piece.old ≡ 128 }
+        ensures deciphers { piece.new ≡ unchained self.now before.now piece.old }
+        ensures next { result ≡ block piece.old 7 }
     {
-        let mut raw = [0; 16];
-        raw.copy_from_slice(text);
-        let mut block = raw;
-        self.data_key.decrypt_block(&mut block);
-        add_block(&mut block, before);
-        text.copy_from_slice(&block);
-        raw
+        let (links, next) = links_of(before, piece);
+        self.data_key.decrypt_blocks(piece);
+        add_blocks(piece, &links);
+        next
     }
+}
+
+/// What the blocks of a piece were added to before their encipherment, and what the block after them was.
+fn links_of(before: &[u8; 16], piece: &[u8]) -> ([u8; PIECE], [u8; 16])
+    requires { length piece.now ≡ 128 }
+    ensures links { result.0 ≡ before.now ++ take 112 piece.now }
+    ensures next { result.1 ≡ block piece.now 7 }
+{
+    let mut links = [0; PIECE];
+    put_links(&mut links, before, piece);
+    let mut next = [0; 16];
+    next.copy_from_slice(&piece[112..]);
+    (links, next)
+}
+
+/// Puts a block, and the piece but for its last one behind it.
+#[inline(always)]
+fn put_links(links: &mut [u8], before: &[u8; 16], piece: &[u8])
+    requires links { length links.old ≡ 128 }
+    requires piece { length piece.now ≡ 128 }
+    ensures { links.new ≡ before.now ++ take 112 piece.now }
+{
+    let (first, others) = links.split_at_mut(16);
+    first.copy_from_slice(before);
+    others.copy_from_slice(&piece[..PIECE - 16]);
 }
 
 /// Adds a block to a block.

@@ -7,6 +7,7 @@
 
 mod essiv;
 mod laws;
+mod piece;
 #[cfg(test)]
 mod tests;
 mod tweak;

@@ -1,15 +1,13 @@
 //! Tweaks: what XTS adds to a block before and after its encipherment.
 //!
 //! A tweak is a polynomial of 128 coefficients, here the bits of a `u128`. The next block's tweak is this one times x.
-ghost use Rattle.std.specs.Prelude.{◌≡◌, length};
-ghost use Rattle.bc_modes.specs.ByBlocks.{xor_bytes};
+ghost use Rattle.std.specs.Prelude.{◌≡◌};
 ghost use Rattle.bc_modes.specs.Tweak.{tweak_at};
 ghost use Rattle.bc_modes.specs.Xts.{tweak_bytes};
 
-/// How many bytes are enciphered together: eight blocks. Every data unit has a whole number of such pieces.
-pub(crate) const PIECE: usize = 128;
+use crate::piece::PIECE;
 
-/// How many blocks that is.
+/// How many blocks a piece has.
 const BLOCKS: usize = 8;
 
 /// The next block's tweak: this one times x, where x^128 is x^7 + x^2 + x + 1 (IEEE 1619, 5.2).
@@ -34,15 +32,4 @@ pub(crate) fn tweaks_from(first: u128) -> ([u8; PIECE], u128)
         tweak = next_tweak(tweak);
     }
     (tweaks, tweak)
-}
-
-/// Adds tweaks to a piece.
-#[inline(always)]
-pub(crate) fn add_tweaks(piece: &mut [u8], tweaks: &[u8; PIECE])
-    requires { length piece.old ≡ 128 }
-    ensures { piece.new ≡ xor_bytes piece.old tweaks.now }
-{
-    for i in 0..PIECE {
-        piece[i] ^= tweaks[i];
-    }
 }

@@ -7,7 +7,8 @@ ghost use Rattle.bc_aes.specs.Cipher.{encipher, decipher};
 ghost use Rattle.bc_modes.specs.Tweak.{tweak_at};
 ghost use Rattle.bc_modes.specs.Xts.{first_tweak, tweaked, xts_encipher, xts_decipher};
 
-use crate::tweak::{PIECE, add_tweaks, tweaks_from};
+use crate::piece::{PIECE, add_blocks};
+use crate::tweak::tweaks_from;
 use bc_aes::Aes256;
 use bc_key::Dun;
 use std::marker::Model;
@@ -82,9 +83,9 @@ impl Xts {
         ensures next { result ≡ tweak_at tweak 8 }
     {
         let (tweaks, next) = tweaks_from(tweak);
-        add_tweaks(piece, &tweaks);
+        add_blocks(piece, &tweaks);
         self.data_key.encrypt_blocks(piece);
-        add_tweaks(piece, &tweaks);
+        add_blocks(piece, &tweaks);
         next
     }
 
@@ -95,9 +96,9 @@ impl Xts {
         ensures next { result ≡ tweak_at tweak 8 }
     {
         let (tweaks, next) = tweaks_from(tweak);
-        add_tweaks(piece, &tweaks);
+        add_blocks(piece, &tweaks);
         self.data_key.decrypt_blocks(piece);
-        add_tweaks(piece, &tweaks);
+        add_blocks(piece, &tweaks);
         next
     }
 }

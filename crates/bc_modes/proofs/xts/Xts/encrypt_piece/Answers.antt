@@ -10,7 +10,7 @@ returns-clause-enciphers c =
     let keys = c.self.inside in
     let piece = c.args.piece.now in
     let first = sym (take_at keys.data_key keys.tweak_key 32 c.self.invariant) ∙ ap (take 32) c.self.view_is in
-    c.add_tweaks-2.ensures
-    ∙ piece_is (encipher 8 keys.data_key) c.args.tweak piece _ c.add_tweaks.new.piece _ c.requires (omega arith)
-    c.tweaks_from-next.ensures.tweaks c.add_tweaks.ensures c.encrypt_blocks.ensures.enciphers
+    c.add_blocks-2.ensures
+    ∙ piece_is (encipher 8 keys.data_key) c.args.tweak piece _ c.add_blocks.new.piece _ c.requires (omega arith)
+    c.tweaks_from-next.ensures.tweaks c.add_blocks.ensures c.encrypt_blocks.ensures.enciphers
     ∙ ap (λ key. tweaked (encipher 8 key) c.args.tweak piece) first
