@@ -2,7 +2,7 @@
 # Runs the program as a user does. Each examples/NAME.txt must print exactly examples/NAME.out. Then each way in which a
 # run ends without a report must have its status and its one line on standard error, and nothing on standard output.
 #
-# The .out files are written by hand from the rules of docs/SCRIPT.md, and the digest in one of them was computed with
+# The .out files are written by hand from the rules of docs/SCRIPT.md, and the digests in them were computed with
 # Python's `cryptography`. The program made none of them.
 set -u
 cd "$(dirname "$0")/.." || exit 1

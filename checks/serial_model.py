@@ -15,11 +15,12 @@ from cryptography.hazmat.primitives.ciphers import Cipher, algorithms, modes
 
 # ---- the script: what is accepted
 
+MOST_KEYS = 4096
 MOST_OPERATIONS = 65536
 
 DISK = re.compile(rb"disk ([1-9][0-9]{0,4})")
-KEY = re.compile(rb"key ([a-z][a-z0-9]{0,15}) aes-256-xts 512 8 ([0-9a-f]{128})")
-BIO = rb"([a-z0-9]+) (0|[1-9][0-9]{0,5}) 1 (0|[1-9a-f][0-9a-f]{0,15})"
+KEY = re.compile(rb"key ([a-z][a-z0-9]{0,15}) (aes-256-xts|aes-128-cbc-essiv) 512 ([1-9]|1[0-6]) ([0-9a-f]*)")
+BIO = rb"([a-z0-9]+) (0|[1-9][0-9]{0,5}) 1 (0|[1-9a-f][0-9a-f]*)"
 WRITE = re.compile(rb"write " + BIO + rb" fill ([0-9a-f]{2})")
 READ = re.compile(rb"read " + BIO)
 
@@ -40,45 +41,64 @@ def matched(form, line):
 
 
 def read_key(line):
-    """The name and the bytes of a key line."""
-    name, digits = matched(KEY, line)
+    """The name, the bytes and the number bytes of a key line. The count of a key's bytes tells its mode."""
+    name, mode, number_bytes, digits = matched(KEY, line)
+    must(len(digits) == (128 if mode == b"aes-256-xts" else 32))
     raw = bytes.fromhex(digits.decode())
-    must(raw[:32] != raw[32:])
-    return name, raw
+    must(len(raw) == 16 or raw[:32] != raw[32:])
+    return name, raw, int(number_bytes)
 
 
-def read_operation(line, name, sectors):
-    """An operation as (sector, number, byte that is written or None)."""
+def read_keys(lines):
+    """Takes the key lines from the first lines: name -> (bytes, number bytes)."""
+    keys = {}
+    while lines and lines[0].split(b" ")[0] == b"key":
+        name, raw, number_bytes = read_key(lines.pop(0))
+        must(name not in keys and len(keys) < MOST_KEYS)
+        keys[name] = raw, number_bytes
+    return keys
+
+
+def read_operation(line, keys, sectors):
+    """An operation as (key's bytes, sector, number, byte that is written or None)."""
     form = WRITE if line.startswith(b"write") else READ
-    key, sector, number, *fill = matched(form, line)
-    must(key == name and int(sector) < sectors)
-    return int(sector), int(number, 16), int(fill[0], 16) if fill else None
+    name, sector, number, *fill = matched(form, line)
+    must(name in keys and int(sector) < sectors)
+    raw, number_bytes = keys[name]
+    must(len(number) <= 2 * number_bytes)
+    return raw, int(sector), int(number, 16), int(fill[0], 16) if fill else None
 
 
 def read_script(text):
-    """The key's bytes or None, and the operations of the section, or None where there is no section."""
+    """The operations of the section, or None where there is no section."""
     lines = text.split(b"\n")
     must(len(lines) >= 5 and lines.pop() == b"" and lines.pop() == b"end")
     must(lines.pop(0) == b"blkcrypt 1")
     blocks = int(*matched(DISK, lines.pop(0)))
     must(blocks <= 16384)
     must(lines.pop(0) == b"fallback on")
-    name = raw = None
-    if lines and lines[0].startswith(b"key"):
-        name, raw = read_key(lines.pop(0))
+    keys = read_keys(lines)
     if not lines:
-        return raw, None
+        return None
     must(lines.pop(0) == b"thread" and len(lines) <= MOST_OPERATIONS)
-    return raw, [read_operation(line, name, 8 * blocks) for line in lines]
+    return [read_operation(line, keys, 8 * blocks) for line in lines]
 
 
 # ---- the run: what is answered
 
 
-def crypted(raw, number, data, encipher):
-    cipher = Cipher(algorithms.AES(raw), modes.XTS(number.to_bytes(16, "little")))
+def through(cipher, encipher, data):
     way = cipher.encryptor() if encipher else cipher.decryptor()
     return way.update(data) + way.finalize()
+
+
+def crypted(raw, number, data, encipher):
+    """A data unit under a key of AES-256-XTS, or of AES-128-CBC-ESSIV where the key has 16 bytes."""
+    iv = number.to_bytes(16, "little")
+    if len(raw) == 64:
+        return through(Cipher(algorithms.AES(raw), modes.XTS(iv)), encipher, data)
+    start = through(Cipher(algorithms.AES(hashlib.sha256(raw).digest()), modes.ECB()), True, iv)
+    return through(Cipher(algorithms.AES(raw), modes.CBC(start)), encipher, data)
 
 
 def answer_of(data):
@@ -87,10 +107,10 @@ def answer_of(data):
     return "done sha256 " + hashlib.sha256(data).hexdigest()
 
 
-def answers_of(raw, operations):
+def answers_of(operations):
     """The answers in order, over a disk of zeros."""
     disk = {}
-    for sector, number, byte in operations:
+    for raw, sector, number, byte in operations:
         if byte is None:
             yield answer_of(crypted(raw, number, disk.get(sector, bytes(512)), False))
         else:
@@ -98,10 +118,10 @@ def answers_of(raw, operations):
             yield "done"
 
 
-def report_of(raw, operations):
+def report_of(operations):
     lines = ["report 1"]
     if operations is not None:
-        lines += ["thread 0", *answers_of(raw, operations)]
+        lines += ["thread 0", *answers_of(operations)]
     count = len(operations or [])
     lines += [f"shard 0 {count}", *(f"0 {place} 0 soft" for place in range(count)), "end"]
     return "".join(line + "\n" for line in lines).encode()
@@ -110,7 +130,7 @@ def report_of(raw, operations):
 def modelled(text):
     """What the program is to do: its status, its standard output and its standard error."""
     try:
-        return 0, report_of(*read_script(text)), b""
+        return 0, report_of(read_script(text)), b""
     except Refused:
         return 2, b"", b"blkcrypt: script line 1: not built\n"
 
@@ -124,8 +144,12 @@ def head(blocks):
     return ["blkcrypt 1", f"disk {blocks}", "fallback on"]
 
 
-def key_line(dice, name="a"):
-    return f"key {name} aes-256-xts 512 8 {dice.randbytes(64).hex()}"
+XTS = "aes-256-xts"
+ESSIV = "aes-128-cbc-essiv"
+
+
+def key_line(dice, name="a", mode=XTS, number_bytes=8):
+    return f"key {name} {mode} 512 {number_bytes} {dice.randbytes(64 if mode == XTS else 16).hex()}"
 
 
 def text_of(lines):
@@ -140,24 +164,43 @@ def a_name(dice):
     return dice.choice(LETTERS) + "".join(dice.choices(LETTERS + "0123456789", k=dice.randrange(16)))
 
 
-def a_number(dice):
-    return dice.getrandbits(dice.choice([1, 4, 8, 32, 60, 63, 64]))
+def a_number(dice, number_bytes=8):
+    """A number of at most so many bytes, often one of the longest."""
+    bits = 8 * number_bytes
+    return dice.getrandbits(dice.choice([1, 4, 8, bits - 4, bits - 1, bits]) if bits > 8 else dice.choice([1, 4, 8]))
 
 
 def a_script(dice):
-    """A valid script of a few operations, which meet on a few sectors and numbers."""
+    """A valid script of a few keys and operations, which meet on a few sectors and numbers."""
     blocks = dice.choice([1, 1, 2, 10, 1000, 16384, dice.randrange(1, 16385)])
-    name = a_name(dice)
+    names = list({a_name(dice) for _ in range(dice.choice([1, 1, 2, 3, 8]))})
+    sizes = [dice.choice([1, 2, 4, 7, 8, 15, 16]) for _ in names]
+    keys = [key_line(dice, name, dice.choice([XTS, ESSIV]), size) for name, size in zip(names, sizes)]
     sectors = [dice.randrange(8 * blocks) for _ in range(3)] + [0, 8 * blocks - 1]
-    numbers = [a_number(dice) for _ in range(2)]
+    numbers = [a_number(dice, min(sizes)) for _ in range(2)]
     operations = []
     for _ in range(dice.choice([0, 1, 2, 5, 20])):
-        bio = f"{name} {dice.choice(sectors)} 1 {dice.choice(numbers):x}"
+        name, size = dice.choice(list(zip(names, sizes)))
+        number = dice.choice(numbers) if dice.random() < 0.8 else a_number(dice, size)
+        bio = f"{name} {dice.choice(sectors)} 1 {number:x}"
         if dice.random() < 0.5:
             operations.append(f"write {bio} fill {dice.randrange(256):02x}")
         else:
             operations.append(f"read {bio}")
-    return script(dice, operations, blocks, name)
+    return with_keys(keys, operations, blocks)
+
+
+def with_keys(keys, operations, blocks=1):
+    return text_of(head(blocks) + keys + ["thread", *operations, "end"])
+
+
+def key_name(place):
+    """Names of which no two are equal, and whose order isn't that of their places."""
+    return f"k{place * 2731 % 4096}"
+
+
+def many_keys(dice, count):
+    return [key_line(dice, key_name(place), XTS if place % 3 else ESSIV, 1 + place % 16) for place in range(count)]
 
 
 def every_sector(blocks):
@@ -192,6 +235,45 @@ def shapes(dice):
         dice, ["write a 0 1 1000000000000000 fill 00", "read a 0 1 1000000000000000"])
     yield "a name of 1 character", script(dice, ["write z 0 1 0 fill 00", "read z 0 1 0"], name="z")
     yield "a name of 16 characters", script(dice, [f"write {long} 0 1 0 fill 00", f"read {long} 0 1 0"], name=long)
+    yield "both modes on one disk", with_keys(
+        [key_line(dice), key_line(dice, "e", ESSIV, 16)],
+        ["write a 0 1 5 fill 11", "write e 1 1 5 fill 22", "read a 0 1 5", "read e 1 1 5"])
+    yield "a read under another key", with_keys(
+        ["key a aes-256-xts 512 8 " + bytes(range(64)).hex(), "key b aes-256-xts 512 8 " + bytes(range(64, 128)).hex()],
+        ["write a 0 1 0 fill 00", "read b 0 1 0", "read a 0 1 0"])
+    yield "a read under another mode", with_keys(
+        [key_line(dice), key_line(dice, "e", ESSIV)],
+        ["write a 0 1 0 fill 00", "read e 0 1 0", "write e 1 1 0 fill 00", "read a 1 1 0"])
+    yield "the worked example of CBC-ESSIV", with_keys(
+        ["key e aes-128-cbc-essiv 512 16 " + bytes(range(128, 144)).hex()],
+        ["write e 3 1 ff fill 5a", "read e 3 1 ff"])
+    same = dice.randbytes(64).hex()
+    yield "one key's bytes under two names", with_keys(
+        [f"key a aes-256-xts 512 8 {same}", f"key b aes-256-xts 512 4 {same}"],
+        ["write a 0 1 ffffffff fill 7e", "read b 0 1 ffffffff", "read a 0 1 1ffffffff"])
+    yield "a CBC-ESSIV key with equal halves", with_keys(
+        ["key e aes-128-cbc-essiv 512 1 " + "5a" * 16], ["write e 0 1 ff fill 00", "read e 0 1 ff"])
+    for mode in [XTS, ESSIV]:
+        for size in range(1, 17):
+            most = "f" * (2 * size)
+            yield f"the largest number of {size} bytes, {mode}", with_keys(
+                [key_line(dice, "a", mode, size)],
+                [f"write a 0 1 {most} fill 00", f"read a 0 1 {most}", f"read a 0 1 {most[1:]}"])
+    yield "numbers that differ above 64 bits", with_keys(
+        [key_line(dice, "a", XTS, 16), key_line(dice, "e", ESSIV, 16)],
+        [line for name in "ae" for line in (
+            f"write {name} 0 1 10000000000000005 fill 33", f"read {name} 0 1 5", f"read {name} 0 1 10000000000000005")])
+    yield "keys that nothing uses", with_keys(many_keys(dice, 20), [])
+    yield "keys without a section", text_of(head(1) + many_keys(dice, 20) + ["end"])
+    alike = ["a", "aa", "ab", "a0", "b", "a123456789abcdef", "a123456789abcdee"]
+    yield "names that begin alike", with_keys(
+        [key_line(dice, name) for name in alike],
+        [line for byte, name in enumerate(alike) for line in (f"write {name} {byte} 1 0 fill 0{byte}", f"read {name} {byte} 1 0")])
+    yield "as many keys as there may be", with_keys(
+        many_keys(dice, 4096),
+        [line for place in range(4096) for line in (
+            f"write {key_name(place)} {place} 1 {place % 256:x} fill {place % 256:02x}",
+            f"read {key_name(place)} {place} 1 {place % 256:x}")], 512)
     for word in ["key", "thread", "end", "write", "read", "fill", "disk"]:
         yield f"a key named {word}", script(dice, [f"write {word} 0 1 0 fill 00", f"read {word} 0 1 0"], name=word)
     yield "every byte", script(
@@ -203,6 +285,7 @@ def shapes(dice):
 # ---- broken scripts
 
 BASE_KEY = "key a aes-256-xts 512 8 " + bytes(range(64)).hex()
+ESSIV_KEY = "key a aes-128-cbc-essiv 512 16 " + bytes(range(128, 144)).hex()
 BASE = head(2) + [BASE_KEY, "thread", "write a 9 1 c0ffee fill 5a", "read a 9 1 c0ffee", "end"]
 
 # for a line of the base, lines that may not stand in its place
@@ -218,13 +301,19 @@ BROKEN_LINES = [
     (3, [BASE_KEY.replace("key", word, 1) for word in ["keys", "Key", "", " key"]]),
     (3, [BASE_KEY.replace(" a ", name, 1) for name in [" A ", " b ", " 1a ", " a_b ", " - ", "  ", " ", " \u00e9 "]]),
     (3, [BASE_KEY.replace(" a ", " abcdefghijklmnopq ", 1)]),
-    (3, [BASE_KEY.replace("aes-256-xts", mode, 1) for mode in ["aes-256-xtS", "aes-128-xts", "aes-128-cbc-essiv", ""]]),
+    (3, [BASE_KEY.replace("aes-256-xts", mode, 1) for mode in ["aes-256-xtS", "aes-128-xts", "aes-128-cbc-essiv", "aes-128-cbc", ""]]),
     (3, [BASE_KEY.replace("512", unit, 1) for unit in ["4096", "0512", "1024", "511", "", "5120"]]),
-    (3, [BASE_KEY.replace(" 8 ", size, 1) for size in [" 4 ", " 08 ", " 16 ", " 0 ", "  8 ", "\t8 ", " 8  ", " "]]),
+    (3, [BASE_KEY.replace(" 8 ", size, 1) for size in [" 2 ", " 08 ", " 17 ", " 0 ", " 1 0 ", " +8 ", "  8 ", "\t8 ", " 8  ", " "]]),
     (3, [BASE_KEY.replace("1a", digits, 1) for digits in ["1A", "1g", "1 a", "1\x00"]]),
     (3, [BASE_KEY[:-1], BASE_KEY[:-2], BASE_KEY[:-64], BASE_KEY[:-128], BASE_KEY[:-129]]),
     (3, [BASE_KEY + "0", BASE_KEY + "00", BASE_KEY + " ", BASE_KEY + " 00", BASE_KEY + "\r"]),
     (3, [BASE_KEY[:-128] + "5a" * 64, BASE_KEY[:-128] + "00" * 64]),
+    (3, [ESSIV_KEY[:-1], ESSIV_KEY[:-2], ESSIV_KEY[:-32], ESSIV_KEY + "00", ESSIV_KEY + "00" * 48, ESSIV_KEY + " "]),
+    (3, [ESSIV_KEY.replace(" 16 ", size, 1) for size in [" 0 ", " 17 ", " 016 ", " 256 ", " 272 ", " "]]),
+    (3, [ESSIV_KEY.replace("512", unit, 1) for unit in ["1024", "2048", "4096", "0", "16"]]),
+    (3, [ESSIV_KEY.replace("essiv", mode, 1) for mode in ["plain", "ESSIV", "essi", "essivs", "plain64"]]),
+    (3, [f"{BASE_KEY}\n{line}" for line in [BASE_KEY, ESSIV_KEY, BASE_KEY.replace("00", "01", 1), "key", "key b", ""]]),
+    (3, [f"{line}\n{ESSIV_KEY}" for line in [ESSIV_KEY, BASE_KEY, BASE_KEY.replace(" a ", " b ") + "\n" + BASE_KEY]]),
     (4, ["threads", "Thread", "thread 0", "thread ", " thread", "thread\r", "thread\nthread", ""]),
     (5, [f"write {key} 9 1 0 fill 5a" for key in ["b", "A", "aa", "", "-", "a a"]]),
     (5, [f"write a {sector} 1 0 fill 5a" for sector in ["16", "17", "09", "00", "-9", "+9", "9.0", "0x9", "a", ""]]),
@@ -250,7 +339,7 @@ BROKEN_PLACES = [
     (0, ["", "#", "blkcrypt 1"]),
     (2, ["disk 2", "", "device 0 2 1 1 0 8"]),
     (3, ["device 0 2 1 1 0 8", "fallback on", "fault 0 0", ""]),
-    (4, [BASE_KEY, BASE_KEY.replace(" a ", " b "), "fault 0 0", "device 0 2 1 1 0 8", "write a 0 1 0 fill 00", ""]),
+    (4, [BASE_KEY, ESSIV_KEY, "fault 0 0", "device 0 2 1 1 0 8", "write a 0 1 0 fill 00", ""]),
     (7, ["thread", BASE_KEY, "fallback on", ""]),
 ]
 
@@ -280,6 +369,20 @@ def broken(dice):
     yield "a second script", base + base
     yield "a text cut in two", base[len(base) // 2:]
     yield "an operation too many", script(dice, ["read a 0 1 0"] * 65537)
+    yield "a key too many", text_of(head(1) + many_keys(dice, 4096) + [key_line(dice, "z"), "end"])
+    for place in [0, 1, 2047, 4094]:
+        yield f"the name of key {place} of 4096 once more", text_of(
+            head(1) + many_keys(dice, 4095) + [key_line(dice, key_name(place)), "end"])
+    yield "two equal names far apart", with_keys([key_line(dice, "z"), *many_keys(dice, 100), key_line(dice, "z")], [])
+    yield "a name that isn't among many", with_keys(many_keys(dice, 4096), ["read k4096 0 1 0"])
+    yield "a name that begins as one of the keys", with_keys(many_keys(dice, 100), ["read k 0 1 0"])
+    yield "a key line behind the operations", with_keys([key_line(dice)], ["read a 0 1 0", key_line(dice, "b")])
+    for mode in [XTS, ESSIV]:
+        for size in range(1, 17):
+            yield f"a number of a digit more than {size} bytes, {mode}", with_keys(
+                [key_line(dice, "a", mode, size)], [f"read a 0 1 1{'0' * (2 * size)}"])
+    yield "a number that only another key can have", with_keys(
+        [key_line(dice, "a", XTS, 1), key_line(dice, "b", XTS, 16)], ["read b 0 1 100", "read a 0 1 100"])
     for place, lines in BROKEN_LINES:
         for line in lines:
             yield f"line {place + 1} as {line[:40]!r}", base_with(place, 1, line)

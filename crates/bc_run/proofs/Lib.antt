@@ -1,4 +1,5 @@
 pub mod LineLaws
+pub mod NamedKeys
 pub mod LineFields
 pub mod ReaderLaws
 pub mod ScriptLaws

@@ -1,5 +1,5 @@
 -- Each line of a script is one: its fields have no space and no line feed.
-use Rattle.std.proofs.Common.{◌≡◌, ◌≢◌, ℕ, zero, suc, ◌<◌, ◌*◌, ◌/◌, ◌%◌, ◌^◌, Bool, true, false, List, [], ◌∷◌, ◌++◌, length, get_or, map, refl, sym, subst, arith}
+use Rattle.std.proofs.Common.{◌≡◌, ◌≢◌, ℕ, zero, suc, ◌<◌, ◌*◌, ◌/◌, ◌%◌, ◌^◌, Bool, true, false, List, [], ◌∷◌, ◌++◌, length, get_or, map, refl, sym, ap, subst, arith}
 use Rattle.std.specs.Prelude.{codes, ◌&&◌, flat_map, Some, None}
 use Rattle.std.specs.List.{AllByRecursion, list_all}
 use Rattle.std.proofs.lemmas.Bool.Decides.{nat_tests}
@@ -8,18 +8,19 @@ use Rattle.hex.specs.Hex.{encode_lower, encode_with, lower_digits, IsBytes}
 use Rattle.bc_text.specs.Lines.{Line, IsField, IsLine, space, line_feed}
 use Rattle.bc_text.proofs.FieldLaws.{IsField-from_test, IsField-decimal}
 use Rattle.bc_key.specs.NumberText.{number_text, IsHexDigit}
+use Rattle.bc_key.specs.declared.config.Mode.{Mode}
+use Rattle.bc_key.specs.declared.config.Mode.TheVariants.{Aes256Xts, Aes128CbcEssiv}
+use Rattle.bc_key.specs.DataUnits.{bytes_of}
 use Rattle.bc_key.specs.declared.keys.KeyNo.{KeyNo}
 use Rattle.bc_key.proofs.NumberTextLaws.{IsNumberText-number_text}
 use Rattle.bc_run.specs.declared.named_key.NamedKey.{NamedKey}
-use Rattle.bc_run.specs.declared.line.KeyFields.{KeyFields}
 use Rattle.bc_run.specs.declared.op.Op.{Op}
 use Rattle.bc_run.specs.declared.op.Op.TheVariants as ops
 use Rattle.bc_run.specs.declared.op.Text.TheVariants.{Fill}
 use Rattle.bc_run.specs.Name.{is_name, is_name_byte, is_lower_letter}
 use Rattle.bc_run.specs.Script.{Script, IsScript, AreKeys, IsNamedKey, IsOp, IsSection, bare_keys}
-use Rattle.bc_run.specs.ScriptText.{script_lines, key_line, op_line, name_of, section_lines}
-use Rattle.bc_run.specs.Reading.{IsKeyFields, key_fields_line}
-use Rattle.bc_run.proofs.LineLaws.{fields_of_key, key_line_fields, IsKeyFields-of_key, IsBioFields-of, write_op_line, read_op_line, name_in}
+use Rattle.bc_run.specs.ScriptText.{script_lines, mode_text, key_line, op_line, name_of, section_lines}
+use Rattle.bc_run.proofs.LineLaws.{IsBioFields-of, write_op_line, read_op_line, name_in}
 
 -- ---- fields
 
@@ -76,14 +77,17 @@ IsField-name_of (k ∷ ks) number are lt =
 
 -- ---- lines
 
-key_fields_line_is : (k : KeyFields) → IsKeyFields k → IsLine (key_fields_line k)
-key_fields_line_is k is = (
-  omega arith,
-  (IsField-from_test (codes "key") refl, (IsField-name k.name is.0, (IsField-from_test (codes "aes-256-xts") refl, (IsField-from_test (codes "512") refl, (IsField-from_test (codes "8") refl, (IsField-encode_lower k.raw is.1, tt)))))),
-)
+IsField-mode_text : (mode : Mode) → IsField (mode_text mode)
+IsField-mode_text Aes256Xts = IsField-from_test (codes "aes-256-xts") refl
+IsField-mode_text Aes128CbcEssiv = IsField-from_test (codes "aes-128-cbc-essiv") refl
 
 key_line_is : (named : NamedKey) → IsNamedKey named → IsLine (key_line named)
-key_line_is named is = subst IsLine (sym (key_line_fields named is)) (key_fields_line_is (fields_of_key named) (IsKeyFields-of_key named is))
+key_line_is named is =
+    let most = is.key.valid.most in
+    let unit : bytes_of named.key.config.unit ≡ 512 = ap bytes_of is.key.unit in (
+      omega arith,
+      (IsField-from_test (codes "key") refl, (IsField-name named.name is.name, (IsField-mode_text named.key.config.mode, (IsField-decimal (bytes_of named.key.config.unit) (omega arith), (IsField-decimal named.key.config.dun_bytes (omega arith), (IsField-encode_lower named.key.raw is.key.bytes, tt)))))),
+    )
 
 key_lines_are : (keys : List NamedKey) → AllByRecursion IsNamedKey keys → AllByRecursion IsLine (map key_line keys)
 key_lines_are [] each = tt

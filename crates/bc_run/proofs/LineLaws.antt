@@ -1,29 +1,33 @@
 -- The fields of a script's lines: how one line is read one way.
-use Rattle.std.proofs.Common.{◌≡◌, ◌≢◌, ℕ, zero, suc, ◌<◌, ◌≤◌, ◌*◌, ◌^◌, false, List, [], ◌∷◌, length, take, drop, get_or, Option, Some, None, refl, sym, ap, subst, ◌∙◌, arith}
-use Rattle.std.specs.Prelude.{codes, Bool, true, unwrap_or, slice_get, IsSomeAnd}
+use Rattle.std.proofs.Common.{◌≡◌, ◌≢◌, ℕ, zero, suc, ◌<◌, ◌≤◌, ◌*◌, ◌^◌, false, List, [], ◌∷◌, ◌++◌, length, take, drop, get_or, Option, Some, None, refl, sym, ap, subst, ◌∙◌, arith}
+use Rattle.std.specs.Prelude.{codes, unwrap_or, slice_get, IsSomeAnd, ◌==◌, ◌&&◌, true, nat_le, is_none}
 use Rattle.std.proofs.Math.Logic.{⊎_elim}
-use Rattle.std.proofs.lemmas.Bool.{cases_lt}
+use Rattle.std.proofs.lemmas.Bool.{cases_lt, eq-eqb, false_from_ne_true}
+use Rattle.std.proofs.lemmas.Bool.Decides.{nat_tests}
+use Rattle.std.proofs.lemmas.Nat.{pow_below}
 use Rattle.std.proofs.lemmas.List.Elements.{All-from_recursion, All-get_or}
 use Rattle.std.proofs.lemmas.Fmt.{digits_is_IsNumeral, decimal_injective}
 use Rattle.std.specs.Str.Parse.{digits_value}
 use Rattle.std.specs.Option.{option_map}
-use Rattle.std.proofs.lemmas.Option.{slice_get_read, slice_get-get_or, slice_get-map, slice_get_cases}
-use Rattle.std.specs.Bool.{Decides}
+use Rattle.std.proofs.lemmas.Option.{same_Some, slice_get_read, slice_get-get_or, slice_get-map, slice_get_cases}
 use Rattle.std.specs.Str.{bytes_eq}
 use Rattle.std.specs.Fmt.{decimal, digits}
 use Rattle.std.proofs.lemmas.Slice.Eq.{bytes_eq-Decides}
 use Rattle.hex.specs.Hex.{encode_lower, IsBytes}
 use Rattle.hex.proofs.HexLemmas.{decode_of-encode_lower, decode_of-same}
 use Rattle.bc_text.specs.Lines.{Line}
-use Rattle.bc_key.specs.declared.config.Mode.TheVariants.{Aes256Xts}
-use Rattle.bc_key.specs.declared.config.DataUnit.TheVariants.{Bytes512}
+use Rattle.bc_key.specs.declared.config.Mode.{Mode}
+use Rattle.bc_key.specs.declared.config.Mode.TheVariants.{Aes256Xts, Aes128CbcEssiv}
+use Rattle.bc_key.specs.declared.config.DataUnit.{DataUnit}
+use Rattle.bc_key.specs.declared.config.DataUnit.TheVariants.{Bytes512, Bytes1024, Bytes2048, Bytes4096}
+use Rattle.bc_key.specs.declared.config.Config.{Config}
+use Rattle.bc_key.specs.DataUnits.{bytes_of, unit_of}
 use Rattle.bc_key.specs.declared.key.KeyError.{KeyError}
-use Rattle.bc_key.specs.KeyData.{KeyData, IsValid}
+use Rattle.bc_key.specs.KeyData.{KeyData, IsValid, HasHalves, key_size}
 use Rattle.bc_key.specs.NumberText.{number_text}
 use Rattle.bc_key.specs.declared.keys.KeyNo.{KeyNo}
 use Rattle.bc_bio.specs.declared.bio.Context.{Context}
-use Rattle.bc_key.specs.KeyRefusal.{key_refusal}
-use Rattle.bc_run.specs.declared.line.KeyFields.{KeyFields}
+use Rattle.bc_key.specs.KeyRefusal.{key_refusal, has_equal_halves}
 use Rattle.bc_run.specs.declared.named_key.NamedKey.{NamedKey}
 use Rattle.bc_run.specs.declared.line.BioFields.{BioFields}
 use Rattle.bc_run.specs.declared.line.WriteFields.{WriteFields}
@@ -31,8 +35,8 @@ use Rattle.bc_run.specs.declared.op.Op.{Op}
 use Rattle.bc_run.specs.declared.op.Op.TheVariants as ops
 use Rattle.bc_run.specs.declared.op.Text.TheVariants.{Fill}
 use Rattle.bc_run.specs.Script.{IsNamedKey, AreKeys, IsContext, IsBio, IsOp, bare_keys}
-use Rattle.bc_run.specs.ScriptText.{key_line, op_line, name_of}
-use Rattle.bc_run.specs.Reading.{IsKeyFields, key_fields_line, IsBioFields, IsWriteFields, write_line, read_line, context_in, NoWrite, NoRead, SaysOp}
+use Rattle.bc_run.specs.ScriptText.{mode_text, config_fields, key_line, op_line, name_of}
+use Rattle.bc_run.specs.Reading.{IsConfig, IsKeyFor, IsBioFields, IsWriteFields, write_line, read_line, context_in, NoWrite, NoRead, SaysOp}
 
 -- ---- fields that stand first
 
@@ -46,63 +50,90 @@ after_two X all a b x y v w rest p q r = cc
 pub encode_lower_injective : (xs ys : List ℕ) → IsBytes xs → IsBytes ys → encode_lower xs ≡ encode_lower ys → xs ≡ ys
 encode_lower_injective xs ys p q e = decode_of-same (encode_lower xs) xs ys (decode_of-encode_lower xs p) (rw e (decode_of-encode_lower ys q))
 
--- the fields of a key
-abbrev pub fields_of_key : NamedKey → KeyFields
-fields_of_key named = record { name = named.name; raw = named.key.raw }
+halves_differ : (mode : Mode) (raw : List ℕ) → HasHalves mode raw → has_equal_halves mode raw ≡ false
+halves_differ Aes256Xts raw differ = false_from_ne_true (bytes_eq (take 32 raw) (drop 32 raw)) (λ same. differ ((bytes_eq-Decides (take 32 raw) (drop 32 raw)).0 same))
+halves_differ Aes128CbcEssiv raw differ = refl
 
-pub key_line_fields : (named : NamedKey) → IsNamedKey named → key_line named ≡ key_fields_line (fields_of_key named)
-unfolding digits
-key_line_fields named is =
-    let size : decimal 512 ≡ codes "512" = refl in
-    let eight : decimal 8 ≡ codes "8" = refl in
-    rw (is.key.mode, is.key.unit, is.key.dun_bytes) refl
+is_a_unit : (unit : DataUnit) → is_none (unit_of (bytes_of unit)) ≡ false
+is_a_unit Bytes512 = refl
+is_a_unit Bytes1024 = refl
+is_a_unit Bytes2048 = refl
+is_a_unit Bytes4096 = refl
 
-pub IsKeyFields-of_key : (named : NamedKey) → IsNamedKey named → IsKeyFields (fields_of_key named)
-IsKeyFields-of_key named is =
-    let size = rw is.key.mode at is.key.valid.size in
-    (is.name, is.key.bytes, size)
-
--- a key that was made of a line's fields has that line
-pub key_read : (fields : KeyFields) (key : KeyData) → IsKeyFields fields → IsValid key.config key.raw → key.config.mode ≡ Aes256Xts → Some Bytes512 ≡ Some key.config.unit → key.config.dun_bytes ≡ 8 → key.raw ≡ fields.raw
-    → IsNamedKey (record { name = fields.name; key = key }) × (key_fields_line fields ≡ key_line (record { name = fields.name; key = key }))
-key_read fields key is valid mode unit dun_bytes raw =
-    let named : NamedKey = record { name = fields.name; key = key } in
-    let same_unit : key.config.unit ≡ Bytes512 = cc in
-    let bytes : IsBytes key.raw = rw raw is.1 in
-    let good : IsNamedKey named = record { name = is.0; key = record { valid = valid; bytes = bytes; mode = mode; unit = same_unit; dun_bytes = dun_bytes } } in
-    (good, ap (λ (r : List ℕ). key_fields_line (record { name = fields.name; raw = r })) (sym raw) ∙ sym (key_line_fields named good))
-
--- bytes of a valid key are not refused
-pub key_not_refused : (raw : List ℕ) (error : KeyError) → length raw ≡ 64 → take 32 raw ≢ drop 32 raw → key_refusal Aes256Xts raw 512 8 ≡ Some error → ⊥
-key_not_refused raw error size halves refused =
-    let unequal : bytes_eq (take 32 raw) (drop 32 raw) ≡ false = false_from_not (bytes_eq (take 32 raw) (drop 32 raw)) (take 32 raw ≡ drop 32 raw) (bytes_eq-Decides (take 32 raw) (drop 32 raw)) halves in
-    let none = rw (size, unequal) at refused in
+-- a valid key is refused for no reason
+pub not_refused : (config : Config) (raw : List ℕ) (error : KeyError) → IsValid config raw → key_refusal config.mode raw (bytes_of config.unit) config.dun_bytes ≡ Some error → ⊥
+not_refused config raw error valid refused =
+    let least = valid.least in
+    let most = valid.most in
+    let size : (length raw == key_size config.mode) ≡ true = eq-eqb (length raw) (key_size config.mode) valid.size in
+    let bytes : (nat_le 1 config.dun_bytes && nat_le config.dun_bytes 16) ≡ true = grind (arith, nat_tests) in
+    let none = rw (size, is_a_unit config.unit, bytes, halves_differ config.mode raw valid.halves) at refused in
     absurd cc
-  where
-    false_from_not : (b : Bool) (P : Type 0) → Decides b P → (P → ⊥) → b ≡ false
-    false_from_not true P d not = absurd (not (d.0 refl))
-    false_from_not false P d not = refl
 
--- two lines of keys with one text are of one key
-pub key_fields_injective : (a b : KeyFields) → IsKeyFields a → IsKeyFields b → key_fields_line a ≡ key_fields_line b → (a.name ≡ b.name) × (a.raw ≡ b.raw)
-key_fields_injective a b p q e =
-    let name : a.name ≡ b.name = second _ _ _ _ _ _ e in
-    let digits : encode_lower a.raw ≡ encode_lower b.raw = sixth _ _ _ _ _ _ _ _ _ _ _ _ e in
-    (name, encode_lower_injective a.raw b.raw p.1 q.1 digits)
-  where
-    second : (x y v w : List ℕ) (s t : Line) → x ∷ y ∷ s ≡ v ∷ w ∷ t → y ≡ w
-    second x y v w s t e = cc
+-- a key that was made of a line's digits has those digits
+pub key_read : (config : Config) (raw digits : List ℕ) (key : KeyData) → IsConfig config → IsBytes raw → digits ≡ encode_lower raw → IsValid key.config key.raw → key.config.mode ≡ config.mode
+    → unit_of (bytes_of config.unit) ≡ Some key.config.unit → key.config.dun_bytes ≡ config.dun_bytes → key.raw ≡ raw → IsKeyFor config key × (digits ≡ encode_lower key.raw)
+key_read config raw digits key is bytes said valid mode unit dun_bytes same =
+    let one : key.config.unit ≡ Bytes512 = sym (same_Some Bytes512 key.config.unit (ap (λ (u : DataUnit). unit_of (bytes_of u)) (sym is.unit) ∙ unit)) in
+    let one_unit : key.config.unit ≡ config.unit = one ∙ sym is.unit in (
+      record {
+        is = record { valid = valid; bytes = subst IsBytes (sym same) bytes; unit = one };
+        config_is = λ i. record { mode = mode i; unit = one_unit i; dun_bytes = dun_bytes i };
+      },
+      said ∙ ap encode_lower (sym same),
+    )
 
-    sixth : (x y z u v w x' y' z' u' v' w' : List ℕ) → x ∷ y ∷ z ∷ u ∷ v ∷ w ∷ [] ≡ x' ∷ y' ∷ z' ∷ u' ∷ v' ∷ w' ∷ [] → w ≡ w'
-    sixth x y z u v w x' y' z' u' v' w' e = cc
+-- digits of bytes that are refused are no key's
+pub no_key_has : (config : Config) (raw digits : List ℕ) (error : KeyError) → IsBytes raw → digits ≡ encode_lower raw → key_refusal config.mode raw (bytes_of config.unit) config.dun_bytes ≡ Some error
+    → (key : KeyData) → IsKeyFor config key → digits ≡ encode_lower key.raw → ⊥
+no_key_has config raw digits error bytes said refused key is e =
+    let same : raw ≡ key.raw = encode_lower_injective raw key.raw bytes is.is.bytes (sym said ∙ e) in
+    not_refused config raw error (subst (λ (c : Config). IsValid c raw) is.config_is (subst (IsValid key.config) (sym same) is.is.valid)) refused
+
+-- the text of a mode is that of one mode
+mode_text_injective : (a b : Mode) → mode_text a ≡ mode_text b → a ≡ b
+mode_text_injective Aes256Xts Aes256Xts e = refl
+mode_text_injective Aes256Xts Aes128CbcEssiv e = absurd cc
+mode_text_injective Aes128CbcEssiv Aes256Xts e = absurd cc
+mode_text_injective Aes128CbcEssiv Aes128CbcEssiv e = refl
+
+-- so are the fields that tell what a key is for
+pub config_fields_injective : (a b : Config) (v w : Line) → IsConfig a → IsConfig b → config_fields a ++ v ≡ config_fields b ++ w → (a ≡ b) × (v ≡ w)
+config_fields_injective a b v w p q e =
+    let fields = three _ _ _ _ _ _ v w e in
+    let mode = mode_text_injective a.mode b.mode fields.0 in
+    let unit : a.unit ≡ b.unit = p.unit ∙ sym q.unit in
+    let low = p.most in
+    let low' = q.most in
+    let dun_bytes = decimal_injective a.dun_bytes b.dun_bytes (omega arith) (omega arith) fields.1 in
+    (λ i. record { mode = mode i; unit = unit i; dun_bytes = dun_bytes i }, fields.2)
+  where
+    three : (x y z x' y' z' : List ℕ) (v w : Line) → x ∷ y ∷ z ∷ v ≡ x' ∷ y' ∷ z' ∷ w → (x ≡ x') × (z ≡ z') × (v ≡ w)
+    three x y z x' y' z' v w e = (cc, cc, cc)
+
+pub config_of : (named : NamedKey) → IsNamedKey named → IsConfig named.key.config
+config_of named is = record { unit = is.key.unit; least = is.key.valid.least; most = is.key.valid.most }
+
+one_field : (x y : List ℕ) (v w : Line) → x ∷ v ≡ y ∷ w → x ≡ y
+one_field x y v w e = cc
+
+-- a line with these fields, whose digits are no key's, is the line of no key
+pub no_key_line : (named : NamedKey) (config : Config) (digits : List ℕ) (rest : Line) → IsNamedKey named → IsConfig config
+    → ((key : KeyData) → IsKeyFor config key → digits ≡ encode_lower key.raw → ⊥)
+    → config_fields config ++ digits ∷ rest ≡ config_fields named.key.config ++ encode_lower named.key.raw ∷ [] → ⊥
+no_key_line named config digits rest valid is none e =
+    let same = config_fields_injective config named.key.config _ _ is (config_of named valid) e in
+    none named.key (record { is = valid.key; config_is = sym same.0 }) (one_field digits (encode_lower named.key.raw) rest [] same.1)
 
 pub key_line_injective : (a b : NamedKey) → IsNamedKey a → IsNamedKey b → key_line a ≡ key_line b → a ≡ b
 key_line_injective a b p q e =
-    let r = key_fields_injective (fields_of_key a) (fields_of_key b) (IsKeyFields-of_key a p) (IsKeyFields-of_key b q) (sym (key_line_fields a p) ∙ e ∙ key_line_fields b q) in
-    let mode : a.key.config.mode ≡ b.key.config.mode = p.key.mode ∙ sym q.key.mode in
-    let unit : a.key.config.unit ≡ b.key.config.unit = p.key.unit ∙ sym q.key.unit in
-    let dun_bytes : a.key.config.dun_bytes ≡ b.key.config.dun_bytes = p.key.dun_bytes ∙ sym q.key.dun_bytes in
-    λ i. record { name = r.0 i; key = record { config = record { mode = mode i; unit = unit i; dun_bytes = dun_bytes i }; raw = r.1 i } }
+    let fields = two _ _ _ _ _ _ e in
+    let same = config_fields_injective a.key.config b.key.config _ _ (config_of a p) (config_of b q) fields.1 in
+    let raw = encode_lower_injective a.key.raw b.key.raw p.key.bytes q.key.bytes (one_field _ _ [] [] same.1) in
+    λ i. record { name = fields.0 i; key = record { config = same.0 i; raw = raw i } }
+  where
+    two : (x y v w : List ℕ) (s t : Line) → x ∷ y ∷ s ≡ v ∷ w ∷ t → (y ≡ w) × (s ≡ t)
+    two x y v w s t e = (cc, cc)
 
 -- ---- names of keys
 
@@ -140,7 +171,8 @@ context_facts keys context are valid =
     let each = All-get_or IsNamedKey keys i named found.1 (All-from_recursion IsNamedKey keys are.each) in
     let good : IsNamedKey named = subst IsNamedKey found.3 each in
     let fits : context.dun < 2 ^ (8 * named.key.config.dun_bytes) = subst (λ (o : Option NamedKey). Fits (option_map (λ (n : NamedKey). n.key) o)) found.2 there in
-    let small = rw good.key.dun_bytes at fits in
+    let most = good.key.valid.most in
+    let top = pow_below (8 * named.key.config.dun_bytes) 256 (omega arith) in
     (found.1, omega arith))
     (λ missing. absurd (subst (λ (o : Option NamedKey). Fits (option_map (λ (n : NamedKey). n.key) o)) missing.1 there))
     (slice_get_cases keys i).1

@@ -1,5 +1,5 @@
 -- A script of one key and one section keeps the rules where they do.
-use Rattle.std.proofs.Common.{ℕ, ◌*◌, ◌^◌, ◌<◌, List, [], ◌∷◌, arith}
+use Rattle.std.proofs.Common.{ℕ, ◌*◌, List, [], ◌∷◌, arith}
 use Rattle.bc_run.specs.declared.named_key.NamedKey.{NamedKey}
 use Rattle.bc_run.specs.declared.op.Op.{Op}
 use Rattle.bc_run.specs.Script.{IsScript, IsDiskSize, IsNamedKey, IsSection}
@@ -11,7 +11,3 @@ one_key blocks named section size rule ops = record {
   keys = record { count = omega arith; each = (rule, tt); names = λ i j d lt within. absurd (omega arith) };
   threads = record { count = omega arith; each = (ops, tt) };
 }
-
--- number 0 fits the bytes of any key
-pub number_0 : (named : NamedKey) → IsNamedKey named → 0 < 2 ^ (8 * named.key.config.dun_bytes)
-number_0 named rule = rw rule.key.dun_bytes (omega arith)

@@ -1,8 +1,9 @@
 -- The lines of a script's keys and sections are read one way.
-use Rattle.std.proofs.Common.{◌≡◌, ℕ, ◌+◌, ◌*◌, ◌<◌, lit<, lit≤, ◌≤◌, ◌^◌, List, [], ◌∷◌, ◌++◌, length, map, refl, sym, ap, subst, ◌∙◌, arith, append_assoc, inl, inr}
+use Rattle.std.proofs.Common.{◌≡◌, ℕ, ◌+◌, ◌*◌, ◌<◌, lit<, lit≤, ◌≤◌, ◌^◌, List, [], ◌∷◌, ◌++◌, length, length-append, get_or, map, refl, sym, ap, subst, ◌∙◌, arith, append_assoc, inl, inr}
 use Rattle.std.specs.Prelude.{codes, flat_map, Result, Err, IsErrOf}
 use Rattle.std.specs.List.{AllByRecursion}
-use Rattle.std.proofs.lemmas.List.{append-nil}
+use Rattle.std.proofs.lemmas.List.{append-nil, map-append, get_or_append_left}
+use Rattle.std.proofs.Math.Seq.{get_or-append_seam}
 use Rattle.bc_text.specs.Lines.{Line, StartsAs, nothing}
 use Rattle.std.proofs.lemmas.Fmt.{decimal_injective}
 use Rattle.bc_text.proofs.Sorts.{same_reading, goes_on, is_longer}
@@ -14,7 +15,8 @@ use Rattle.bc_run.specs.declared.op.Op.TheVariants as ops
 use Rattle.bc_run.specs.Script.{Script, IsScript, AreKeys, IsNamedKey, IsOp, IsSection, AreSections, bare_keys, IsDiskSize, max_keys, max_ops}
 use Rattle.bc_run.specs.ScriptText.{key_line, op_line, section_lines, thread_line, end_line, foot_lines, head_lines, script_lines, whole_lines}
 use Rattle.bc_run.specs.Reading.{EndsKeys, HasKeys, NoKeys, EndsSection, HasSection, NoSection, HasSections, NoSections, NoScript}
-use Rattle.bc_run.proofs.LineLaws.{key_line_injective, op_line_injective}
+use Rattle.bc_run.specs.NamedKeys.{HasName}
+use Rattle.bc_run.proofs.LineLaws.{key_line_injective, op_line_injective, name_in}
 
 -- an error that is passed on
 pub passed_on : {T U : Type 0} (x : Unread) → IsErrOf {T = T} (Err x) unread.NoScript → IsErrOf {T = U} (Err x) unread.NoScript
@@ -41,6 +43,28 @@ pub bad_key : (old now : List Line) (keys : List NamedKey) → old ≡ map key_l
 bad_key old now keys lines each starts none others rest are ends e =
     let more = goes_on NamedKey key_line IsNamedKey EndsKeys key_line_injective key_goes keys others now rest each are.each (goes_from now starts) ends (sym lines ∙ e) in
     none more.0 (map key_line more.1 ++ rest) more.2 more.4
+
+-- the next line is a key's, and is read with those before it
+pub key_more : (old now new : List Line) (keys : List NamedKey) (key : NamedKey) → old ≡ map key_line keys ++ now → now ≡ key_line key ∷ new → old ≡ map key_line (keys ++ key ∷ []) ++ new
+key_more old now new keys key lines next =
+    lines ∙ ap (λ (t : List Line). map key_line keys ++ t) next ∙ sym (append_assoc (map key_line keys) (key_line key ∷ []) new)
+    ∙ ap (λ (t : List Line). t ++ new) (sym (map-append key_line keys (key ∷ [])))
+
+-- the next line's key has the name of a key before it
+pub doubled_name : (old now new : List Line) (keys : List NamedKey) (key : NamedKey) → old ≡ map key_line keys ++ now → now ≡ key_line key ∷ new → AllByRecursion IsNamedKey keys → IsNamedKey key → HasName keys key.name → NoKeys old
+doubled_name old now new keys key lines next each valid taken others rest are ends e =
+    let starts : StartsAs (codes "key") now = subst (StartsAs (codes "key")) (sym next) refl in
+    let more = goes_on NamedKey key_line IsNamedKey EndsKeys key_line_injective key_goes keys others now rest each are.each (goes_from now starts) ends (sym lines ∙ e) in
+    let same : key ≡ more.0 = key_line_injective key more.0 valid more.2 (first_of (key_line key) (key_line more.0) new (map key_line more.1 ++ rest) (sym next ∙ more.4)) in
+    let i = taken.0.0 in
+    let low = taken.1.within in
+    let early : get_or others i key ≡ get_or keys i key = ap (λ (ks : List NamedKey). get_or ks i key) more.3 ∙ get_or_append_left keys (more.0 ∷ more.1) key i low in
+    let late : get_or others (length keys) key ≡ more.0 = ap (λ (ks : List NamedKey). get_or ks (length keys) key) more.3 ∙ get_or-append_seam keys more.0 more.1 key in
+    are.names i (length keys) key low (omega (arith, ap length more.3, length-append keys (more.0 ∷ more.1)))
+    (ap (λ (n : NamedKey). n.name) early ∙ sym (name_in keys taken.0 key low) ∙ sym taken.1.name_is ∙ ap (λ (n : NamedKey). n.name) (same ∙ sym late))
+  where
+    first_of : (x y : Line) (a b : List Line) → x ∷ a ≡ y ∷ b → x ≡ y
+    first_of x y a b e = cc
 
 -- ---- sections
 

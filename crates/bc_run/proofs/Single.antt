@@ -91,7 +91,6 @@ module _ (script : Script) (rules : IsScript script) (act : Access) (context : C
       let sized = one_sector keys context has in
       let aligned : (sector % unit_sectors keys (Some context) == 0) ≡ true = rw sized (eq-eqb (sector % 1) 0 (omega arith)) in
       let inside : nat_le (sector + 1 * unit_sectors keys (Some context)) (sectors_in script) ≡ true = rw sized (le-leb _ _ (omega arith)) in
-      let bytes : has.key.config.dun_bytes ≡ 8 = has.rules.dun_bytes in
       let low : context.dun < 2 ^ (8 * has.key.config.dun_bytes) = has.fits in
       let fit : numbers_fit keys (Some context) 1 ≡ true = rw has.at (le-leb _ _ (omega arith)) in
       ap (option_map (λ error. refusals.Bio error)) (passes keys (sectors_in script) bio refl aligned inside fit)

@@ -1,6 +1,7 @@
 pub mod Name
 pub mod Script
 pub mod ScriptText
+pub mod NamedKeys
 pub mod Reading
 pub mod Bios
 pub mod Way

@@ -1,11 +1,11 @@
 -- What the reader of a script answers about lines: a part of a script that stands first in them, or that none does.
-use Rattle.std.specs.Prelude.{◌≡◌, ◌⊎◌, ℕ, ◌^◌, ◌<◌, IsTrue, List, [], ◌∷◌, ◌++◌, codes, length, map, flat_map, Option, MatchOption, ⊤}
+use Rattle.std.specs.Prelude.{◌≡◌, ◌⊎◌, ℕ, ◌^◌, ◌<◌, ◌≤◌, List, [], ◌∷◌, ◌++◌, codes, length, map, flat_map, Option, MatchOption, ⊤}
 use Rattle.std.specs.Fmt.{decimal}
-use Rattle.hex.specs.Hex.{encode_lower, IsBytes}
 use Rattle.bc_text.specs.Fields.{byte_text}
 use Rattle.bc_key.specs.NumberText.{number_text}
-use Rattle.bc_run.specs.Name.{is_name}
-use Rattle.bc_run.specs.declared.line.KeyFields.{KeyFields}
+use Rattle.bc_key.specs.KeyData.{KeyData}
+use Rattle.bc_key.specs.declared.config.Config.{Config}
+use Rattle.bc_key.specs.declared.config.DataUnit.TheVariants.{Bytes512}
 use Rattle.bc_run.specs.declared.line.BioFields.{BioFields}
 use Rattle.bc_run.specs.declared.line.WriteFields.{WriteFields}
 use Rattle.bc_text.specs.Lines.{Line, StartsAs}
@@ -17,7 +17,7 @@ use Rattle.bc_run.specs.declared.op.Text.{Text}
 use Rattle.bc_run.specs.declared.script_error.ParseError.{ParseError}
 use Rattle.bc_run.specs.declared.script_error.ParseError.TheVariants.{Bad, Memory}
 use Rattle.bc_run.specs.declared.script_error.ScriptWhy.TheVariants.{NotBuilt}
-use Rattle.bc_run.specs.Script.{Script, IsScript, IsOp, AreKeys, IsSection, AreSections, bare_keys}
+use Rattle.bc_run.specs.Script.{Script, IsScript, IsKey, IsOp, AreKeys, IsSection, AreSections, bare_keys}
 use Rattle.bc_run.specs.ScriptText.{key_line, name_of, op_line, section_lines, foot_lines, whole_lines, NoScriptHas}
 
 -- The next line is the one of this valid value, and those behind it are left; or it is the one of no valid value, or
@@ -28,12 +28,16 @@ NextLine Valid line_of old new r =
 
 -- ---- the fields of a key line
 
-abbrev pub IsKeyFields : KeyFields → Type 0
-IsKeyFields k = IsTrue (is_name k.name) × IsBytes k.raw × (length k.raw ≡ 64)
+-- what a key line can say that its key is for
+pub record IsConfig (config : Config) : Type 0 where
+  pub unit : config.unit ≡ Bytes512
+  pub least : 1 ≤ config.dun_bytes
+  pub most : config.dun_bytes ≤ 16
 
--- the line that says them: the mode, the data unit's bytes and the number bytes are fixed
-abbrev pub key_fields_line : KeyFields → Line
-key_fields_line k = codes "key" ∷ k.name ∷ codes "aes-256-xts" ∷ codes "512" ∷ codes "8" ∷ encode_lower k.raw ∷ []
+-- a key for this
+pub record IsKeyFor (config : Config) (key : KeyData) : Type 0 where
+  pub is : IsKey key
+  pub config_is : key.config ≡ config
 
 -- ---- the fields of an operation's bio
 

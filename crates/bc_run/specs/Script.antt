@@ -3,7 +3,6 @@
 use Rattle.std.specs.Prelude.{◌≡◌, ◌≢◌, ℕ, ◌*◌, ◌^◌, ◌<◌, ◌≤◌, IsTrue, List, length, map, AllPairs, IsSomeAnd, Option, Some, None}
 use Rattle.std.specs.List.{AllByRecursion}
 use Rattle.hex.specs.Hex.{IsBytes}
-use Rattle.bc_key.specs.declared.config.Mode.TheVariants.{Aes256Xts}
 use Rattle.bc_key.specs.declared.config.DataUnit.TheVariants.{Bytes512}
 use Rattle.bc_key.specs.KeyData.{KeyData, IsValid}
 use Rattle.bc_key.specs.KeyList.{key_at}
@@ -36,7 +35,7 @@ sectors_in script = 8 * script.blocks
 
 -- the most keys, sections, and operations of a section
 abbrev pub max_keys : ℕ
-max_keys = 1
+max_keys = 4096
 
 abbrev pub max_threads : ℕ
 max_threads = 1
@@ -48,19 +47,17 @@ max_ops = 65536
 abbrev pub IsDiskSize : ℕ → Type 0
 IsDiskSize n = (1 ≤ n) × (n ≤ 16384)
 
--- a key that a key line can say: AES-256-XTS over data units of 512 bytes, with 8 number bytes
+-- a key that a key line can say: any valid key, of either mode and with 1 to 16 number bytes, over data units of 512 bytes
 pub record IsKey (key : KeyData) : Type 0 where
   pub valid : IsValid key.config key.raw
   pub bytes : IsBytes key.raw
-  pub mode : key.config.mode ≡ Aes256Xts
   pub unit : key.config.unit ≡ Bytes512
-  pub dun_bytes : key.config.dun_bytes ≡ 8
 
 pub record IsNamedKey (named : NamedKey) : Type 0 where
   pub name : IsTrue (is_name named.name)
   pub key : IsKey named.key
 
--- few enough keys, of which no two have one name
+-- few enough keys, each name declared once: no two of them have one name
 pub record AreKeys (keys : List NamedKey) : Type 0 where
   pub count : length keys ≤ max_keys
   pub each : AllByRecursion IsNamedKey keys

@@ -7,6 +7,8 @@ use Rattle.bc_text.specs.Lines.{Line, text_of, nothing}
 use Rattle.bc_text.specs.Fields.{byte_text}
 use Rattle.bc_key.specs.declared.config.Mode.{Mode}
 use Rattle.bc_key.specs.declared.config.Mode.TheVariants.{Aes256Xts, Aes128CbcEssiv}
+use Rattle.bc_key.specs.declared.config.DataUnit.{DataUnit}
+use Rattle.bc_key.specs.declared.config.Config.{Config}
 use Rattle.bc_key.specs.declared.keys.KeyNo.{KeyNo}
 use Rattle.bc_key.specs.DataUnits.{bytes_of}
 use Rattle.bc_key.specs.NumberText.{number_text}
@@ -38,11 +40,16 @@ abbrev pub mode_text : Mode → List ℕ
 mode_text Aes256Xts = codes "aes-256-xts"
 mode_text Aes128CbcEssiv = codes "aes-128-cbc-essiv"
 
--- the name, the mode, the data unit's bytes, the number bytes, and the key's bytes in hexadecimal digits
+abbrev pub unit_text : DataUnit → List ℕ
+unit_text unit = decimal (bytes_of unit)
+
+-- the mode, the data unit's bytes and the number bytes
+abbrev pub config_fields : Config → Line
+config_fields config = mode_text config.mode ∷ unit_text config.unit ∷ decimal config.dun_bytes ∷ []
+
+-- the name, what the key is for, and the key's bytes in hexadecimal digits
 abbrev pub key_line : NamedKey → Line
-key_line named =
-    codes "key" ∷ named.name ∷ mode_text named.key.config.mode ∷ decimal (bytes_of named.key.config.unit) ∷ decimal named.key.config.dun_bytes
-    ∷ encode_lower named.key.raw ∷ []
+key_line named = codes "key" ∷ named.name ∷ (config_fields named.key.config ++ encode_lower named.key.raw ∷ [])
 
 -- ---- a line for each thread, and one for each of its operations
 

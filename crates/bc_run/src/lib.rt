@@ -8,6 +8,7 @@
 mod line;
 mod name;
 mod named_key;
+mod named_keys;
 mod one_caller;
 mod op;
 mod orders;

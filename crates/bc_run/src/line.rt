@@ -1,18 +1,20 @@
 //! One line of a script, by its fields.
 
-ghost use Rattle.std.specs.Prelude.{◌≡◌, ◌^◌, ◌<◌, ◌≤◌, ◌↔◌, IsTrue, length, MatchOption};
+ghost use Rattle.std.specs.Prelude.{◌≡◌, ◌^◌, ◌<◌, ◌≤◌, ⊤, length, MatchOption};
+ghost use Rattle.hex.specs.Hex.{encode_lower};
 ghost use Rattle.bc_text.specs.Fields.{Reads};
 ghost use Rattle.bc_text.specs.Parts.{Takes};
-ghost use Rattle.bc_key.specs.declared.keys.KeyNo.{KeyNo};
+ghost use Rattle.bc_key.specs.declared.config.DataUnit.TheVariants.{Bytes512};
 ghost use Rattle.bc_run.specs.Script.{IsDiskSize, IsNamedKey, IsOp, IsContext, AreKeys, bare_keys};
-ghost use Rattle.bc_run.specs.ScriptText.{disk_line, key_line, op_line, name_of};
-ghost use Rattle.bc_run.specs.Reading.{IsKeyFields, key_fields_line, IsBioFields, fields_of_bio, IsWriteFields, write_line, read_line, context_in, NoWrite, NoRead, SaysOp};
+ghost use Rattle.bc_run.specs.ScriptText.{disk_line, mode_text, unit_text, config_fields, key_line, op_line};
+ghost use Rattle.bc_run.specs.Reading.{IsConfig, IsKeyFor, IsBioFields, fields_of_bio, IsWriteFields, write_line, read_line, context_in, NoWrite, NoRead, SaysOp};
 
 use crate::name::Name;
 use crate::named_key::NamedKey;
+use crate::named_keys::NamedKeys;
 use crate::op::{Op, Text};
 use bc_bio::Context;
-use bc_key::{Dun, Key, KeyNo, Mode};
+use bc_key::{Config, DataUnit, Dun, Key, KeyNo, Mode};
 use bc_text::Parts;
 
 /// The number of blocks that a `disk` line says.
@@ -27,41 +29,66 @@ pub(crate) fn disk(mut fields: Parts) -> Option<u32>
     Some(blocks)
 }
 
-/// The fields of a `key` line that may differ.
-pub(crate) struct KeyFields {
-    pub(crate) name: Name,
-    pub(crate) raw: [u8; 64],
-}
-
 /// The key that a `key` line says.
-pub(crate) fn key(fields: Parts) -> Option<NamedKey>
+pub(crate) fn key(mut fields: Parts) -> Option<NamedKey>
     ensures { Reads IsNamedKey key_line fields.entry result }
 {
-    let KeyFields { name, raw } = key_fields(fields)?;
-    match Key::new(Mode::Aes256Xts, &raw, 512, 8) {
-        Ok(key) => Some(NamedKey { name, key }),
+    fields.expect(b"key")?;
+    let name = Name::of(fields.next()?)?;
+    let config = config(&mut fields)?;
+    let key = key_of(config, fields.next()?)?;
+    if !fields.is_empty() {
+        return None;
+    }
+    Some(NamedKey { name, key })
+}
+
+/// What a key is for, as a `key` line says it behind the name.
+fn config(fields: &mut Parts) -> Option<Config>
+    ensures { Takes IsConfig config_fields fields.old fields.new result }
+{
+    let mode = mode(fields.next()?)?;
+    let unit = unit(fields.next()?)?;
+    let dun_bytes = bc_text::number(fields.next()?, 1, 16)?;
+    Some(Config {
+        mode,
+        unit,
+        dun_bytes: dun_bytes as u8,
+    })
+}
+
+fn mode(field: &[u8]) -> Option<Mode>
+    ensures { Reads (λ _. ⊤) mode_text field.now result }
+{
+    match field {
+        b"aes-256-xts" => Some(Mode::Aes256Xts),
+        b"aes-128-cbc-essiv" => Some(Mode::Aes128CbcEssiv),
+        _ => None,
+    }
+}
+
+fn unit(field: &[u8]) -> Option<DataUnit>
+    ensures { Reads (λ unit. unit ≡ Bytes512) unit_text field.now result }
+{
+    DataUnit::of_bytes(bc_text::number(field, 512, 512)?)
+}
+
+/// The key for this use that has these digits: as many as its mode asks for, and valid.
+fn key_of(config: Config, digits: &[u8]) -> Option<Key>
+    requires { IsConfig config }
+    ensures { Reads (IsKeyFor config) (λ key. encode_lower key.raw) digits.now result }
+{
+    let mut room = [0; 64];
+    let raw = &mut room[..config.mode.key_size()];
+    bc_text::bytes_into(digits, raw)?;
+    match Key::new(config.mode, raw, config.unit.bytes(), config.dun_bytes) {
+        Ok(key) => Some(key),
         Err(_) => None,
     }
 }
 
-fn key_fields(mut fields: Parts) -> Option<KeyFields>
-    ensures { Reads IsKeyFields key_fields_line fields.entry result }
-{
-    fields.expect(b"key")?;
-    let name = Name::of(fields.next()?)?;
-    fields.expect(b"aes-256-xts")?;
-    fields.expect(b"512")?;
-    fields.expect(b"8")?;
-    let mut raw = [0; 64];
-    bc_text::bytes_into(fields.next()?, &mut raw)?;
-    if !fields.is_empty() {
-        return None;
-    }
-    Some(KeyFields { name, raw })
-}
-
 /// The operation that a line of a section says.
-pub(crate) fn operation(fields: Parts, keys: &[NamedKey], sectors: u32) -> Option<Op>
+pub(crate) fn operation(fields: Parts, keys: &NamedKeys, sectors: u32) -> Option<Op>
     requires some { 1 ≤ sectors }
     requires keys { AreKeys keys.now }
     requires few { length keys.now < 2 ^ 16 }
@@ -73,7 +100,7 @@ pub(crate) fn operation(fields: Parts, keys: &[NamedKey], sectors: u32) -> Optio
     }
 }
 
-fn write_op(fields: Parts, keys: &[NamedKey], sectors: u32) -> Option<Op>
+fn write_op(fields: Parts, keys: &NamedKeys, sectors: u32) -> Option<Op>
     requires some { 1 ≤ sectors }
     requires keys { AreKeys keys.now }
     requires few { length keys.now < 2 ^ 16 }
@@ -89,7 +116,7 @@ fn write_op(fields: Parts, keys: &[NamedKey], sectors: u32) -> Option<Op>
     })
 }
 
-fn read_op(fields: Parts, keys: &[NamedKey], sectors: u32) -> Option<Op>
+fn read_op(fields: Parts, keys: &NamedKeys, sectors: u32) -> Option<Op>
     requires some { 1 ≤ sectors }
     requires keys { AreKeys keys.now }
     requires few { length keys.now < 2 ^ 16 }
@@ -105,12 +132,12 @@ fn read_op(fields: Parts, keys: &[NamedKey], sectors: u32) -> Option<Op>
 }
 
 /// The bio's key and number, where the key's number bytes can write the number.
-fn context(bio: &BioFields, keys: &[NamedKey]) -> Option<Context>
+fn context(bio: &BioFields, keys: &NamedKeys) -> Option<Context>
     requires { bio.now.key.0 < length keys.now }
     ensures { MatchOption result (IsContext (bare_keys keys.now) (Some (context_in bio.now)) → ⊥)
         (λ context. (context ≡ context_in bio.now) × IsContext (bare_keys keys.now) (Some context)) }
 {
-    let config = keys[bio.key.0 as usize].key.config();
+    let config = keys.as_slice()[usize::from(bio.key.0)].key.config();
     if !bio.dun.fits(1, config.dun_bytes) {
         return None;
     }
@@ -135,7 +162,7 @@ pub(crate) struct WriteFields {
     pub(crate) byte: u8,
 }
 
-fn write(mut fields: Parts, keys: &[NamedKey], sectors: u32) -> Option<WriteFields>
+fn write(mut fields: Parts, keys: &NamedKeys, sectors: u32) -> Option<WriteFields>
     requires some { 1 ≤ sectors }
     requires few { length keys.now < 2 ^ 16 }
     ensures { Reads (IsWriteFields keys.now sectors) (write_line keys.now) fields.entry result }
@@ -150,7 +177,7 @@ fn write(mut fields: Parts, keys: &[NamedKey], sectors: u32) -> Option<WriteFiel
     Some(WriteFields { bio, byte })
 }
 
-fn read(mut fields: Parts, keys: &[NamedKey], sectors: u32) -> Option<BioFields>
+fn read(mut fields: Parts, keys: &NamedKeys, sectors: u32) -> Option<BioFields>
     requires some { 1 ≤ sectors }
     requires few { length keys.now < 2 ^ 16 }
     ensures { Reads (IsBioFields keys.now sectors) (read_line keys.now) fields.entry result }
@@ -163,34 +190,14 @@ fn read(mut fields: Parts, keys: &[NamedKey], sectors: u32) -> Option<BioFields>
     Some(bio)
 }
 
-fn bio(fields: &mut Parts, keys: &[NamedKey], sectors: u32) -> Option<BioFields>
+fn bio(fields: &mut Parts, keys: &NamedKeys, sectors: u32) -> Option<BioFields>
     requires some { 1 ≤ sectors }
     requires few { length keys.now < 2 ^ 16 }
     ensures { Takes (IsBioFields keys.now sectors) (fields_of_bio keys.now) fields.old fields.new result }
 {
-    let key = key_named(keys, fields.next()?)?;
+    let key = keys.number_of(fields.next()?)?;
     let sector = bc_text::number(fields.next()?, 0, sectors - 1)?;
     fields.expect(b"1")?;
     let dun = Dun::from_hex(fields.next()?)?;
     Some(BioFields { key, sector, dun })
-}
-
-/// The number of the key with this name.
-fn key_named(keys: &[NamedKey], name: &[u8]) -> Option<KeyNo>
-    requires { length keys.now < 2 ^ 16 }
-    ensures { MatchOption result ((key : KeyNo) → key.0 < length keys.now → name.now ≡ name_of keys.now key → ⊥)
-        (λ key. (key.0 < length keys.now) × (name.now ≡ name_of keys.now key)) }
-{
-    for number in 0..keys.len() {
-        if is_named(&keys[number], name) {
-            return Some(KeyNo(number as u16));
-        }
-    }
-    None
-}
-
-fn is_named(named: &NamedKey, name: &[u8]) -> bool
-    ensures { IsTrue result ↔ (name.now ≡ named.now.name) }
-{
-    name == named.name.as_bytes()
 }

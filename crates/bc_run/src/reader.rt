@@ -9,6 +9,7 @@ ghost use Rattle.bc_run.specs.declared.reader.Unread.TheVariants as unread;
 
 use crate::line;
 use crate::named_key::NamedKey;
+use crate::named_keys::NamedKeys;
 use crate::op::{Op, add_op};
 use crate::script::Script;
 use bc_base::Items;
@@ -16,7 +17,7 @@ use bc_text::Lines;
 use std::alloc::{AllocError, AllocFailed, Global};
 
 /// The most keys, and the most operations of a section.
-const MAX_KEYS: usize = 1;
+const MAX_KEYS: usize = 4096;
 
 const MAX_OPS: usize = 65536;
 
@@ -60,11 +61,11 @@ pub(crate) fn script_in(alloc: Global, mut lines: Lines) -> Result<Script, Unrea
         return Err(Unread::NoScript);
     };
     let keys = keys(alloc, &mut lines)?;
-    let threads = sections(alloc, &mut lines, keys.as_slice(), 8 * blocks)?;
+    let threads = sections(alloc, &mut lines, &keys, 8 * blocks)?;
     if !is_foot(&mut lines) {
         return Err(Unread::NoScript);
     }
-    Ok(Script::new(blocks, keys, threads))
+    Ok(Script::new(blocks, keys.into_items(), threads))
 }
 
 /// The first three lines, of which the second says how many blocks the disk has.
@@ -78,11 +79,11 @@ fn head(lines: &mut Lines) -> Option<u32>
 }
 
 /// The keys whose lines stand first.
-fn keys(alloc: Global, lines: &mut Lines) -> Result<Items<NamedKey>, Unread>
+fn keys(alloc: Global, lines: &mut Lines) -> Result<NamedKeys, Unread>
     ensures ok { IfOk result (HasKeys lines.old lines.new) }
     ensures no { IsErrOf result unread.NoScript → NoKeys lines.old }
 {
-    let mut keys = Vec::new(alloc);
+    let mut keys = NamedKeys::new(alloc);
     while lines.starts_as(b"key") {
         if keys.len() >= MAX_KEYS {
             return Err(Unread::NoScript);
@@ -90,9 +91,12 @@ fn keys(alloc: Global, lines: &mut Lines) -> Result<Items<NamedKey>, Unread>
         let Some(key) = next_key(lines) else {
             return Err(Unread::NoScript);
         };
-        keys.push(key)?;
+        let added = keys.add(alloc, key)?;
+        if !added {
+            return Err(Unread::NoScript);
+        }
     }
-    Ok(Items::from_vec(keys))
+    Ok(keys)
 }
 
 fn next_key(lines: &mut Lines) -> Option<NamedKey>
@@ -105,7 +109,7 @@ fn next_key(lines: &mut Lines) -> Option<NamedKey>
 fn sections(
     alloc: Global,
     lines: &mut Lines,
-    keys: &[NamedKey],
+    keys: &NamedKeys,
     sectors: u32,
 ) -> Result<Items<Items<Op>>, Unread>
     requires some { 1 ≤ sectors }
@@ -129,7 +133,7 @@ fn sections(
 fn section(
     alloc: Global,
     lines: &mut Lines,
-    keys: &[NamedKey],
+    keys: &NamedKeys,
     sectors: u32,
 ) -> Result<Items<Op>, Unread>
     requires some { 1 ≤ sectors }
@@ -157,7 +161,7 @@ fn ends_section(lines: &Lines) -> bool
     lines.starts_as(b"thread") || lines.starts_as(b"end")
 }
 
-fn next_op(lines: &mut Lines, keys: &[NamedKey], sectors: u32) -> Option<Op>
+fn next_op(lines: &mut Lines, keys: &NamedKeys, sectors: u32) -> Option<Op>
     requires some { 1 ≤ sectors }
     requires keys { AreKeys keys.now }
     ensures { NextLine (IsOp (bare_keys keys.now) sectors) (op_line keys.now) lines.old lines.new result }

@@ -227,3 +227,5 @@ fn a_script_of_one_byte_more_than_the_limit_is_too_long(rt: HostRuntime) -> Resu
     assert_eq!(rt; out.held().len(), 0);
     Ok(())
 }
+
+mod keys;

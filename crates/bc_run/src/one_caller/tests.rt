@@ -9,11 +9,12 @@ use crate::named_key::NamedKey;
 use bc_key::{Key, KeyNo, Mode};
 use std::test::Fail;
 
-/// A key of AES-256-XTS over data units of 512 bytes, with 8 number bytes.
-fn key_of(raw: &[u8]) -> Result<NamedKey, Fail>
-    ensures { IfOk result IsNamedKey }
+/// A key over data units of 512 bytes, with 8 number bytes.
+fn key_of(mode: Mode, raw: &[u8]) -> Result<NamedKey, Fail>
+    ensures rule { IfOk result IsNamedKey }
+    ensures number_bytes { IfOk result (λ named. named.key.config.dun_bytes ≡ 8) }
 {
-    let key = Key::new(Mode::Aes256Xts, raw, 512, 8)?;
+    let key = Key::new(mode, raw, 512, 8)?;
     let Some(name) = Name::of(b"a") else {
         unreachable!()
     };
@@ -22,10 +23,11 @@ fn key_of(raw: &[u8]) -> Result<NamedKey, Fail>
 
 /// The one whose bytes are 00 to 3f.
 fn key_a(alloc: Global) -> Result<NamedKey, Fail>
-    ensures { IfOk result IsNamedKey }
+    ensures rule { IfOk result IsNamedKey }
+    ensures number_bytes { IfOk result (λ named. named.key.config.dun_bytes ≡ 8) }
 {
     let raw: Vec<u8> = (0..64u8).collect(alloc)?;
-    key_of(raw.as_slice())
+    key_of(Mode::Aes256Xts, raw.as_slice())
 }
 
 /// The context of key 0 and number 0.
@@ -127,5 +129,33 @@ fn blocks_take_turns_among_the_shards(rt: HostRuntime) -> Result<(), Fail> {
     assert_eq!(rt; lines[0].as_slice(), [soft(0), soft(3)].as_slice());
     assert_eq!(rt; lines[1].as_slice(), [soft(1)].as_slice());
     assert_eq!(rt; lines[2].as_slice(), [soft(2)].as_slice());
+    Ok(())
+}
+
+// SHA-256 of the image that another implementation makes: zeros, and in sector 3 the data unit of 512 bytes 5a under the
+// key of CBC-ESSIV whose bytes are 80 to 8f, and number 255.
+#[test]
+fn a_write_under_cbc_essiv(rt: HostRuntime) -> Result<(), Fail> {
+    let alloc = rt.alloc();
+    let raw: Vec<u8> = (128..144u8).collect(alloc)?;
+    let named = key_of(Mode::Aes128CbcEssiv, raw.as_slice())?;
+    let context = Some(Context {
+        key: KeyNo(0),
+        dun: Dun::from_words([255, 0, 0, 0]),
+    });
+    let write = Op::Write {
+        context,
+        sector: 3,
+        units: 1,
+        text: Text::Fill(0x5a),
+    };
+    let script = script_of(alloc, 1, named, vec![in alloc; write]?)?;
+    let finished = serial(alloc, &script, vec![in alloc; 0; 4096]?, 1)?;
+    let digest = [
+        0x96, 0x05, 0x83, 0x23, 0x94, 0x88, 0xa8, 0x3f, 0x37, 0x14, 0x82, 0x59, 0x02, 0x93, 0xf2,
+        0x6c, 0x6d, 0x35, 0x01, 0x0f, 0x6b, 0x4a, 0x94, 0x50, 0x35, 0x7e, 0xe0, 0x01, 0xe2, 0xf0,
+        0xd6, 0xd8,
+    ];
+    assert_eq!(rt; Sha256::digest(finished.image.as_slice()), digest);
     Ok(())
 }

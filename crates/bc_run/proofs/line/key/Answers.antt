@@ -1,21 +1,24 @@
-use Rattle.std.proofs.Common.{◌∙◌, sym}
-use Rattle.bc_run.proofs.LineLaws.{key_line_fields, IsKeyFields-of_key, fields_of_key, key_read, key_not_refused, key_fields_injective}
+use Rattle.std.proofs.Common.{List, ℕ, [], ◌∷◌, ◌++◌, ◌∙◌, sym, ap}
+use Rattle.std.specs.Prelude.{codes}
+use Rattle.hex.specs.Hex.{encode_lower}
+use Rattle.bc_text.specs.Lines.{Line}
+use Rattle.bc_run.specs.ScriptText.{config_fields}
+use Rattle.bc_run.proofs.LineLaws.{after_two, config_of, no_key_line}
 use Rattle.bc_run.proofs.line.key.Goals as goal
 
-pub returns-in_err-name : goal.returns-in_err-name
-returns-in_err-name c =
-    rw c.from_residual.ensures
-    (λ x valid e. c.in_err-name.ensures (fields_of_key x) (IsKeyFields-of_key x valid) (e ∙ key_line_fields x valid))
+pub returns-in_err-config : goal.returns-in_err-config
+returns-in_err-config c =
+    rw c.from_residual-in_err-config.ensures
+    (λ x valid e.
+    let rest = encode_lower x.key.raw ∷ [] in
+    c.in_err-config.ensures x.key.config rest (config_of x valid)
+    (after_two (List ℕ) c.args.fields c.expect.new.self c.next.new.self (codes "key") c.in_ok-next.field-0.now (codes "key") x.name (config_fields x.key.config ++ rest) c.in_ok-expect.ensures c.in_ok-next.ensures e))
 
-pub returns-in-Ok : goal.returns-in-Ok
-returns-in-Ok c =
-    let made = c.in-Ok.ensures in
-    let read = key_read c.in_ok-name.field-0 c.in-Ok.key c.in_ok-name.ensures.0 made.valid made.mode made.unit made.dun_bytes made.raw in
-    (read.0, c.in_ok-name.ensures.1 ∙ read.1)
-
-pub returns-in-Err : goal.returns-in-Err
-returns-in-Err c = λ x valid e.
-    let fields = c.in_ok-name.field-0 in
-    let same = key_fields_injective fields (fields_of_key x) c.in_ok-name.ensures.0 (IsKeyFields-of_key x valid) (sym c.in_ok-name.ensures.1 ∙ e ∙ key_line_fields x valid) in
-    let halves = rw (valid.key.mode, ← same.1) at valid.key.valid.halves in
-    key_not_refused fields.raw c.in-Err.field-0 c.in_ok-name.ensures.0.2 halves c.in-Err.ensures.refuses
+pub returns-in_err-key : goal.returns-in_err-key
+returns-in_err-key c =
+    rw c.from_residual-in_err-key.ensures
+    (λ x valid e.
+    let config = c.in_ok-config.config in
+    let left = after_two (List ℕ) c.args.fields c.expect.new.self c.next.new.self (codes "key") c.in_ok-next.field-0.now (codes "key") x.name (config_fields x.key.config ++ encode_lower x.key.raw ∷ []) c.in_ok-expect.ensures c.in_ok-next.ensures e in
+    no_key_line x config c.in_ok-next-2.field-0.now c.next-2.new.self valid c.in_ok-config.ensures.0 c.in_err-key.ensures
+    (ap (λ (l : Line). config_fields config ++ l) (sym c.in_ok-next-2.ensures) ∙ sym c.in_ok-config.ensures.1 ∙ left))

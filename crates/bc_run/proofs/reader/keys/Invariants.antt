@@ -1,12 +1,10 @@
-use Rattle.std.proofs.Common.{◌≡◌, ◌≤◌, ◌++◌, length, map}
-use Rattle.std.specs.List.{AllByRecursion}
-use Rattle.bc_run.specs.Script.{IsNamedKey, max_keys}
+use Rattle.std.proofs.Common.{◌≡◌, ◌++◌, length, map}
+use Rattle.bc_run.specs.Script.{AreKeys}
 use Rattle.bc_run.specs.ScriptText.{key_line}
 use Rattle.bc_run.proofs.reader.keys.Given as goal
 
-abbrev pub invariant-loop-keys : goal.invariant-loop-keys
-invariant-loop-keys l =
-    (l.fn.lines ≡ map key_line l.keys.items ++ l.lines) × AllByRecursion IsNamedKey l.keys.items × (length l.keys.items ≤ max_keys)
+abbrev pub invariant-loop-alloc : goal.invariant-loop-alloc
+invariant-loop-alloc l = (l.fn.lines ≡ map key_line l.keys ++ l.lines) × AreKeys l.keys
 
-abbrev pub decreases-loop-keys : goal.decreases-loop-keys
-decreases-loop-keys l = length l.lines
+abbrev pub decreases-loop-alloc : goal.decreases-loop-alloc
+decreases-loop-alloc l = length l.lines

@@ -8,8 +8,6 @@ returns c = record {
   key = record {
     valid = c.in_ok-key.ensures.valid;
     bytes = rw c.in_ok-key.ensures.raw (λ i. omega (arith, c.type_inv.raw i));
-    mode = c.in_ok-key.ensures.mode;
     unit = sym (same_Some _ _ c.in_ok-key.ensures.unit);
-    dun_bytes = c.in_ok-key.ensures.dun_bytes;
   };
 }
