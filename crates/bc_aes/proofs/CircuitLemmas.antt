@@ -1,11 +1,11 @@
 -- A circuit computes with slices what it computes with each bit; and with the bits of each byte, the S-box.
-use Rattle.std.proofs.Common.{◌≡◌, ℕ, zero, suc, ◌+◌, ◌%◌, ◌<◌, ◌==◌, Bool, true, false, List, [], ◌∷◌, ◌++◌, map, length, slice_index, slice_index_or, replicate, get_or, refl, sym, ap, ap₂, ◌∙◌, arith, bit_xor, bit_and, min, if◌then◌else◌}
+use Rattle.std.proofs.Common.{◌≡◌, ℕ, zero, suc, ◌+◌, ◌%◌, ◌<◌, Bool, true, false, List, [], ◌∷◌, ◌++◌, map, length, slice_index, slice_index_or, replicate, refl, sym, ap, ap₂, ◌∙◌, arith, bit_xor, bit_and, min, if◌then◌else◌}
 use Rattle.std.proofs.lemmas.Nat.Bits.{bit_at_xor, bit_at_and, bit_at-zero, bit_at_ones}
-use Rattle.std.proofs.lemmas.Simd.{get_or-zip2, length-zip2, length-replicate, get_or-replicate}
+use Rattle.std.proofs.lemmas.Simd.{get_or-zip2, length-zip2, get_or-replicate}
 use Rattle.std.specs.Simd.Lanes.{zip2, Each1}
 use Rattle.std.specs.Int.{bit_at}
 use Rattle.bc_aes.specs.State.{byte_of_bits}
-use Rattle.bc_aes.specs.Circuit.{Gate, Logic, Circuit, value_of, values_after, results_of, bit_logic, slice_logic}
+use Rattle.bc_aes.specs.Circuit.{Gate, Circuit, value_of, values_after, results_of, bit_logic, slice_logic}
 
 abbrev pub Long : List ℕ → Type 0
 Long v = length v ≡ 16

@@ -5,7 +5,6 @@ use Rattle.std.proofs.lemmas.Nat.Bits.{bit_at-lt}
 use Rattle.std.proofs.lemmas.List.FromFn.{get_or-map-range_with_len, fill_by_all, length-map-range_with_len}
 use Rattle.std.proofs.lemmas.Simd.{map-map}
 use Rattle.std.specs.List.{range_with_len}
-use Rattle.std.specs.Int.{bit_at}
 use Rattle.std.specs.Simd.Lanes.{Each1}
 use Rattle.bc_aes.specs.State.{byte_of_bits, sub_byte, inv_sub_byte, sub_bytes, inv_sub_bytes}
 use Rattle.bc_aes.specs.Slices.{slices_of, byte_of, EachSlicedBlock}

@@ -1,5 +1,5 @@
 -- Two slices that exchange the bits at every other step of n bits.
-use Rattle.std.proofs.Common.{◌≡◌, ℕ, zero, suc, ◌+◌, ◌-◌, ◌*◌, ◌/◌, ◌%◌, ◌^◌, ◌<◌, ◌≤◌, ◌==◌, Bool, true, false, nat_lt, List, map, length, slice_index, replicate, refl, sym, ap, ap₂, ◌∙◌, arith, bit_xor, bit_and, min, Fits, w8, if◌then◌else◌}
+use Rattle.std.proofs.Common.{◌≡◌, ℕ, zero, suc, ◌+◌, ◌-◌, ◌*◌, ◌/◌, ◌%◌, ◌^◌, ◌<◌, ◌≤◌, ◌==◌, true, false, nat_lt, List, map, slice_index, replicate, refl, sym, ap, ◌∙◌, arith, bit_xor, bit_and, min, Fits, w8, if◌then◌else◌}
 use borrow.Author.Tests.{ltb-true, ltb-false}
 use Rattle.std.proofs.lemmas.Nat.{shr-shr, shr_split, pow_pos, xor_lt, and_le_r, mod_below}
 use Rattle.std.proofs.lemmas.Nat.Bits.{bit_at_xor, bit_at_and, bit_at-lt, bit_at-zero, bit_at_cat_low, bit_at_cat_high}

@@ -1,5 +1,5 @@
 -- Three exchanges of bits, at steps of 1, 2 and 4, make slices of eight blocks, and blocks of slices.
-use Rattle.std.proofs.Common.{◌≡◌, ℕ, zero, suc, ◌+◌, ◌-◌, ◌*◌, ◌/◌, ◌%◌, ◌<◌, ◌==◌, List, [], ◌∷◌, map, length, slice_index, slice_index_or, get_or, refl, sym, ap, ap₂, ◌∙◌, arith, take, below_more, if◌then◌else◌}
+use Rattle.std.proofs.Common.{◌≡◌, ℕ, ◌+◌, ◌-◌, ◌*◌, ◌/◌, ◌%◌, ◌<◌, ◌==◌, List, [], ◌∷◌, map, length, slice_index, slice_index_or, get_or, refl, sym, ap, ap₂, ◌∙◌, arith, take, below_more, if◌then◌else◌}
 use Rattle.std.proofs.lemmas.List.{get_or-map}
 use Rattle.std.proofs.lemmas.Simd.{Each1-get_or}
 use Rattle.std.proofs.lemmas.List.FromFn.{get_or-map-range_with_len, fill_by_all}
