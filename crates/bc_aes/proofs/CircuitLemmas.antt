@@ -4,6 +4,7 @@ use Rattle.std.proofs.lemmas.Nat.Bits.{bit_at_xor, bit_at_and, bit_at-lt, bit_at
 use Rattle.std.proofs.lemmas.Simd.{get_or-zip2, length-zip2, get_or-replicate}
 use Rattle.std.specs.Simd.Lanes.{zip2, Each1}
 use Rattle.std.specs.Int.{bit_at}
+use Rattle.bc_aes.specs.State.{byte_of_bits}
 use Rattle.bc_aes.specs.Circuit.{Gate, Circuit, value_of, values_after, results_of, bit_logic, slice_logic}
 
 abbrev pub Long : List ℕ → Type 0
@@ -13,38 +14,26 @@ Long v = length v ≡ 16
 abbrev pub bit_of : ℕ → ℕ → List ℕ → ℕ
 bit_of p k v = bit_at (slice_index v p) k
 
-xor_bits : (x y : ℕ) → x < 2 → y < 2 → (x + y) % 2 ≡ bit_xor x y
-xor_bits zero zero h k = refl
-xor_bits zero (suc zero) h k = refl
-xor_bits (suc zero) zero h k = refl
-xor_bits (suc zero) (suc zero) h k = refl
-xor_bits (suc (suc x)) y h k = absurd (omega arith)
-xor_bits zero (suc (suc y)) h k = absurd (omega arith)
-xor_bits (suc zero) (suc (suc y)) h k = absurd (omega arith)
+-- the byte of these bits, bit 0 first
+abbrev pub byte_from : List ℕ → ℕ
+byte_from bits = byte_of_bits (λ j. slice_index bits j)
 
-and_bits : (x y : ℕ) → x < 2 → y < 2 → min x y ≡ bit_and x y
-and_bits zero zero h k = refl
-and_bits zero (suc zero) h k = refl
-and_bits (suc zero) zero h k = refl
-and_bits (suc zero) (suc zero) h k = refl
-and_bits (suc (suc x)) y h k = absurd (omega arith)
-and_bits zero (suc (suc y)) h k = absurd (omega arith)
-and_bits (suc zero) (suc (suc y)) h k = absurd (omega arith)
+pub long : (f : ℕ → ℕ → ℕ) (xs ys : List ℕ) → Long xs → Long ys → Long (zip2 f xs ys)
+long f xs ys hx hy = length-zip2 f xs ys (hx ∙ sym hy) ∙ hx
+
+pub lane : (f : ℕ → ℕ → ℕ) (xs ys : List ℕ) (p : ℕ) → p < 16 → Long xs → Long ys → slice_index (zip2 f xs ys) p ≡ f (slice_index xs p) (slice_index ys p)
+lane f xs ys p lt hx hy = get_or-zip2 f xs ys p 0 0 0 (omega (arith, hx)) (omega (arith, hy))
 
 -- ---- one gate
 
 gate_long : (b : Bool) (u v : List ℕ) → Long u → Long v → Long (if b then zip2 bit_and u v else zip2 bit_xor u v)
-gate_long true u v hu hv = length-zip2 bit_and u v (hu ∙ sym hv) ∙ hu
-gate_long false u v hu hv = length-zip2 bit_xor u v (hu ∙ sym hv) ∙ hu
+gate_long true u v hu hv = long bit_and u v hu hv
+gate_long false u v hu hv = long bit_xor u v hu hv
 
 gate_bit : (p k : ℕ) (b : Bool) (u v : List ℕ) → p < 16 → Long u → Long v
-    → bit_of p k (if b then zip2 bit_and u v else zip2 bit_xor u v) ≡ (if b then bit_and (bit_of p k u) (bit_of p k v) else bit_xor (bit_of p k u) (bit_of p k v))
-gate_bit p k true u v lt hu hv =
-    ap (λ (w : ℕ). bit_at w k) (get_or-zip2 bit_and u v p 0 0 0 (omega arith) (omega arith)) ∙ bit_at_and _ _ k
-    ∙ and_bits _ _ (bit_at-lt (slice_index u p) k) (bit_at-lt (slice_index v p) k)
-gate_bit p k false u v lt hu hv =
-    ap (λ (w : ℕ). bit_at w k) (get_or-zip2 bit_xor u v p 0 0 0 (omega arith) (omega arith)) ∙ bit_at_xor _ _ k
-    ∙ xor_bits _ _ (bit_at-lt (slice_index u p) k) (bit_at-lt (slice_index v p) k)
+    → bit_of p k (if b then zip2 bit_and u v else zip2 bit_xor u v) ≡ (if b then min (bit_of p k u) (bit_of p k v) else (bit_of p k u + bit_of p k v) % 2)
+gate_bit p k true u v lt hu hv = ap (λ (w : ℕ). bit_at w k) (lane bit_and u v p lt hu hv) ∙ bit_at_and (slice_index u p) (slice_index v p) k
+gate_bit p k false u v lt hu hv = ap (λ (w : ℕ). bit_at w k) (lane bit_xor u v p lt hu hv) ∙ bit_at_xor (slice_index u p) (slice_index v p) k
 
 -- ---- the values so far
 
@@ -69,7 +58,7 @@ values_bits p k (g ∷ gates) values lt h =
     let hv : Long v = index_long values g.right h in
     let top : bit_of p k (value_of slice_logic values g) ≡ value_of bit_logic (map (bit_of p k) values) g =
     gate_bit p k g.is_and u v lt hu hv
-    ∙ ap₂ (λ (x y : ℕ). if g.is_and then bit_and x y else bit_xor x y) (sym (index_bit p k values g.left lt)) (sym (index_bit p k values g.right lt)) in
+    ∙ ap₂ (λ (x y : ℕ). if g.is_and then min x y else (x + y) % 2) (sym (index_bit p k values g.left lt)) (sym (index_bit p k values g.right lt)) in
     values_bits p k gates (value_of slice_logic values g ∷ values) lt (gate_long g.is_and u v hu hv, h)
     ∙ ap (λ (w : ℕ). values_after bit_logic gates (w ∷ map (bit_of p k) values)) top
 

@@ -12,11 +12,7 @@ use Rattle.bc_aes.specs.Circuit.{Circuit, results_of, bit_logic, slice_logic, su
 use Rattle.bc_aes.specs.declared.slices.Slices.{Slices}
 use Rattle.bc_aes.specs.declared.tables.TheConstants.{SBOX, INV_SBOX}
 use Rattle.bc_aes.proofs.TableLemmas.{sbox_at, inv_sbox_at}
-use Rattle.bc_aes.proofs.CircuitLemmas.{Long, bit_of, results_bits}
-
--- the byte of these bits, bit 0 first
-abbrev byte_from : List ℕ → ℕ
-byte_from bits = byte_of_bits (λ j. slice_index bits j)
+use Rattle.bc_aes.proofs.CircuitLemmas.{Long, bit_of, byte_from, results_bits}
 
 -- ---- a test of all bytes, by their bits
 

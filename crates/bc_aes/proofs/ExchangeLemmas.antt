@@ -9,7 +9,7 @@ use Rattle.std.specs.Simd.Lanes.{zip2, Each1}
 use Rattle.std.specs.List.{range_with_len}
 use Rattle.std.specs.Int.{bit_at}
 use Rattle.bc_aes.specs.Slices.{bits_at, AreBytes}
-use Rattle.bc_aes.proofs.CircuitLemmas.{Long}
+use Rattle.bc_aes.proofs.CircuitLemmas.{Long, long, lane}
 
 -- ---- a shift moves bits
 
@@ -72,14 +72,8 @@ lower_bit n m x y i lt =
 abbrev moved_lanes : ℕ → ℕ → List ℕ → List ℕ → List ℕ
 moved_lanes n m a b = zip2 bit_and (zip2 bit_xor (zip2 (λ x s. x / 2 ^ s) a (replicate 16 n)) b) (replicate 16 m)
 
-lane : (f : ℕ → ℕ → ℕ) (xs ys : List ℕ) (p : ℕ) → p < 16 → Long xs → Long ys → slice_index (zip2 f xs ys) p ≡ f (slice_index xs p) (slice_index ys p)
-lane f xs ys p lt hx hy = get_or-zip2 f xs ys p 0 0 0 (omega (arith, hx)) (omega (arith, hy))
-
 lane_by : (f : ℕ → ℕ → ℕ) (xs : List ℕ) (s p : ℕ) → p < 16 → Long xs → slice_index (zip2 f xs (replicate 16 s)) p ≡ f (slice_index xs p) s
 lane_by f xs s p lt hx = lane f xs (replicate 16 s) p lt hx refl ∙ ap (f (slice_index xs p)) (get_or-replicate 16 p s 0 lt)
-
-long : (f : ℕ → ℕ → ℕ) (xs ys : List ℕ) → Long xs → Long ys → Long (zip2 f xs ys)
-long f xs ys hx hy = length-zip2 f xs ys (hx ∙ sym hy) ∙ hx
 
 moved_long : (n m : ℕ) (a b : List ℕ) → Long a → Long b → Long (moved_lanes n m a b)
 moved_long n m a b ha hb =

@@ -11,7 +11,7 @@ use Rattle.bc_aes.specs.Blocks.{block}
 use Rattle.bc_aes.specs.declared.slices.Slices.{Slices}
 use Rattle.bc_aes.specs.Slices.{slices_of, byte_of, block_of, AreBytes, bits_at, lower_bits, upper_bits, Exchanged}
 use Rattle.bc_aes.proofs.BlockLemmas.{kept}
-use Rattle.bc_aes.proofs.CircuitLemmas.{Long, bit_of}
+use Rattle.bc_aes.proofs.CircuitLemmas.{Long, bit_of, byte_from}
 
 eight : {a b c d e f g h a' b' c' d' e' f' g' h' : List ℕ} → a ≡ a' → b ≡ b' → c ≡ c' → d ≡ d' → e ≡ e' → f ≡ f' → g ≡ g' → h ≡ h'
     → (a ∷ b ∷ c ∷ d ∷ e ∷ f ∷ g ∷ h ∷ []) ≡ (a' ∷ b' ∷ c' ∷ d' ∷ e' ∷ f' ∷ g' ∷ h' ∷ [])
@@ -68,9 +68,6 @@ byte_of_its_bits : (x : ℕ) → x < 256 → byte_of_bits (bit_at x) ≡ x
 byte_of_its_bits x lt =
     sym (get_or-map-range_with_len (λ x. byte_of_bits (bit_at x)) 0 256 x x 0 lt (omega arith)) ∙ ap (λ (xs : List ℕ). get_or xs x 0) bytes_of_bits
     ∙ get_or-map-range_with_len (λ x. x) 0 256 x x 0 lt (omega arith)
-
-abbrev byte_from : List ℕ → ℕ
-byte_from bits = byte_of_bits (λ j. slice_index bits j)
 
 abbrev pub AreTransposed : Slices → Slices → Type 0
 AreTransposed old new = (p : ℕ) → p < 16 → map (bits_at p) (slices_of new) ≡ columns p (slices_of old)

@@ -1,6 +1,6 @@
 -- Circuits of exclusive-ors and ands, and those of the S-box and of its inverse. A circuit computes with whatever has
 -- both: with bits, or with slices, byte by byte. The contracts of private functions speak of these; no public one does.
-use Rattle.std.specs.Prelude.{ℕ, List, [], ◌∷◌, ◌++◌, Bool, true, false, if◌then◌else◌, map, slice_index_or, replicate, bit_xor, bit_and}
+use Rattle.std.specs.Prelude.{ℕ, ◌+◌, ◌%◌, min, List, [], ◌∷◌, ◌++◌, Bool, true, false, if◌then◌else◌, map, slice_index_or, replicate, bit_xor, bit_and}
 use Rattle.std.specs.Simd.Lanes.{zip2}
 
 -- a gate reads two of the values so far, each by how many stand before it, the newest first
@@ -45,9 +45,9 @@ abbrev pub results_of : {A : Type 0} → Logic A → Circuit → List A → List
 results_of logic circuit inputs =
     map (λ k. slice_index_or (values_after logic circuit.gates (inputs ++ logic.ones ∷ [])) k logic.zeros) circuit.results
 
--- with single bits
+-- with single bits: their sum modulo 2, and the lesser
 abbrev pub bit_logic : Logic ℕ
-bit_logic = record { xor = bit_xor; and = bit_and; zeros = 0; ones = 1 }
+bit_logic = record { xor = λ x y. (x + y) % 2; and = min; zeros = 0; ones = 1 }
 
 -- with slices of 16 bytes
 abbrev pub slice_logic : Logic (List ℕ)

@@ -30,15 +30,15 @@ AreBytes slice = (p : ℕ) → p < 16 → slice_index slice p < 256
 abbrev pub bits_at : ℕ → List ℕ → List ℕ
 bits_at p slice = map (bit_at (slice_index slice p)) (range_with_len 0 8)
 
--- bits of a that stay where they are by this step, and between them those of b, one step on
+-- the bits of a, but where i / n is odd the bit of b that stands n places lower
 abbrev pub lower_bits : ℕ → List ℕ → List ℕ → List ℕ
 lower_bits n a b = map (λ i. if i / n % 2 == 0 then slice_index a i else slice_index b (i - n)) (range_with_len 0 8)
 
--- bits of b that stay where they are by this step, and between them those of a, one step back
+-- the bits of b, but where i / n is even the bit of a that stands n places higher
 abbrev pub upper_bits : ℕ → List ℕ → List ℕ → List ℕ
 upper_bits n a b = map (λ i. if i / n % 2 == 0 then slice_index a (i + n) else slice_index b i) (range_with_len 0 8)
 
--- c and d are slices a and b with the bits at every other step of n bits exchanged
+-- c and d are slices a and b, once each byte of a has given its bits where i / n is odd for those of b n places lower
 pub record Exchanged (n : ℕ) (a b c d : List ℕ) : Type 0 where
   pub lower : (p : ℕ) → p < 16 → bits_at p c ≡ lower_bits n (bits_at p a) (bits_at p b)
   pub upper : (p : ℕ) → p < 16 → bits_at p d ≡ upper_bits n (bits_at p a) (bits_at p b)
