@@ -56,7 +56,7 @@ pub small_range : (xs : List ℕ) (a b : ℕ) → Small xs → Small (slice_rang
 small_range xs a b h = small_take (b - a) (drop a xs) (small_drop a xs h)
 
 -- a list of results that are bytes
-small_map : (f : ℕ → ℕ) (xs : List ℕ) → ((n : ℕ) → f n < 256) → Small (map f xs)
+pub small_map : (f : ℕ → ℕ) (xs : List ℕ) → ((n : ℕ) → f n < 256) → Small (map f xs)
 small_map f [] h i = small_nil i
 small_map f (x ∷ xs) h zero = h x
 small_map f (x ∷ xs) h (suc i) = small_map f xs h i

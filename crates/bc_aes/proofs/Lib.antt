@@ -13,3 +13,4 @@ pub mod CircuitLemmas
 pub mod CircuitTables
 pub mod ExchangeLemmas
 pub mod TransposeLemmas
+pub mod SliceLemmas

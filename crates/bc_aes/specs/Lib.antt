@@ -6,4 +6,5 @@ pub mod Columns
 pub mod Blocks
 pub mod Slices
 pub mod Circuit
+pub mod SlicedRounds
 pub mod Laws

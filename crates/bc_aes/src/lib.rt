@@ -15,6 +15,7 @@ mod blocks;
 mod circuit;
 mod columns;
 mod laws;
+mod layers;
 pub mod plain;
 mod rounds;
 mod schedule;

@@ -1,0 +1,25 @@
+-- What the parts of a round do to eight blocks in bit slices, and round keys in slices. The contracts of private functions
+-- speak of these; no public one does.
+use Rattle.std.specs.Prelude.{◌≡◌, ℕ, ◌+◌, ◌%◌, ◌<◌, List, length, map, slice_index_or}
+use Rattle.bc_aes.specs.Field.{product}
+use Rattle.bc_aes.specs.State.{at, state_of, add_round_key}
+use Rattle.bc_aes.specs.KeyExpansion.{round_key}
+use Rattle.bc_aes.specs.Slices.{slices_of, block_of}
+use Rattle.bc_aes.specs.declared.slices.Slices.{Slices}
+
+-- each column moves up by n rows, round about
+unfoldable pub turned : ℕ → List ℕ → List ℕ
+turned n state = state_of (λ r c. at state ((r + n) % 4) c)
+
+-- each byte multiplied by x
+unfoldable pub doubled : List ℕ → List ℕ
+doubled state = map (product 2) state
+
+-- each block of `sum` is that block of `old` plus that block of `key`
+pub record IsSlicedSum (old key sum : List (List ℕ)) : Type 0 where
+  pub each : (k : ℕ) → k < 8 → block_of sum k ≡ add_round_key (block_of old k) (block_of key k)
+
+-- the round keys of a schedule, each of them in all eight blocks
+pub record AreRoundKeys (schedule : List ℕ) (keys : List Slices) : Type 0 where
+  pub each : (round k : ℕ) (d : Slices) → round < length keys → k < 8
+      → block_of (slices_of (slice_index_or keys round d)) k ≡ round_key schedule round

@@ -1,0 +1,166 @@
+//! The parts of a round on eight blocks in bit slices, but for the S-box.
+//!
+//! Byte r + 4c of a slice is row r, column c, so that rows and columns move as bytes of each slice.
+
+ghost use Rattle.std.specs.Prelude.{◌≡◌, [], ◌∷◌};
+ghost use Rattle.std.specs.Simd.Lanes.{pick_l};
+ghost use Rattle.bc_aes.specs.State.{shift_rows, inv_shift_rows, mix_columns, inv_mix_columns};
+ghost use Rattle.bc_aes.specs.Slices.{slices_of, EachSlicedBlock};
+ghost use Rattle.bc_aes.specs.SlicedRounds.{turned, doubled, IsSlicedSum};
+
+use crate::slices::Slices;
+use std::simd::prelude::*;
+
+// Each row r moves left by r columns.
+#[inline(always)]
+fn rows_shifted(slice: u8x16) -> u8x16
+    ensures { result ≡ pick_l 0 slice (0 ∷ 5 ∷ 10 ∷ 15 ∷ 4 ∷ 9 ∷ 14 ∷ 3 ∷ 8 ∷ 13 ∷ 2 ∷ 7 ∷ 12 ∷ 1 ∷ 6 ∷ 11 ∷ []) }
+{
+    slice.swizzle([0, 5, 10, 15, 4, 9, 14, 3, 8, 13, 2, 7, 12, 1, 6, 11])
+}
+
+// Each row r moves right by r columns.
+#[inline(always)]
+fn rows_unshifted(slice: u8x16) -> u8x16
+    ensures { result ≡ pick_l 0 slice (0 ∷ 13 ∷ 10 ∷ 7 ∷ 4 ∷ 1 ∷ 14 ∷ 11 ∷ 8 ∷ 5 ∷ 2 ∷ 15 ∷ 12 ∷ 9 ∷ 6 ∷ 3 ∷ []) }
+{
+    slice.swizzle([0, 13, 10, 7, 4, 1, 14, 11, 8, 5, 2, 15, 12, 9, 6, 3])
+}
+
+// Each column moves up by one row.
+#[inline(always)]
+fn columns_turned(slice: u8x16) -> u8x16
+    ensures { result ≡ pick_l 0 slice (1 ∷ 2 ∷ 3 ∷ 0 ∷ 5 ∷ 6 ∷ 7 ∷ 4 ∷ 9 ∷ 10 ∷ 11 ∷ 8 ∷ 13 ∷ 14 ∷ 15 ∷ 12 ∷ []) }
+{
+    slice.swizzle([1, 2, 3, 0, 5, 6, 7, 4, 9, 10, 11, 8, 13, 14, 15, 12])
+}
+
+// Each column moves up by two rows.
+#[inline(always)]
+fn columns_turned_twice(slice: u8x16) -> u8x16
+    ensures { result ≡ pick_l 0 slice (2 ∷ 3 ∷ 0 ∷ 1 ∷ 6 ∷ 7 ∷ 4 ∷ 5 ∷ 10 ∷ 11 ∷ 8 ∷ 9 ∷ 14 ∷ 15 ∷ 12 ∷ 13 ∷ []) }
+{
+    slice.swizzle([2, 3, 0, 1, 6, 7, 4, 5, 10, 11, 8, 9, 14, 15, 12, 13])
+}
+
+/// ShiftRows of each block (FIPS 197, 5.1.2).
+#[inline(always)]
+pub fn shift_rows(q: Slices) -> Slices
+    ensures shifts { EachSlicedBlock shift_rows (slices_of q) (slices_of result) }
+{
+    Slices {
+        s0: rows_shifted(q.s0),
+        s1: rows_shifted(q.s1),
+        s2: rows_shifted(q.s2),
+        s3: rows_shifted(q.s3),
+        s4: rows_shifted(q.s4),
+        s5: rows_shifted(q.s5),
+        s6: rows_shifted(q.s6),
+        s7: rows_shifted(q.s7),
+    }
+}
+
+/// InvShiftRows of each block (FIPS 197, 5.3.1).
+#[inline(always)]
+pub fn inv_shift_rows(q: Slices) -> Slices
+    ensures shifts_back { EachSlicedBlock inv_shift_rows (slices_of q) (slices_of result) }
+{
+    Slices {
+        s0: rows_unshifted(q.s0),
+        s1: rows_unshifted(q.s1),
+        s2: rows_unshifted(q.s2),
+        s3: rows_unshifted(q.s3),
+        s4: rows_unshifted(q.s4),
+        s5: rows_unshifted(q.s5),
+        s6: rows_unshifted(q.s6),
+        s7: rows_unshifted(q.s7),
+    }
+}
+
+// The next row's byte in each place of each block.
+#[inline(always)]
+fn turned(q: Slices) -> Slices
+    ensures turns { EachSlicedBlock (turned 1) (slices_of q) (slices_of result) }
+{
+    Slices {
+        s0: columns_turned(q.s0),
+        s1: columns_turned(q.s1),
+        s2: columns_turned(q.s2),
+        s3: columns_turned(q.s3),
+        s4: columns_turned(q.s4),
+        s5: columns_turned(q.s5),
+        s6: columns_turned(q.s6),
+        s7: columns_turned(q.s7),
+    }
+}
+
+// The byte of the row after the next in each place of each block.
+#[inline(always)]
+fn turned_twice(q: Slices) -> Slices
+    ensures turns { EachSlicedBlock (turned 2) (slices_of q) (slices_of result) }
+{
+    Slices {
+        s0: columns_turned_twice(q.s0),
+        s1: columns_turned_twice(q.s1),
+        s2: columns_turned_twice(q.s2),
+        s3: columns_turned_twice(q.s3),
+        s4: columns_turned_twice(q.s4),
+        s5: columns_turned_twice(q.s5),
+        s6: columns_turned_twice(q.s6),
+        s7: columns_turned_twice(q.s7),
+    }
+}
+
+// Each byte multiplied by x: the bits move up by one, and the highest comes back where the reduction has a term.
+#[inline(always)]
+fn doubled(q: Slices) -> Slices
+    ensures doubles { EachSlicedBlock doubled (slices_of q) (slices_of result) }
+{
+    Slices {
+        s0: q.s7,
+        s1: q.s0 ^ q.s7,
+        s2: q.s1,
+        s3: q.s2 ^ q.s7,
+        s4: q.s3 ^ q.s7,
+        s5: q.s4,
+        s6: q.s5,
+        s7: q.s6,
+    }
+}
+
+/// AddRoundKey of each block, with the same block of the key (FIPS 197, 5.1.4).
+#[inline(always)]
+pub fn add(q: Slices, key: Slices) -> Slices
+    ensures adds { IsSlicedSum (slices_of q) (slices_of key) (slices_of result) }
+{
+    Slices {
+        s0: q.s0 ^ key.s0,
+        s1: q.s1 ^ key.s1,
+        s2: q.s2 ^ key.s2,
+        s3: q.s3 ^ key.s3,
+        s4: q.s4 ^ key.s4,
+        s5: q.s5 ^ key.s5,
+        s6: q.s6 ^ key.s6,
+        s7: q.s7 ^ key.s7,
+    }
+}
+
+/// MixColumns of each block (FIPS 197, 5.1.3). With t the sum of a row and the next, the new row is 2t plus the next row
+/// plus the t of two rows further.
+#[inline(always)]
+pub fn mix_columns(q: Slices) -> Slices
+    ensures mixes { EachSlicedBlock mix_columns (slices_of q) (slices_of result) }
+{
+    let next = turned(q);
+    let sums = add(q, next);
+    add(add(doubled(sums), next), turned_twice(sums))
+}
+
+/// InvMixColumns of each block (FIPS 197, 5.3.3), as MixColumns of each row plus 4 times the sum of it and the row after
+/// the next.
+#[inline(always)]
+pub fn inv_mix_columns(q: Slices) -> Slices
+    ensures unmixes { EachSlicedBlock inv_mix_columns (slices_of q) (slices_of result) }
+{
+    mix_columns(add(q, doubled(doubled(add(q, turned_twice(q))))))
+}
