@@ -6,6 +6,7 @@ pub mod RoundLemmas
 pub mod ScheduleLemmas
 pub mod BlockLemmas
 pub mod ByteLemmas
+pub mod ColumnLemmas
 pub mod UndoLemmas
 pub mod CipherLaws
 pub mod PlainLemmas
@@ -14,3 +15,4 @@ pub mod CircuitTables
 pub mod ExchangeLemmas
 pub mod TransposeLemmas
 pub mod SliceLemmas
+pub mod MixLemmas

@@ -162,3 +162,10 @@ block_of-doubled q k long =
     ap₂ (λ (u v : ℕ). same u v (bit_at (slice_index (zip2 bit_xor q.s3 q.s7) p) k)) e1 e3
     ∙ ap (λ (w : ℕ). same ((bit 0 + bit 7) % 2) ((bit 2 + bit 7) % 2) w) e4
     ∙ byte_of_bits-doubled bit (λ i. bit_at-lt (slice_index (slice_index_or (slices_of q) i []) p) k))
+
+-- ---- blocks
+
+pub small-block_of : (slices : List (List ℕ)) (k : ℕ) → Small (block_of slices k)
+small-block_of slices k =
+    small_map (byte_of slices k) (range_with_len 0 16)
+    (λ p. byte_of_bits-lt (λ j. bit_at (slice_index (slice_index_or slices j []) p) k) (λ j. bit_at-lt (slice_index (slice_index_or slices j []) p) k))
