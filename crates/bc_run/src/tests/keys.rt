@@ -113,7 +113,7 @@ fn report_of_keys(alloc: Global) -> Result<String, Fail> {
 fn each_of_4096_keys_is_used(rt: HostRuntime) -> Result<(), Fail> {
     let text = script_of_keys(rt.alloc(), 4096)?;
     let report = report_of_keys(rt.alloc())?;
-    let mut out = MemSink::new(rt.alloc(), 4096, 131072, Vec::new(rt.alloc()))?;
+    let mut out = MemSink::new(rt.alloc(), 131072, 4096, Vec::new(rt.alloc()))?;
     let status = status_of(&rt, &["serial"], text.as_bytes(), 4096, &mut out)?;
     assert_eq!(rt; status, Status::Ok);
     assert_eq!(rt; out.held(), report.as_bytes());
