@@ -1,2 +1,4 @@
 pub mod Examples
+pub mod LineForms
+pub mod Onto
 pub mod Above
