@@ -31,7 +31,7 @@ key_fields named =
       mode = named.key.config.mode;
       unit = decimal (bytes_of named.key.config.unit);
       dun_bytes = decimal named.key.config.dun_bytes;
-      digits = encode_lower named.key.raw
+      digits = encode_lower named.key.raw;
     }
 
 -- the fields of a bio
