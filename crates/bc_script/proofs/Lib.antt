@@ -1,4 +1,5 @@
 pub mod Examples
+pub mod Fields
 pub mod LineForms
 pub mod Onto
 pub mod Above

@@ -1,0 +1,82 @@
+-- What fields say: a field's test is passed exactly where the field is the text of its value.
+use Rattle.std.proofs.Common.{◌≡◌, ℕ, ◌<◌, ◌≤◌, ◌^◌, true, false, List, [], length, Result, Ok, Err, refl, sym, ap, arith, le-leb, leb-true, lt-ltb, ltb-true}
+use Rattle.std.specs.Prelude.{unwrap_or}
+use Rattle.std.specs.Result.{result_ok}
+use Rattle.std.specs.Str.{bytes_eq}
+use Rattle.std.specs.Str.Parse.{digits_value}
+use Rattle.std.specs.Fmt.{decimal}
+use Rattle.std.proofs.lemmas.Bool.{and_from, and_parts}
+use Rattle.std.proofs.lemmas.Fmt.{decimal_is_IsNumeral, digits_is_IsNumeral}
+use Rattle.std.proofs.lemmas.Slice.Eq.{bytes_eq-Decides}
+use Rattle.hex.specs.Hex.{encode_lower, decode_of, IsBytes}
+use Rattle.hex.specs.declared.error.FromHexError.{FromHexError}
+use Rattle.hex.proofs.HexLemmas.{decode_of-ok, decode_of-encode_lower}
+use Rattle.bc_key.specs.NumberText.{number_text}
+use Rattle.bc_script.specs.ScriptErrors.{number_in, is_number, is_number_text, bytes_in, is_hex_text}
+
+same_text : (a b : List ℕ) → a ≡ b → bytes_eq a b ≡ true
+same_text a b e = (bytes_eq-Decides a b).1 e
+
+text_is : (a b : List ℕ) → bytes_eq a b ≡ true → b ≡ a
+text_is a b h = sym ((bytes_eq-Decides a b).0 h)
+
+-- ---- decimal numbers
+
+-- the text of a number says the number
+pub number_in-decimal : (n : ℕ) → n < 2 ^ 64 → number_in (decimal n) ≡ n
+number_in-decimal n small = (decimal_is_IsNumeral n small).1
+
+-- and is the text of a number in each range that the number lies in
+pub is_number-decimal : (least most n : ℕ) → n < 2 ^ 64 → least ≤ n → n ≤ most → is_number least most (decimal n) ≡ true
+is_number-decimal least most n small low high =
+    let same = number_in-decimal n small in
+    rw same (and_from _ _ (same_text (decimal n) (decimal n) refl) (and_from _ _ (le-leb least n low) (le-leb n most high)))
+
+-- a field that passes the test is the text of its number, which lies in the range
+pub decimal-number_in : (least most : ℕ) (field : List ℕ) → is_number least most field ≡ true → (field ≡ decimal (number_in field)) × (least ≤ number_in field) × (number_in field ≤ most)
+decimal-number_in least most field h =
+    let parts = and_parts _ _ h in
+    let range = and_parts _ _ parts.1 in
+    (text_is (decimal (number_in field)) field parts.0, leb-true least (number_in field) range.0, leb-true (number_in field) most range.1)
+
+-- ---- data unit numbers
+
+pub digits_value-number_text : (n : ℕ) → n < 2 ^ 256 → digits_value 16 (number_text n) ≡ n
+digits_value-number_text n small = (digits_is_IsNumeral 16 false (omega arith) (omega arith) n small).1
+
+pub is_number_text-number_text : (n : ℕ) → n < 2 ^ 256 → is_number_text (number_text n) ≡ true
+is_number_text-number_text n small =
+    let same = digits_value-number_text n small in
+    rw same (and_from _ _ (same_text (number_text n) (number_text n) refl) (lt-ltb n (2 ^ 256) small))
+
+pub number_text-is_number_text : (field : List ℕ) → is_number_text field ≡ true → (field ≡ number_text (digits_value 16 field)) × (digits_value 16 field < 2 ^ 256)
+number_text-is_number_text field h =
+    let parts = and_parts _ _ h in
+    (text_is (number_text (digits_value 16 field)) field parts.0, ltb-true (digits_value 16 field) (2 ^ 256) parts.1)
+
+-- ---- hexadecimal digits
+
+-- the digits of bytes say the bytes
+pub bytes_in-encode_lower : (bytes : List ℕ) → IsBytes bytes → bytes_in (encode_lower bytes) ≡ bytes
+bytes_in-encode_lower bytes fits = ap (λ (r : Result (List ℕ) FromHexError). unwrap_or (result_ok r) []) (decode_of-encode_lower bytes fits)
+
+-- and are as many digits as the bytes ask for
+pub is_hex_text-encode_lower : (least most : ℕ) (bytes : List ℕ) → IsBytes bytes → least ≤ length bytes → length bytes ≤ most → is_hex_text least most (encode_lower bytes) ≡ true
+is_hex_text-encode_lower least most bytes fits low high =
+    let same = bytes_in-encode_lower bytes fits in
+    rw same (and_from _ _ (same_text (encode_lower bytes) (encode_lower bytes) refl) (and_from _ _ (le-leb least (length bytes) low) (le-leb (length bytes) most high)))
+
+-- what a field says in digits is bytes
+decoded-IsBytes : (field : List ℕ) (r : Result (List ℕ) FromHexError) → decode_of field ≡ r → IsBytes (unwrap_or (result_ok r) [])
+decoded-IsBytes field (Ok bytes) e = (decode_of-ok field bytes e).3
+decoded-IsBytes field (Err error) e = λ i. omega arith
+
+pub IsBytes-bytes_in : (field : List ℕ) → IsBytes (bytes_in field)
+IsBytes-bytes_in field = decoded-IsBytes field (decode_of field) refl
+
+-- a field that passes the test is the digits of its bytes, of which there are as many as asked for
+pub encode_lower-bytes_in : (least most : ℕ) (field : List ℕ) → is_hex_text least most field ≡ true → (field ≡ encode_lower (bytes_in field)) × (least ≤ length (bytes_in field)) × (length (bytes_in field) ≤ most)
+encode_lower-bytes_in least most field h =
+    let parts = and_parts _ _ h in
+    let range = and_parts _ _ parts.1 in
+    (text_is (encode_lower (bytes_in field)) field parts.0, leb-true least (length (bytes_in field)) range.0, leb-true (length (bytes_in field)) most range.1)
