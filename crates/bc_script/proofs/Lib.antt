@@ -1,1 +1,3 @@
 pub mod Examples
+pub mod KeyNames
+pub mod LineFields
