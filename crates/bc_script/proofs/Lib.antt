@@ -1,3 +1,5 @@
 pub mod Examples
 pub mod KeyNames
 pub mod LineFields
+pub mod LineLaws
+pub mod ScriptLaws

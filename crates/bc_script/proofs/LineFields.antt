@@ -1,5 +1,5 @@
 -- Each line of a script is one: its fields have no space and no line feed.
-use Rattle.std.proofs.Common.{◌≡◌, ◌≢◌, ℕ, zero, suc, ◌<◌, ◌/◌, ◌%◌, ◌^◌, Bool, true, false, List, [], ◌∷◌, ◌++◌, length, get_or, map, refl, sym, subst, arith}
+use Rattle.std.proofs.Common.{◌≡◌, ◌≢◌, ℕ, zero, suc, ◌<◌, ◌/◌, ◌%◌, ◌^◌, Bool, true, false, List, [], ◌∷◌, ◌++◌, length, get_or, map, refl, arith}
 use Rattle.std.specs.Prelude.{codes, ◌&&◌, flat_map, Some, None, Option}
 use Rattle.std.specs.List.{AllByRecursion, list_all}
 use Rattle.std.proofs.lemmas.Bool.Decides.{nat_tests}
@@ -24,7 +24,7 @@ use Rattle.bc_script.specs.declared.op.Text.TheVariants.{Fill, Bytes}
 use Rattle.bc_script.specs.Name.{is_name, is_name_byte, is_lower_letter}
 use Rattle.bc_script.specs.Script.{Script, IsScript, AreKeys, IsNamedKey, IsContext, IsBio, IsText, IsOp, IsSection, bare_keys}
 use Rattle.bc_script.specs.ScriptText.{script_lines, key_line, op_line, name_of, section_lines, mode_text, fault_line, on_off, key_field, number_field, bio_fields, text_fields}
-use Rattle.bc_script.proofs.KeyNames.{name_in, named_too}
+use Rattle.bc_script.proofs.KeyNames.{is_name_of}
 
 -- ---- fields
 
@@ -74,11 +74,7 @@ IsField-name (b ∷ bs) h =
     (letter b p.0, name_bytes bs q.0)
 
 IsField-name_of : (keys : List NamedKey) (number : KeyNo) → AreKeys keys → number.0 < length (bare_keys keys) → IsField (name_of keys number)
-IsField-name_of [] number are lt = absurd (omega arith)
-IsField-name_of (k ∷ ks) number are lt =
-    let there = named_too (k ∷ ks) number.0 lt in
-    let each = All-get_or IsNamedKey (k ∷ ks) number.0 k there (All-from_recursion IsNamedKey (k ∷ ks) are.each) in
-    subst IsField (sym (name_in (k ∷ ks) number k there)) (IsField-name (get_or (k ∷ ks) number.0 k).name each.name)
+IsField-name_of keys number are lt = IsField-name (name_of keys number) (is_name_of keys number are lt)
 
 IsField-mode : (mode : Mode) → IsField (mode_text mode)
 IsField-mode Aes256Xts = IsField-from_test (codes "aes-256-xts") refl
