@@ -3,3 +3,7 @@ pub mod Fields
 pub mod LineForms
 pub mod Onto
 pub mod Above
+pub mod KeyNames
+pub mod LineFields
+pub mod LineLaws
+pub mod ScriptLaws

@@ -1,6 +1,7 @@
 //! The script language: what a script says, its text, and why a text is none.
 #![tactic(auto)]
 
+mod laws;
 mod name;
 mod named_key;
 mod op;
@@ -8,6 +9,7 @@ mod script;
 mod script_error;
 mod sort;
 
+pub use laws::no_proper_prefix;
 pub use name::Name;
 pub use named_key::NamedKey;
 pub use op::{Op, Text};
