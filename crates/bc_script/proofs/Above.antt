@@ -1,17 +1,14 @@
--- What the lines above say, of a script that is being read: their forms, the sort of the nearest, counts and sums, whether a
--- plug is open, and the key that a name names.
-use Rattle.std.proofs.Common.{◌≡◌, ◌≢◌, ℕ, zero, suc, ◌<◌, ◌≤◌, ◌+◌, ◌/◌, ◌^◌, Bool, true, false, cond, List, [], ◌∷◌, ◌++◌, length, map, flat_map, slice_get, Option, Some, None, option_map, is_some, append-nil, length-append, bytes_eq, refl, sym, ap, subst, ◌∙◌, arith}
-use Rattle.std.specs.Prelude.{sum_by, count_by, AllPairs, IsSome}
+-- What the lines above say, of a script that is being read: the sort of the nearest, counts and sums, whether a plug is open,
+-- and the key that a name names.
+use Rattle.std.proofs.Common.{◌≡◌, ◌≢◌, ℕ, zero, suc, ◌<◌, ◌≤◌, ◌+◌, ◌/◌, Bool, true, false, cond, List, [], ◌∷◌, ◌++◌, length, map, flat_map, slice_get, Option, Some, None, option_map, is_some, append-nil, length-append, bytes_eq, refl, sym, ap, subst, ◌∙◌, arith}
+use Rattle.std.specs.Prelude.{sum_by, count_by, AllPairs}
 use Rattle.std.specs.Option.{option_map_or}
-use Rattle.std.specs.List.{AllByRecursion, slice_index_or}
+use Rattle.std.specs.List.{AllByRecursion}
 use Rattle.std.specs.Fmt.{decimal}
-use Rattle.std.specs.Str.Parse.{digits_value}
-use Rattle.std.proofs.lemmas.Fmt.{decimal_is_IsNumeral}
 use Rattle.std.proofs.lemmas.List.Sums.{sum_by-cons, sum_by-append}
 use Rattle.std.proofs.lemmas.List.Elements.{recursion_from_All}
-use Rattle.std.proofs.lemmas.Option.{slice_get-map, slice_get-get_or, slice_get_within}
+use Rattle.std.proofs.lemmas.Option.{slice_get-map}
 use Rattle.std.proofs.lemmas.List.{length-map}
-use Rattle.bc_text.specs.Lines.{Line}
 use Rattle.bc_key.specs.DataUnits.{bytes_of, sectors_of}
 use Rattle.bc_key.specs.declared.config.DataUnit.{DataUnit}
 use Rattle.bc_key.specs.declared.config.DataUnit.TheVariants.{Bytes512, Bytes1024, Bytes2048, Bytes4096}
@@ -24,107 +21,18 @@ use Rattle.bc_script.specs.declared.op.Op.{Op}
 use Rattle.bc_script.specs.declared.op.Op.TheVariants as ops
 use Rattle.bc_script.specs.declared.sort.Sort.{Sort}
 use Rattle.bc_script.specs.declared.sort.Sort.TheVariants as sorts
-use Rattle.bc_script.specs.Script.{AreKeys, IsNamedKey, IsContext, IsOp, IsSection, bare_keys, open_behind, units_of, units_of_section}
-use Rattle.bc_script.specs.ScriptText.{version_line, disk_line, fallback_line, thread_line, end_line, key_line, op_line, section_lines, name_of, dash, key_field}
-use Rattle.bc_script.specs.Forms.{Form, KeyForm, Version, Disk, Fallback, Key, Thread, Write, Read, Evict, Reset, Plug, Unplug, End, form_of, sort_of}
-use Rattle.bc_script.specs.ScriptErrors.{last_sort, is_key, is_thread, is_operation, units_in, number_in, key_named, is_declared, sectors_under, is_open, with_form}
-use Rattle.bc_script.specs.Progress.{Progress, IsProgress, IsAt, head_read, with_section, is_in_section, end_read, lines_read, forms_read, forms_below, sections_read}
-use Rattle.bc_script.proofs.Onto.{onto, onto-append, forms_below-append, HaveForms, HaveForms-append, forms_below-onto, length-onto, length-HaveForms, sum_by-onto, sum_by-agree, sum_by-map, sum_by-flat_map, sum_by-zeros, sum_by-ones, last_sort-onto, key_named-onto, AllByRecursion-append}
-use Rattle.bc_script.proofs.LineForms.{key_fields, op_form, form_of-key_line, form_of-op_line, bytes_eq-same, bytes_eq-other, name_at, is_name-name_of, name_is_no_dash, length-bare_keys}
-
--- ---- the forms of the lines that have been read, from the first
-
-abbrev head_forms : Option Sort → ℕ → List Form
-head_forms None blocks = []
-head_forms (Some sorts.Version) blocks = Version ∷ []
-head_forms (Some sorts.Disk) blocks = Version ∷ Disk (decimal blocks) ∷ []
-head_forms (Some _) blocks = Version ∷ Disk (decimal blocks) ∷ Fallback ∷ []
-
-abbrev key_forms : List NamedKey → List Form
-key_forms keys = map (λ (named : NamedKey). Key (key_fields named)) keys
-
-abbrev section_forms : List NamedKey → List Op → List Form
-section_forms keys section = Thread ∷ map (op_form keys) section
-
-abbrev end_forms : Option Sort → List Form
-end_forms (Some sorts.End) = End ∷ []
-end_forms _ = []
-
-abbrev forms_in : Progress → List Form
-forms_in p = head_forms p.last p.blocks ++ (key_forms p.keys ++ (flat_map (section_forms p.keys) (sections_read p) ++ end_forms p.last))
-
-have_head : (last : Option Sort) (blocks : ℕ) → HaveForms (head_read last blocks) (head_forms last blocks)
-have_head None blocks = refl
-have_head (Some sorts.Version) blocks = refl
-have_head (Some sorts.Disk) blocks = refl
-have_head (Some sorts.Fallback) blocks = refl
-have_head (Some sorts.Key) blocks = refl
-have_head (Some sorts.Thread) blocks = refl
-have_head (Some sorts.Operation) blocks = refl
-have_head (Some sorts.End) blocks = refl
-
-have_end : (last : Option Sort) → HaveForms (end_read last) (end_forms last)
-have_end None = refl
-have_end (Some sorts.Version) = refl
-have_end (Some sorts.Disk) = refl
-have_end (Some sorts.Fallback) = refl
-have_end (Some sorts.Key) = refl
-have_end (Some sorts.Thread) = refl
-have_end (Some sorts.Operation) = refl
-have_end (Some sorts.End) = refl
-
-have_keys : (keys : List NamedKey) → HaveForms (map key_line keys) (key_forms keys)
-have_keys [] = refl
-have_keys (k ∷ ks) = ap (λ (o : Option Form). o ∷ map form_of (map key_line ks)) (form_of-key_line k) ∙ ap (λ t. Some (Key (key_fields k)) ∷ t) (have_keys ks)
-
-have_ops : (keys : List NamedKey) (section : List Op) → AreKeys keys → AllByRecursion (IsOp (bare_keys keys)) section → HaveForms (map (op_line keys) section) (map (op_form keys) section)
-have_ops keys [] are valid = refl
-have_ops keys (op ∷ section) are valid =
-    ap (λ (o : Option Form). o ∷ map form_of (map (op_line keys) section)) (form_of-op_line keys op are valid.0)
-    ∙ ap (λ t. Some (op_form keys op) ∷ t) (have_ops keys section are valid.1)
-
--- all operations of the sections are valid
-abbrev AreOps : List NamedKey → List (List Op) → Type 0
-AreOps keys sections = AllByRecursion (AllByRecursion (IsOp (bare_keys keys))) sections
-
-have_sections : (keys : List NamedKey) (sections : List (List Op)) → AreKeys keys → AreOps keys sections → HaveForms (flat_map (section_lines keys) sections) (flat_map (section_forms keys) sections)
-have_sections keys [] are valid = refl
-have_sections keys (section ∷ sections) are valid =
-    HaveForms-append (section_lines keys section) (flat_map (section_lines keys) sections) (section_forms keys section) (flat_map (section_forms keys) sections)
-    (ap (λ t. Some Thread ∷ t) (have_ops keys section are valid.0))
-    (have_sections keys sections are valid.1)
-
-ops_of_sections : (keys : List NamedKey) (sections : List (List Op)) → AllByRecursion (IsSection (bare_keys keys)) sections → AreOps keys sections
-ops_of_sections keys [] each = tt
-ops_of_sections keys (section ∷ sections) each = (each.0.each, ops_of_sections keys sections each.1)
-
-ops_read : (p : Progress) → IsProgress p → AreOps p.keys (sections_read p)
-ops_read p is =
-    AllByRecursion-append (AllByRecursion (IsOp (bare_keys p.keys))) p.threads (with_section (is_in_section p.last) p.section)
-    (ops_of_sections p.keys p.threads is.threads)
-    (last (is_in_section p.last))
-  where
-    last : (inside : Bool) → AreOps p.keys (with_section inside p.section)
-    last true = (is.section, tt)
-    last false = tt
-
-have_forms : (p : Progress) → IsProgress p → HaveForms (lines_read p) (forms_in p)
-have_forms p is =
-    HaveForms-append (head_read p.last p.blocks) _ (head_forms p.last p.blocks) _ (have_head p.last p.blocks)
-    (HaveForms-append (map key_line p.keys) _ (key_forms p.keys) _ (have_keys p.keys)
-    (HaveForms-append (flat_map (section_lines p.keys) (sections_read p)) (end_read p.last) (flat_map (section_forms p.keys) (sections_read p)) (end_forms p.last)
-    (have_sections p.keys (sections_read p) is.keys (ops_read p is))
-    (have_end p.last)))
-
-pub forms_read-in : (p : Progress) → IsProgress p → forms_read p ≡ onto (forms_in p) []
-forms_read-in p is = forms_below-onto (lines_read p) (forms_in p) [] (have_forms p is)
-
--- ---- steps
-
--- one more line that is read is one more form
-pub forms_read-step : (p q : Progress) (line : Line) (form : Form) → lines_read q ≡ lines_read p ++ line ∷ [] → form_of line ≡ Some form → forms_read q ≡ form ∷ forms_read p
-forms_read-step p q line form more is =
-    ap (forms_below []) more ∙ forms_below-append [] (lines_read p) (line ∷ []) ∙ ap (λ (o : Option Form). with_form o (forms_read p)) is
+use Rattle.bc_script.specs.Script.{IsNamedKey, IsContext, IsOp, IsSection, bare_keys, open_behind, units_of, units_of_section}
+use Rattle.bc_script.specs.ScriptText.{name_of, dash, key_field}
+use Rattle.bc_script.specs.Forms.{Form, KeyForm, Version, Disk, Fallback, Key, Thread, Plug, Unplug, End, sort_of}
+use Rattle.bc_script.specs.ScriptErrors.{last_sort, is_key, is_thread, is_operation, units_in, number_in, key_named, is_declared, sectors_under, is_open}
+use Rattle.bc_script.specs.Progress.{Progress, IsProgress, IsAt, with_section, is_in_section, lines_read, forms_read, sections_read}
+use Rattle.bc_script.proofs.Onto.{onto, onto-append, length-onto, length-HaveForms, sum_by-onto, sum_by-agree, sum_by-map, sum_by-flat_map, sum_by-zeros, sum_by-ones, last_sort-onto, key_named-onto, AllByRecursion-append}
+use Rattle.bc_script.proofs.Fields.{number_in-decimal}
+use Rattle.bc_script.proofs.KeyNames.{named_too}
+use Rattle.bc_script.proofs.LineForms.{key_fields, op_form, form_of-key_line, form_of-op_line, bytes_eq-same, bytes_eq-other, name_at, name_is_no_dash}
+use Rattle.bc_script.proofs.FormsRead.{head_forms, key_forms, section_forms, end_forms, forms_in, ops_read, have_forms, forms_read-in, parts, last_section}
+pub use Rattle.bc_script.proofs.FormsRead.{forms_read-step}
+pub use Rattle.bc_script.proofs.LineForms.{bio_form, text_form_of, form_of-version, form_of-disk, form_of-fallback, form_of-thread, form_of-end, form_of-key_line, form_of-op_line}
 
 -- ---- counts and sums
 
@@ -219,13 +127,10 @@ operations-read p is =
     (λ section valid. section_sum (λ form. one (is_operation form)) (λ op. 1) p.keys section (λ op v. ap one (op_is p.keys op).2) valid ∙ ap (λ n. 0 + n) (sum_by-ones section) ∙ omega arith)
     ∙ omega arith
 
-number_in_decimal : (n : ℕ) → n < 2 ^ 64 → number_in (decimal n) ≡ n
-number_in_decimal n small = (decimal_is_IsNumeral n small).1
-
 -- an operation's line says how many data units its bio has
 pub units_in-op_form : (keys : List NamedKey) (op : Op) → IsOp (bare_keys keys) op → units_in (op_form keys op) ≡ units_of op
-units_in-op_form keys (ops.Write context sector units text) valid = let few = valid.0.few_units in number_in_decimal units (omega arith)
-units_in-op_form keys (ops.Read context sector units) valid = let few = valid.few_units in number_in_decimal units (omega arith)
+units_in-op_form keys (ops.Write context sector units text) valid = let few = valid.0.few_units in number_in-decimal units (omega arith)
+units_in-op_form keys (ops.Read context sector units) valid = let few = valid.few_units in number_in-decimal units (omega arith)
 units_in-op_form keys (ops.Evict key) valid = refl
 units_in-op_form keys (ops.Reset device) valid = refl
 units_in-op_form keys ops.Plug valid = refl
@@ -306,24 +211,6 @@ op_sort keys ops.Unplug = refl
 op_sorts : (keys : List NamedKey) (section : List Op) → AllByRecursion (λ form. sort_of form ≡ sorts.Operation) (map (op_form keys) section)
 op_sorts keys [] = tt
 op_sorts keys (op ∷ section) = (op_sort keys op, op_sorts keys section)
-
--- the forms by their parts
-parts : (p : Progress) → IsProgress p → forms_read p ≡ onto (end_forms p.last) (onto (flat_map (section_forms p.keys) (sections_read p)) (onto (key_forms p.keys) (onto (head_forms p.last p.blocks) [])))
-parts p is =
-    let sections = flat_map (section_forms p.keys) (sections_read p) in
-    forms_read-in p is
-    ∙ onto-append (head_forms p.last p.blocks) (key_forms p.keys ++ (sections ++ end_forms p.last)) []
-    ∙ onto-append (key_forms p.keys) (sections ++ end_forms p.last) (onto (head_forms p.last p.blocks) [])
-    ∙ onto-append sections (end_forms p.last) (onto (key_forms p.keys) (onto (head_forms p.last p.blocks) []))
-
--- the last section stands nearest
-last_section : (keys : List NamedKey) (threads : List (List Op)) (section : List Op) (above : List Form)
-    → onto (flat_map (section_forms keys) (threads ++ section ∷ [])) above ≡ onto (map (op_form keys) section) (Thread ∷ onto (flat_map (section_forms keys) threads) above)
-last_section keys [] section above = onto-append (map (op_form keys) section) [] (Thread ∷ above)
-last_section keys (thread ∷ threads) section above =
-    onto-append (section_forms keys thread) (flat_map (section_forms keys) (threads ++ section ∷ [])) above
-    ∙ last_section keys threads section (onto (section_forms keys thread) above)
-    ∙ ap (λ (t : List Form). onto (map (op_form keys) section) (Thread ∷ t)) (sym (onto-append (section_forms keys thread) (flat_map (section_forms keys) threads) above))
 
 last_sort_of : (last : Option Sort) (blocks : ℕ) (keys : List NamedKey) (threads : List (List Op)) (section : List Op)
     → IsAt last (record { last = last; blocks = blocks; keys = keys; threads = threads; section = section })
@@ -530,16 +417,16 @@ key_named-dash p is = key_named-none p dash is (no_dashes p.keys is.keys.each)
     no_dashes (k ∷ ks) each = (name_is_no_dash k.name each.0.name, no_dashes ks each.1)
 
 sectors_in_field : (unit : DataUnit) → number_in (decimal (bytes_of unit)) / 512 ≡ sectors_of unit
-sectors_in_field Bytes512 = ap (λ n. n / 512) (number_in_decimal 512 (omega arith))
-sectors_in_field Bytes1024 = ap (λ n. n / 512) (number_in_decimal 1024 (omega arith))
-sectors_in_field Bytes2048 = ap (λ n. n / 512) (number_in_decimal 2048 (omega arith))
-sectors_in_field Bytes4096 = ap (λ n. n / 512) (number_in_decimal 4096 (omega arith))
+sectors_in_field Bytes512 = ap (λ n. n / 512) (number_in-decimal 512 (omega arith))
+sectors_in_field Bytes1024 = ap (λ n. n / 512) (number_in-decimal 1024 (omega arith))
+sectors_in_field Bytes2048 = ap (λ n. n / 512) (number_in-decimal 2048 (omega arith))
+sectors_in_field Bytes4096 = ap (λ n. n / 512) (number_in-decimal 4096 (omega arith))
 
 -- how many sectors a data unit has, under a context or without one
 pub sectors_under-read : (p : Progress) (context : Option Context) → IsProgress p → IsContext (bare_keys p.keys) context → sectors_under (key_field p.keys context) (forms_read p) ≡ unit_sectors (bare_keys p.keys) context
 sectors_under-read p None is valid = ap (λ (o : Option KeyForm). option_map_or (λ (key : KeyForm). number_in key.unit / 512) o 1) (key_named-dash p is)
 sectors_under-read p (Some context) is valid =
-    let key = at_place p.keys context.key.0 (omega (arith, length-bare_keys p.keys, valid.0)) in
+    let key = at_place p.keys context.key.0 (named_too p.keys context.key.0 valid.0) in
     let at : slice_get (bare_keys p.keys) context.key.0 ≡ Some key.0.key = slice_get-map (λ (named : NamedKey). named.key) p.keys context.key.0 ∙ ap (option_map (λ (named : NamedKey). named.key)) key.1 in
     ap (λ (o : Option KeyForm). option_map_or (λ (k : KeyForm). number_in k.unit / 512) o 1) (key_named-read p context.key key.0 is key.1)
     ∙ sectors_in_field key.0.key.config.unit

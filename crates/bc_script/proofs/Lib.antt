@@ -1,9 +1,10 @@
 pub mod Examples
 pub mod Fields
-pub mod LineForms
-pub mod Onto
-pub mod Above
 pub mod KeyNames
 pub mod LineFields
 pub mod LineLaws
 pub mod ScriptLaws
+pub mod LineForms
+pub mod Onto
+pub mod FormsRead
+pub mod Above

@@ -1,11 +1,10 @@
 -- The form of each printed line.
-use Rattle.std.proofs.Common.{◌≡◌, ◌≢◌, ℕ, zero, suc, ◌<◌, ◌^◌, Bool, true, false, List, [], ◌∷◌, length, slice_get, unwrap_or, option_map, Option, Some, None, Decides, bytes_eq, refl, sym, ap, subst, ◌∙◌, arith}
-use Rattle.std.specs.List.{All, AllByRecursion}
+use Rattle.std.proofs.Common.{◌≡◌, ◌≢◌, ℕ, ◌<◌, ◌^◌, Bool, true, false, List, [], ◌∷◌, slice_get, unwrap_or, option_map, Option, Some, None, Decides, bytes_eq, refl, ap, subst, arith}
+use Rattle.std.specs.List.{All}
 use Rattle.std.specs.Fmt.{decimal}
 use Rattle.std.proofs.Math.Logic.{⊎_elim}
 use Rattle.std.proofs.lemmas.Slice.Eq.{bytes_eq-Decides}
 use Rattle.hex.specs.Hex.{encode_lower}
-use Rattle.bc_text.specs.Lines.{Line}
 use Rattle.bc_key.specs.DataUnits.{bytes_of}
 use Rattle.bc_key.specs.declared.config.Mode.{Mode}
 use Rattle.bc_key.specs.declared.config.Mode.TheVariants.{Aes256Xts, Aes128CbcEssiv}
@@ -19,8 +18,9 @@ use Rattle.bc_script.specs.declared.op.Op.TheVariants as ops
 use Rattle.bc_script.specs.declared.op.Text.{Text}
 use Rattle.bc_script.specs.declared.op.Text.TheVariants as texts
 use Rattle.bc_script.specs.Name.{is_name}
-use Rattle.bc_script.specs.Script.{AreKeys, IsNamedKey, IsContext, IsOp, bare_keys}
+use Rattle.bc_script.specs.Script.{AreKeys, IsContext, IsOp, bare_keys}
 use Rattle.bc_script.specs.ScriptText.{version_line, disk_line, fallback_line, thread_line, end_line, key_line, op_line, mode_text, name_of, dash, key_field, number_field}
+use Rattle.bc_script.proofs.KeyNames.{is_name_of}
 use Rattle.bc_script.specs.Forms.{Form, KeyForm, BioForm, TextForm, Fill, Hex, Version, Disk, Fallback, Key, Thread, Write, Read, Evict, Reset, Plug, Unplug, End, form_of, mode_of, key_form, dashes_agree}
 
 -- the fields of a key's line
@@ -80,18 +80,6 @@ number_is_no_dash n small e =
 pub name_at : (keys : List NamedKey) (number : KeyNo) (named : NamedKey) → slice_get keys number.0 ≡ Some named → name_of keys number ≡ named.name
 name_at keys number named at = ap (λ (o : Option NamedKey). unwrap_or (option_map (λ (n : NamedKey). n.name) o) []) at
 
-pub is_name-name_of : (keys : List NamedKey) (number : KeyNo) → AllByRecursion IsNamedKey keys → number.0 < length keys → is_name (name_of keys number) ≡ true
-is_name-name_of keys number each within = at keys number.0 each within
-  where
-    at : (keys : List NamedKey) (i : ℕ) → AllByRecursion IsNamedKey keys → i < length keys → is_name (unwrap_or (option_map (λ (n : NamedKey). n.name) (slice_get keys i)) []) ≡ true
-    at [] i each within = absurd (omega arith)
-    at (k ∷ ks) zero each within = each.0.name
-    at (k ∷ ks) (suc i) each within = at ks i each.1 (omega arith)
-
-pub length-bare_keys : (keys : List NamedKey) → length (bare_keys keys) ≡ length keys
-length-bare_keys [] = refl
-length-bare_keys (k ∷ ks) = ap suc (length-bare_keys ks)
-
 -- ---- lines
 
 pub form_of-version : form_of version_line ≡ Some Version
@@ -119,19 +107,18 @@ form_of-key_line named =
     (mode_of-mode_text named.key.config.mode)
 
 -- `-` stands for the key exactly where it stands for the number
-pub dashes_agree-bio_form : (keys : List NamedKey) (context : Option Context) (sector units : ℕ) → AllByRecursion IsNamedKey keys → IsContext (bare_keys keys) context → dashes_agree (bio_form keys context sector units) ≡ true
-dashes_agree-bio_form keys None sector units each valid = refl
-dashes_agree-bio_form keys (Some context) sector units each valid =
-    let within : context.key.0 < length keys = omega (arith, length-bare_keys keys, valid.0) in
+pub dashes_agree-bio_form : (keys : List NamedKey) (context : Option Context) (sector units : ℕ) → AreKeys keys → IsContext (bare_keys keys) context → dashes_agree (bio_form keys context sector units) ≡ true
+dashes_agree-bio_form keys None sector units are valid = refl
+dashes_agree-bio_form keys (Some context) sector units are valid =
     let key : bytes_eq (name_of keys context.key) dash ≡ false =
-    bytes_eq-other (name_of keys context.key) dash (name_is_no_dash (name_of keys context.key) (is_name-name_of keys context.key each within)) in
+    bytes_eq-other (name_of keys context.key) dash (name_is_no_dash (name_of keys context.key) (is_name_of keys context.key are valid.0)) in
     let number : bytes_eq (number_text context.dun) dash ≡ false = bytes_eq-other (number_text context.dun) dash (number_is_no_dash context.dun valid.1) in
     rw (key, number) refl
 
 pub form_of-op_line : (keys : List NamedKey) (op : Op) → AreKeys keys → IsOp (bare_keys keys) op → form_of (op_line keys op) ≡ Some (op_form keys op)
-form_of-op_line keys (ops.Write context sector units (texts.Fill byte)) are valid = let agree = dashes_agree-bio_form keys context sector units are.each valid.0.context_is in rw agree refl
-form_of-op_line keys (ops.Write context sector units (texts.Bytes bytes)) are valid = let agree = dashes_agree-bio_form keys context sector units are.each valid.0.context_is in rw agree refl
-form_of-op_line keys (ops.Read context sector units) are valid = let agree = dashes_agree-bio_form keys context sector units are.each valid.context_is in rw agree refl
+form_of-op_line keys (ops.Write context sector units (texts.Fill byte)) are valid = let agree = dashes_agree-bio_form keys context sector units are valid.0.context_is in rw agree refl
+form_of-op_line keys (ops.Write context sector units (texts.Bytes bytes)) are valid = let agree = dashes_agree-bio_form keys context sector units are valid.0.context_is in rw agree refl
+form_of-op_line keys (ops.Read context sector units) are valid = let agree = dashes_agree-bio_form keys context sector units are valid.context_is in rw agree refl
 form_of-op_line keys (ops.Evict key) are valid = refl
 form_of-op_line keys (ops.Reset device) are valid = refl
 form_of-op_line keys ops.Plug are valid = refl

@@ -1,11 +1,11 @@
 -- Forms on those above them: what counts, sums and names say of them.
-use Rattle.std.proofs.Common.{◌≡◌, ◌≢◌, ℕ, zero, suc, ◌+◌, ◌<◌, Bool, true, false, cond, List, [], ◌∷◌, ◌++◌, map, length, flat_map, sum_by, Option, Some, None, bytes_eq, refl, sym, ap, subst, ◌∙◌, arith}
+use Rattle.std.proofs.Common.{◌≡◌, ℕ, suc, ◌+◌, false, List, [], ◌∷◌, ◌++◌, map, length, flat_map, sum_by, Option, Some, refl, sym, ap, ◌∙◌, arith}
 use Rattle.std.specs.List.{AllByRecursion}
 use Rattle.std.proofs.lemmas.List.Sums.{sum_by-cons, sum_by-append}
 use Rattle.bc_text.specs.Lines.{Line}
 use Rattle.bc_script.specs.declared.sort.Sort.{Sort}
-use Rattle.bc_script.specs.Forms.{Form, KeyForm, Version, Disk, Fallback, Key, Thread, Write, Read, Evict, Reset, Plug, Unplug, End, form_of, sort_of}
-use Rattle.bc_script.specs.ScriptErrors.{with_form, last_sort, is_key, key_named, is_open}
+use Rattle.bc_script.specs.Forms.{Form, Version, Disk, Fallback, Key, Thread, Write, Read, Evict, Reset, Plug, Unplug, End, form_of, sort_of}
+use Rattle.bc_script.specs.ScriptErrors.{with_form, last_sort, is_key, key_named}
 use Rattle.bc_script.specs.Progress.{forms_below}
 
 -- ---- lists
