@@ -29,10 +29,10 @@ use Rattle.bc_script.specs.Progress.{Progress, IsProgress, IsAt, with_section, i
 use Rattle.bc_script.proofs.Onto.{onto, onto-append, length-onto, length-HaveForms, sum_by-onto, sum_by-agree, sum_by-map, sum_by-flat_map, sum_by-zeros, sum_by-ones, last_sort-onto, key_named-onto, AllByRecursion-append}
 use Rattle.bc_script.proofs.Fields.{number_in-decimal}
 use Rattle.bc_script.proofs.KeyNames.{named_too}
-use Rattle.bc_script.proofs.LineForms.{key_fields, op_form, form_of-key_line, form_of-op_line, bytes_eq-same, bytes_eq-other, name_at, name_is_no_dash}
+use Rattle.bc_script.proofs.LineForms.{bytes_eq-same, bytes_eq-other, name_at, name_is_no_dash}
 use Rattle.bc_script.proofs.FormsRead.{head_forms, key_forms, section_forms, end_forms, forms_in, ops_read, have_forms, forms_read-in, parts, last_section}
 pub use Rattle.bc_script.proofs.FormsRead.{forms_read-step}
-pub use Rattle.bc_script.proofs.LineForms.{bio_form, text_form_of, form_of-version, form_of-disk, form_of-fallback, form_of-thread, form_of-end, form_of-key_line, form_of-op_line}
+pub use Rattle.bc_script.proofs.LineForms.{key_fields, op_form, bio_form, text_form_of, form_of-version, form_of-disk, form_of-fallback, form_of-thread, form_of-end, form_of-key_line, form_of-op_line}
 
 -- ---- counts and sums
 

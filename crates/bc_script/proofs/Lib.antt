@@ -8,3 +8,4 @@ pub mod LineForms
 pub mod Onto
 pub mod FormsRead
 pub mod Above
+pub mod Steps
