@@ -9,3 +9,4 @@ pub mod Onto
 pub mod FormsRead
 pub mod Above
 pub mod Steps
+pub mod Passes
