@@ -1,18 +1,20 @@
 -- What fields say: a field's test is passed exactly where the field is the text of its value.
-use Rattle.std.proofs.Common.{◌≡◌, ℕ, ◌<◌, ◌≤◌, ◌^◌, true, false, List, [], length, Result, Ok, Err, refl, sym, ap, arith, le-leb, leb-true, lt-ltb, ltb-true}
+use Rattle.std.proofs.Common.{◌≡◌, ℕ, zero, suc, ◌<◌, ◌≤◌, ◌^◌, true, false, List, [], ◌∷◌, length, Option, Some, None, MatchOption, Result, Ok, Err, refl, sym, ap, ◌∙◌, arith, le-leb, leb-true, lt-ltb, ltb-true}
 use Rattle.std.specs.Prelude.{unwrap_or}
 use Rattle.std.specs.Result.{result_ok}
 use Rattle.std.specs.Str.{bytes_eq}
 use Rattle.std.specs.Str.Parse.{digits_value}
 use Rattle.std.specs.Fmt.{decimal}
-use Rattle.std.proofs.lemmas.Bool.{and_from, and_parts}
+use Rattle.std.proofs.lemmas.Bool.{and_from, and_parts, false_from_ne_true}
 use Rattle.std.proofs.lemmas.Fmt.{decimal_is_IsNumeral, digits_is_IsNumeral}
 use Rattle.std.proofs.lemmas.Slice.Eq.{bytes_eq-Decides}
 use Rattle.hex.specs.Hex.{encode_lower, decode_of, IsBytes}
 use Rattle.hex.specs.declared.error.FromHexError.{FromHexError}
 use Rattle.hex.proofs.HexLemmas.{decode_of-ok, decode_of-encode_lower}
-use Rattle.bc_key.specs.NumberText.{number_text}
+use Rattle.bc_text.specs.Fields.{Reads, byte_text}
+use Rattle.bc_key.specs.NumberText.{number_text, ReadsNumber}
 use Rattle.bc_script.specs.ScriptErrors.{number_in, is_number, is_number_text, bytes_in, is_hex_text}
+use Rattle.bc_script.specs.Says.{SaysNumber, SaysDataUnitNumber, SaysBytes}
 
 same_text : (a b : List ℕ) → a ≡ b → bytes_eq a b ≡ true
 same_text a b e = (bytes_eq-Decides a b).1 e
@@ -80,3 +82,54 @@ encode_lower-bytes_in least most field h =
     let parts = and_parts _ _ h in
     let range = and_parts _ _ parts.1 in
     (text_is (encode_lower (bytes_in field)) field parts.0, leb-true least (length (bytes_in field)) range.0, leb-true (length (bytes_in field)) most range.1)
+
+-- ---- what the readers of fields answer
+
+pub said_number : (least most : ℕ) (field : List ℕ) (answer : Option ℕ) → most < 2 ^ 64 → Reads (λ n. (least ≤ n) × (n ≤ most)) decimal field answer → MatchOption answer (is_number least most field ≡ false) (SaysNumber least most field)
+said_number least most field None small none =
+    false_from_ne_true (is_number least most field) (λ passed. let said = decimal-number_in least most field passed in none (number_in field) (said.1, said.2) said.0)
+said_number least most field (Some n) small (range, text) = record {
+  passes = rw text (is_number-decimal least most n (omega arith) range.0 range.1);
+  value = sym (ap number_in text ∙ number_in-decimal n (omega arith));
+  text = text;
+  low = range.0;
+  high = range.1;
+}
+
+pub said_data_unit_number : (field : List ℕ) (answer : Option ℕ) → ReadsNumber field answer → MatchOption answer (is_number_text field ≡ false) (SaysDataUnitNumber field)
+said_data_unit_number field None none =
+    false_from_ne_true (is_number_text field) (λ passed. let said = number_text-is_number_text field passed in none (digits_value 16 field) said.1 said.0)
+said_data_unit_number field (Some n) (range, text) = record {
+  passes = rw text (is_number_text-number_text n range);
+  value = sym (ap (digits_value 16) text ∙ digits_value-number_text n range);
+  text = text;
+  range = range;
+}
+
+pub said_bytes : (least most : ℕ) (field bytes : List ℕ) → IsBytes bytes → field ≡ encode_lower bytes → least ≤ length bytes → length bytes ≤ most → SaysBytes least most field bytes
+said_bytes least most field bytes fits text low high = record {
+  passes = rw text (is_hex_text-encode_lower least most bytes fits low high);
+  value = sym (ap bytes_in text ∙ bytes_in-encode_lower bytes fits);
+  text = text;
+  low = low;
+  high = high;
+  range = fits;
+}
+
+-- a field that is the digits of no bytes so many fails the test
+pub no_bytes : (least most : ℕ) (field : List ℕ) → ((bytes : List ℕ) → IsBytes bytes → least ≤ length bytes → length bytes ≤ most → field ≡ encode_lower bytes → ⊥) → is_hex_text least most field ≡ false
+no_bytes least most field none =
+    false_from_ne_true (is_hex_text least most field) (λ passed. let said = encode_lower-bytes_in least most field passed in none (bytes_in field) (IsBytes-bytes_in field) said.1 said.2 said.0)
+
+one_byte : (b : ℕ) → b < 256 → IsBytes (b ∷ [])
+one_byte b small zero = small
+one_byte b small (suc i) = omega arith
+
+no_one_byte : (field : List ℕ) → ((b : ℕ) → b < 256 → field ≡ byte_text b → ⊥) → (bytes : List ℕ) → IsBytes bytes → 1 ≤ length bytes → length bytes ≤ 1 → field ≡ encode_lower bytes → ⊥
+no_one_byte field none [] fits low high text = omega arith
+no_one_byte field none (b ∷ []) fits low high text = none b (fits 0) text
+no_one_byte field none (b ∷ c ∷ bytes) fits low high text = omega arith
+
+pub said_byte : (field : List ℕ) (answer : Option ℕ) → Reads (λ b. b < 256) byte_text field answer → MatchOption answer (is_hex_text 1 1 field ≡ false) (λ b. SaysBytes 1 1 field (b ∷ []))
+said_byte field None none = no_bytes 1 1 field (no_one_byte field none)
+said_byte field (Some b) (range, text) = said_bytes 1 1 field (b ∷ []) (one_byte b range) text (omega arith) (omega arith)

@@ -4,3 +4,5 @@ pub mod ScriptText
 pub mod Forms
 pub mod ScriptErrors
 pub mod Progress
+pub mod Says
+pub mod Lent

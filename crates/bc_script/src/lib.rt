@@ -1,6 +1,8 @@
 //! The script language: what a script says, its text, and why a text is none.
 #![tactic(auto)]
 
+mod field;
+mod form;
 mod laws;
 mod name;
 mod named_key;
