@@ -6,3 +6,8 @@ pub mod ScriptErrors
 pub mod Progress
 pub mod Says
 pub mod Lent
+pub mod NamedKeys
+pub mod Items
+pub mod BioFields
+pub mod Reading
+pub mod Parsing

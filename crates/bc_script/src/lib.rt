@@ -3,10 +3,14 @@
 
 mod field;
 mod form;
+mod item;
 mod laws;
 mod name;
 mod named_key;
+mod named_keys;
 mod op;
+mod parser;
+mod reader;
 mod script;
 mod script_error;
 mod sort;
@@ -15,5 +19,9 @@ pub use laws::no_proper_prefix;
 pub use name::Name;
 pub use named_key::NamedKey;
 pub use op::{Op, Text};
+pub use parser::parse;
 pub use script::Script;
 pub use script_error::{ParseError, ScriptError, ScriptWhy};
+
+#[cfg(test)]
+mod tests;

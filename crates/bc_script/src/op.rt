@@ -1,7 +1,7 @@
 //! What a section of a script asks for.
 
-ghost use Rattle.std.specs.Prelude.{◌≡◌, ◌++◌, [], ◌∷◌, OnOk};
-ghost use Rattle.bc_script.specs.Script.{context_of};
+ghost use Rattle.std.specs.Prelude.{◌≡◌, ◌++◌, [], ◌∷◌, Some, IsSome, OnOk};
+ghost use Rattle.bc_script.specs.Script.{context_of, units_of, open_behind};
 
 use bc_base::Items;
 use bc_bio::Context;
@@ -52,6 +52,29 @@ impl Op {
             Op::Write { context, .. } => *context,
             Op::Read { context, .. } => *context,
             _ => None,
+        }
+    }
+
+    /// How many data units the operation's bio has.
+    pub(crate) fn units(&self) -> u32
+        ensures { result ≡ units_of self.now }
+    {
+        match self {
+            Op::Write { units, .. } => *units,
+            Op::Read { units, .. } => *units,
+            _ => 0,
+        }
+    }
+
+    /// Whether a plug is open behind the operation, where one may be open before it.
+    pub(crate) fn plugs(&self, plugged: bool) -> bool
+        requires { IsSome (open_behind plugged (self.now ∷ [])) }
+        ensures { open_behind plugged (self.now ∷ []) ≡ Some result }
+    {
+        match self {
+            Op::Plug => true,
+            Op::Unplug => false,
+            _ => plugged,
         }
     }
 }
