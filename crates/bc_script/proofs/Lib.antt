@@ -10,3 +10,4 @@ pub mod FormsRead
 pub mod Above
 pub mod Steps
 pub mod Passes
+pub mod NoError
