@@ -11,3 +11,4 @@ pub mod Above
 pub mod Steps
 pub mod Passes
 pub mod NoError
+pub mod FormLines
