@@ -11,3 +11,5 @@ pub mod Above
 pub mod Steps
 pub mod Passes
 pub mod NamedKeys
+pub mod NoError
+pub mod FormLines

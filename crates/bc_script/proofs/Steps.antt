@@ -205,6 +205,9 @@ inside_section (Some sorts.Thread) h = record { ends = refl; inside = refl }
 inside_section (Some sorts.Operation) h = record { ends = refl; inside = refl }
 inside_section (Some sorts.End) h = absurd cc
 
+pub is_inside : (last : Option Sort) → may_follow last sorts.Operation ≡ true → is_in_section last ≡ true
+is_inside last follows = (inside_section last follows).inside
+
 abbrev full_head : ℕ → List Line
 full_head blocks = version_line ∷ disk_line blocks ∷ fallback_line true ∷ []
 
@@ -226,6 +229,12 @@ no_sections_yet : (p : Progress) → IsProgress p → IsBeforeSections p.last �
 no_sections_yet p is before =
     ap (λ (t : List (List Op)). t ++ with_section (is_in_section p.last) p.section) (before.threads p is.at)
     ∙ ap (λ (b : Bool). with_section b p.section) before.outside
+
+-- where a key may stand, there are no sections, and the end may stand
+pub no_sections : (p : Progress) → IsProgress p → may_follow p.last sorts.Key ≡ true → (sections_read p ≡ []) × (p.section ≡ []) × (may_follow p.last sorts.End ≡ true)
+no_sections p is follows =
+    let before = before_sections p.last follows in
+    (no_sections_yet p is before, before.section p is.at, before.ends)
 
 pub lines_read-key : (p : Progress) (named : NamedKey) → IsProgress p → may_follow p.last sorts.Key ≡ true → lines_read (with_key p named) ≡ lines_read p ++ key_line named ∷ []
 lines_read-key p named is follows =
