@@ -13,3 +13,7 @@ pub mod Passes
 pub mod NamedKeys
 pub mod NoError
 pub mod FormLines
+pub mod Refusals
+pub mod Sayings
+pub mod Readings
+pub mod Parsed

@@ -174,7 +174,7 @@ front_plugs false (ops.Plug ∷ section) more h = front_plugs true section more 
 front_plugs true (ops.Unplug ∷ section) more h = front_plugs false section more h
 front_plugs false (ops.Unplug ∷ section) more h = absurd cc
 
-op_built : (last : Option Sort) (keys : List NamedKey) (op : Op) → may_follow last sorts.Operation ≡ true → is_unbuilt last (op_line keys op) ≡ false
+pub op_built : (last : Option Sort) (keys : List NamedKey) (op : Op) → may_follow last sorts.Operation ≡ true → is_unbuilt last (op_line keys op) ≡ false
 op_built None keys op follows = refl
 op_built (Some sorts.Version) keys op follows = refl
 op_built (Some sorts.Disk) keys op follows = absurd cc
@@ -184,7 +184,7 @@ op_built (Some sorts.Thread) keys op follows = refl
 op_built (Some sorts.Operation) keys op follows = refl
 op_built (Some sorts.End) keys op follows = refl
 
-op_sorted : (last : Option Sort) (keys : List NamedKey) (op : Op) → may_follow last (sort_of (op_form keys op)) ≡ may_follow last sorts.Operation
+pub op_sorted : (last : Option Sort) (keys : List NamedKey) (op : Op) → may_follow last (sort_of (op_form keys op)) ≡ may_follow last sorts.Operation
 op_sorted last keys (ops.Write context sector units text) = refl
 op_sorted last keys (ops.Read context sector units) = refl
 op_sorted last keys (ops.Evict key) = refl

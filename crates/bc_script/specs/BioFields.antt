@@ -25,16 +25,27 @@ pub record IsNewName (p : Progress) (field name : List ℕ) : Type 0 where
   pub name_is : name ≡ field
   pub rule : IsTrue (is_name field)
   pub fresh : IsNoName p.keys field
+  pub passes : (is_name field && not (is_declared field (forms_read p))) ≡ true
+
+-- the key with this name
+pub record IsDeclared (p : Progress) (field : List ℕ) (key : KeyNo) : Type 0 where
+  pub named : IsNamed p.keys field key
+  pub passes : is_declared field (forms_read p) ≡ true
 
 -- the key with this name, or none where `-` stands for it
 abbrev pub SaysKey : Progress → List ℕ → Option KeyNo → Type 0
 SaysKey p field None = field ≡ dash
-SaysKey p field (Some key) = (field ≢ dash) × IsNamed p.keys field key
+SaysKey p field (Some key) = (field ≢ dash) × IsDeclared p field key
 
 -- a data unit number, or none where `-` stands for it
 abbrev pub SaysNumberField : List ℕ → Option ℕ → Type 0
 SaysNumberField field None = field ≡ dash
 SaysNumberField field (Some n) = (field ≢ dash) × (is_number_text field ≡ true) × (field ≡ number_text n) × (n < 2 ^ 256)
+
+-- a key and a number make a context
+abbrev pub context_with : Option KeyNo → Option ℕ → Option Context
+context_with (Some key) (Some n) = Some (record { key = key; dun = n })
+context_with _ _ = None
 
 -- the fields of a bio pass their tests, and say these values
 pub record SaysBio (p : Progress) (bio : BioForm) (fields : BioFields) : Type 0 where

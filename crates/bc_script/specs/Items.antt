@@ -77,6 +77,17 @@ pub record FitsOp (p : Progress) (op : Op) : Type 0 where
 abbrev pub IsClosed : Progress → Type 0
 IsClosed p = open_behind false p.section ≡ Some false
 
+-- a line of this sort ends the section above it
+abbrev pub EndsSection : Sort → Type 0
+EndsSection sorts.Thread = ⊤
+EndsSection sorts.End = ⊤
+EndsSection _ = ⊥
+
+-- there is room for one more section, where one begins
+abbrev pub HasRoomFor : Progress → Sort → Type 0
+HasRoomFor p sorts.Thread = length (sections_read p) < max_threads
+HasRoomFor p _ = ⊤
+
 -- it fits behind what has been read
 abbrev pub Fits : Progress → Item → Type 0
 Fits p items.Version = ⊤

@@ -1,6 +1,6 @@
 //! What a section of a script asks for.
 
-ghost use Rattle.std.specs.Prelude.{◌≡◌, ◌++◌, [], ◌∷◌, Some, IsSome, OnOk};
+ghost use Rattle.std.specs.Prelude.{◌≡◌, ◌++◌, [], ◌∷◌, Some, IsSome, OnOk, OnErr};
 ghost use Rattle.bc_script.specs.Script.{context_of, units_of, open_behind};
 
 use bc_base::Items;
@@ -82,6 +82,7 @@ impl Op {
 /// Appends an operation. Nothing is appended where there is no memory.
 pub(crate) fn add_op(section: &mut Vec<Op>, op: Op) -> Result<(), AllocError>
     ensures ok { OnOk result (section.new.items ≡ section.old.items ++ op ∷ []) }
+    ensures err { OnErr result (section.new.items ≡ section.old.items) }
 {
     // The checker wants the type of a part of `Op` named where a list of them grows.
     let _context: Option<Context> = op.context();

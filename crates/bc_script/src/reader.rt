@@ -1,20 +1,24 @@
 //! A script that is being read, line after line.
 
-ghost use Rattle.std.specs.Prelude.{◌≡◌, true, [], None, OnOk, IfOk, IfErr, IsTrue, ◌↔◌};
-ghost use Rattle.bc_text.specs.Lines.{nothing};
+ghost use Rattle.std.specs.Prelude.{◌≡◌, ◌+◌, true, [], length, Some, OnOk, IfOk, IfErr};
+ghost use Rattle.bc_script.specs.declared.item.Item.TheVariants as items;
+ghost use Rattle.bc_script.specs.declared.sort.Sort.TheVariants as sorts;
+ghost use Rattle.bc_script.specs.Script.{IsScript, IsDiskSize};
+ghost use Rattle.bc_script.specs.ScriptText.{script_lines};
 ghost use Rattle.bc_script.specs.Forms.{may_follow};
-ghost use Rattle.bc_script.specs.ScriptErrors.{error_at, error_at_end, is_nothing};
-ghost use Rattle.bc_script.specs.Progress.{forms_read, is_in_section, sections_read};
-ghost use Rattle.bc_script.specs.Items.{Fits, sort_of_item, with_item};
+ghost use Rattle.bc_script.specs.ScriptErrors.{error_at, error_at_end, is_end, is_nothing};
+ghost use Rattle.bc_script.specs.Progress.{IsProgress, lines_read, forms_read, is_in_section};
+ghost use Rattle.bc_script.specs.Items.{Fits, FitsKey, FitsOp, IsClosed, EndsSection, HasRoomFor, sort_of_item, with_item, with_section_ended};
 ghost use Rattle.bc_script.specs.Reading.{Took, IsWhole, TellsNext};
 
 mod line;
 
 use crate::item::{Item, Unread};
+use crate::named_key::NamedKey;
 use crate::named_keys::NamedKeys;
 use crate::op::{Op, add_op};
 use crate::script::Script;
-use crate::script_error::{ParseError, ScriptError};
+use crate::script_error::{ParseError, ScriptError, ScriptWhy};
 use crate::sort::Sort;
 use bc_base::Items;
 use bc_text::Parts;
@@ -79,11 +83,26 @@ impl Reader {
                 Err(_) => Err(ParseError::Memory),
             },
             Err(Unread::Bad(why)) => Err(ParseError::Bad(ScriptError {
-                line: self.lines + 1,
+                line: self.next_line(),
                 why,
             })),
             Err(Unread::Memory) => Err(ParseError::Memory),
         }
+    }
+
+    /// The sort of the nearest line.
+    fn last_sort(&self) -> Option<Sort>
+        ensures value { result ≡ self.now.last }
+        ensures rules { IsProgress self.now }
+    {
+        self.last
+    }
+
+    /// The number of the next line.
+    fn next_line(&self) -> u32
+        ensures { result ≡ length (forms_read self.now) + 1 }
+    {
+        self.lines + 1
     }
 
     /// Appends what the next line says.
@@ -94,85 +113,150 @@ impl Reader {
     {
         match item {
             Item::Version => {
-                self.last = Some(Sort::Version);
+                self.add_version();
+                Ok(())
             }
             Item::Disk(blocks) => {
-                self.blocks = blocks;
-                self.last = Some(Sort::Disk);
+                self.add_disk(blocks);
+                Ok(())
             }
             Item::Fallback => {
-                self.last = Some(Sort::Fallback);
+                self.add_fallback();
+                Ok(())
             }
-            Item::Key(named) => {
-                self.keys.add(alloc, named)?;
-                self.last = Some(Sort::Key);
-            }
-            Item::Thread => {
-                self.end_section(alloc)?;
-                self.last = Some(Sort::Thread);
-            }
-            Item::Operation(op) => {
-                let units = op.units();
-                let plugged = op.plugs(self.plugged);
-                add_op(&mut self.section, op)?;
-                self.ops += 1;
-                self.units += units;
-                self.plugged = plugged;
-                self.last = Some(Sort::Operation);
-            }
-            Item::End => {
-                self.end_section(alloc)?;
-                self.last = Some(Sort::End);
-            }
+            Item::Key(named) => self.add_key(alloc, named),
+            Item::Thread => self.end_section(alloc, Sort::Thread),
+            Item::Operation(op) => self.add_operation(op),
+            Item::End => self.end_section(alloc, Sort::End),
         }
+    }
+
+    fn add_version(&mut self)
+        requires { may_follow self.old.last sorts.Version ≡ true }
+        ensures { self.new ≡ with_item self.old items.Version }
+    {
+        self.last = Some(Sort::Version);
+        self.lines += 1;
+    }
+
+    fn add_disk(&mut self, blocks: u32)
+        requires follows { may_follow self.old.last sorts.Disk ≡ true }
+        requires size { IsDiskSize blocks }
+        ensures { self.new ≡ with_item self.old (items.Disk blocks) }
+    {
+        self.last = Some(Sort::Disk);
+        self.blocks = blocks;
+        self.lines += 1;
+    }
+
+    fn add_fallback(&mut self)
+        requires { may_follow self.old.last sorts.Fallback ≡ true }
+        ensures { self.new ≡ with_item self.old items.Fallback }
+    {
+        self.last = Some(Sort::Fallback);
+        self.lines += 1;
+    }
+
+    fn add_key(&mut self, alloc: Global, named: NamedKey) -> Result<(), AllocError>
+        requires follows { may_follow self.old.last sorts.Key ≡ true }
+        requires fits { FitsKey self.old named }
+        ensures { OnOk result (self.new ≡ with_item self.old (items.Key named)) }
+    {
+        self.keys.add(alloc, named)?;
+        self.last = Some(Sort::Key);
+        self.lines += 1;
+        Ok(())
+    }
+
+    fn add_operation(&mut self, op: Op) -> Result<(), AllocError>
+        requires follows { may_follow self.old.last sorts.Operation ≡ true }
+        requires fits { FitsOp self.old op }
+        ensures { OnOk result (self.new ≡ with_item self.old (items.Operation op)) }
+    {
+        let units = op.units();
+        let plugged = op.plugs(self.plugged);
+        add_op(&mut self.section, op)?;
+        self.ops += 1;
+        self.units += units;
+        self.plugged = plugged;
+        self.last = Some(Sort::Operation);
         self.lines += 1;
         Ok(())
     }
 
     /// Puts the section that is being read, if one is, behind those that have ended.
-    fn end_section(&mut self, alloc: Global) -> Result<(), AllocError> {
-        if self.is_in_section() {
+    fn end_section(&mut self, alloc: Global, sort: Sort) -> Result<(), AllocError>
+        requires sort { EndsSection sort }
+        requires follows { may_follow self.old.last sort ≡ true }
+        requires closed { IsClosed self.old }
+        requires room { HasRoomFor self.old sort }
+        ensures { OnOk result (self.new ≡ with_section_ended self.old sort) }
+    {
+        if is_in_section(self.last) {
             self.threads.reserve(1)?;
             let section = std::mem::replace(&mut self.section, Vec::new(alloc));
             let Ok(()) = self.threads.push(Items::from_vec(section)) else {
                 unreachable!()
             };
         }
+        self.last = Some(sort);
+        self.lines += 1;
         Ok(())
     }
 
-    fn is_in_section(&self) -> bool
-        ensures { result ≡ is_in_section self.now.last }
-    {
-        match self.last {
-            Some(Sort::Thread | Sort::Operation) => true,
-            _ => false,
-        }
-    }
-
     /// The script, whose last line has been read, and which has nothing behind it but this.
-    pub(crate) fn finish(self, alloc: Global, mut rest: Parts) -> Result<Script, ParseError>
+    pub(crate) fn finish(self, alloc: Global, rest: Parts) -> Result<Script, ParseError>
         ensures ok { IfOk result (IsWhole self rest.entry) }
         ensures bad { IfErr result (TellsNext self (error_at_end (forms_read self) rest.entry)) }
     {
-        if self.last == Some(Sort::End) && is_nothing(&mut rest) {
-            let Reader {
-                blocks,
-                keys,
-                threads,
-                ..
-            } = self;
-            return Ok(Script::new(alloc, blocks, keys.into_items(), Items::from_vec(threads)));
+        if !is_end(self.last_sort()) || !is_nothing(rest) {
+            return Err(ParseError::Bad(ScriptError {
+                line: self.next_line(),
+                why: ScriptWhy::End,
+            }));
         }
-        Err(ParseError::Bad(ScriptError {
-            line: self.lines + 1,
-            why: crate::ScriptWhy::End,
-        }))
+        Ok(self.into_script(alloc))
+    }
+
+    /// The script whose last line has been read.
+    fn into_script(self, alloc: Global) -> Script
+        requires { self.last ≡ Some sorts.End }
+        ensures valid { IsScript result }
+        ensures lines { script_lines result ≡ lines_read self }
+    {
+        let Reader {
+            blocks,
+            keys,
+            threads,
+            ..
+        } = self;
+        Script::new(alloc, blocks, keys.into_items(), Items::from_vec(threads))
     }
 }
 
-fn is_nothing(rest: &mut Parts) -> bool
-    ensures { result ≡ is_nothing rest.old }
+/// Whether the nearest line is the last one.
+fn is_end(last: Option<Sort>) -> bool
+    ensures { result ≡ is_end last }
+{
+    match last {
+        Some(Sort::End) => true,
+        _ => false,
+    }
+}
+
+/// Whether a section is being read.
+fn is_in_section(last: Option<Sort>) -> bool
+    ensures { result ≡ is_in_section last }
+{
+    match last {
+        Some(Sort::Thread | Sort::Operation) => true,
+        _ => false,
+    }
+}
+
+/// Whether nothing stands in what is left.
+fn is_nothing(mut rest: Parts) -> bool
+    ensures { result ≡ is_nothing rest.entry }
 {
     let Some(()) = rest.expect(b"") else {
         return false;

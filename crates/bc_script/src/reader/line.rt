@@ -10,14 +10,13 @@ ghost use Rattle.bc_script.specs.Script.{IsContext, bare_keys, units_of_section,
 ghost use Rattle.bc_script.specs.ScriptText.{dash};
 ghost use Rattle.bc_script.specs.Forms as forms;
 ghost use Rattle.bc_script.specs.ScriptErrors.{error_at, tests_of, is_declared, is_number_text, is_text, is_number};
-ghost use Rattle.bc_script.specs.Progress.{forms_read, sections_read};
+ghost use Rattle.bc_script.specs.Progress.{IsProgress, forms_read, sections_read};
 ghost use Rattle.bc_script.specs.Says.{SaysNumber};
 ghost use Rattle.bc_script.specs.Lent.{key_lent, bio_lent, text_lent, form_lent};
-ghost use Rattle.bc_script.specs.NamedKeys.{IsNamed};
 ghost use Rattle.bc_script.specs.Items.{IsNext, IsSaid, DashesAgree, Tells, Refuses};
-ghost use Rattle.bc_script.specs.BioFields.{IsNewName, SaysKey, SaysNumberField, SaysBio, RefusesBio, SaysText};
+ghost use Rattle.bc_script.specs.BioFields.{IsNewName, IsDeclared, SaysKey, SaysNumberField, SaysBio, RefusesBio, SaysText, context_with};
 
-use super::Reader;
+use super::{Reader, is_end, is_in_section};
 use crate::field;
 use crate::form::{self, BioForm, Form, KeyForm, TextForm};
 use crate::item::{Item, Unread};
@@ -59,16 +58,17 @@ impl Reader {
         ensures ok { IfOk result (IsNext self.now line.entry) }
         ensures bad { IfErr result (Tells (error_at (forms_read self.now) line.entry)) }
     {
-        if self.last == Some(Sort::End) {
+        let last = self.last_sort();
+        if is_end(last) {
             return Err(Unread::Bad(ScriptWhy::End));
         }
-        if form::is_unbuilt(self.last, &line) {
+        if form::is_unbuilt(last, &line) {
             return Err(Unread::Bad(ScriptWhy::NotBuilt));
         }
         let Some(form) = form::form_of(line) else {
             return Err(Unread::Bad(ScriptWhy::Word));
         };
-        if !form::may_follow(self.last, form.sort()) {
+        if !form::may_follow(last, form.sort()) {
             return Err(Unread::Bad(ScriptWhy::Word));
         }
         self.said(alloc, form)
@@ -143,7 +143,7 @@ impl Reader {
     fn section_count(&self) -> usize
         ensures { result ≡ length (sections_read self.now) }
     {
-        self.threads.len() + usize::from(self.is_in_section())
+        self.threads.len() + usize::from(is_in_section(self.last))
     }
 
     fn write(&self, alloc: Global, form: BioForm, text: TextForm) -> Result<Item, Unread>
@@ -195,12 +195,8 @@ impl Reader {
         let sector = number(form.sector, 0, u32::MAX)?;
         let units = number(form.units, 0, MAX_BIO_UNITS)?;
         let dun = bio_number(form.number)?;
-        let context = match (key, dun) {
-            (Some(key), Some(dun)) => Some(Context { key, dun }),
-            _ => None,
-        };
         Ok(BioFields {
-            context,
+            context: context_of(key, dun),
             sector,
             units,
         })
@@ -218,7 +214,7 @@ impl Reader {
 
     /// The key with this name.
     fn declared(&self, name: &[u8]) -> Result<KeyNo, Unread>
-        ensures { MatchResult result (IsNamed self.now.keys name.now) (Refuses (is_declared name.now (forms_read self.now)) why.Name) }
+        ensures { MatchResult result (IsDeclared self.now name.now) (Refuses (is_declared name.now (forms_read self.now)) why.Name) }
     {
         match self.keys.number_of(name) {
             Some(key) => Ok(key),
@@ -231,10 +227,12 @@ impl Reader {
         requires { IsContext (bare_keys self.now.keys) context.now }
         ensures value { result ≡ unit_sectors (bare_keys self.now.keys) context.now }
         ensures most { result ≤ 8 }
+        ensures rules { IsProgress self.now }
     {
+        let keys = self.keys.as_slice();
         match context {
             Some(context) => {
-                let named = &self.keys.as_slice()[usize::from(context.key.0)];
+                let named = &keys[usize::from(context.key.0)];
                 named.key.config().unit.sectors()
             }
             None => 1,
@@ -245,14 +243,16 @@ impl Reader {
     fn has_room_for(&self, units: u32, sectors: u32) -> bool
         requires units { units ≤ max_bio_units }
         requires sectors { sectors ≤ 8 }
-        ensures { result ≡ (nat_le (units * sectors) max_bio_sectors && (nat_le (sum_by units_of_section (sections_read self.now) + units) max_units && nat_lt (sum_by length (sections_read self.now)) max_ops)) }
+        ensures test { result ≡ (nat_le (units * sectors) max_bio_sectors && (nat_le (sum_by units_of_section (sections_read self.now) + units) max_units && nat_lt (sum_by length (sections_read self.now)) max_ops)) }
+        ensures rules { IsProgress self.now }
     {
         units * sectors <= MAX_BIO_SECTORS && self.units + units <= MAX_UNITS && self.has_room()
     }
 
     /// Whether the script may have one more operation.
     fn has_room(&self) -> bool
-        ensures { result ≡ nat_lt (sum_by length (sections_read self.now)) max_ops }
+        ensures test { result ≡ nat_lt (sum_by length (sections_read self.now)) max_ops }
+        ensures rules { IsProgress self.now }
     {
         self.ops < MAX_OPS
     }
@@ -327,6 +327,16 @@ fn bio_number(field: &[u8]) -> Result<Option<Dun>, Unread>
     match field::data_unit_number(field) {
         Some(number) => Ok(Some(number)),
         None => Err(Unread::Bad(ScriptWhy::Number)),
+    }
+}
+
+/// A key and a number make a context.
+fn context_of(key: Option<KeyNo>, dun: Option<Dun>) -> Option<Context>
+    ensures { result ≡ context_with key dun }
+{
+    match (key, dun) {
+        (Some(key), Some(dun)) => Some(Context { key, dun }),
+        _ => None,
     }
 }
 
