@@ -1,6 +1,6 @@
 -- A text that is read line after line, and what is found of it.
 use Rattle.std.proofs.Common.{◌≡◌, ℕ, ◌<◌, ◌≤◌, ◌+◌, Bool, true, false, List, [], ◌∷◌, ◌++◌, length, map, Option, Some, None, position, append_assoc, refl, sym, ap, subst, ◌∙◌}
-use Rattle.std.specs.Prelude.{◌==◌, ⊤}
+use Rattle.std.specs.Prelude.{◌==◌, ⊤, Result, Ok, Err, IfOk, IfErr, OnOk}
 use Rattle.bc_text.specs.Lines.{Line, nothing, lines_of, parts_at, space, line_feed}
 use Rattle.bc_text.proofs.Splits.{parts_at-place, parts_at-nowhere}
 use Rattle.bc_text.proofs.LineLaws.{text_of-lines_of}
@@ -62,18 +62,24 @@ module _ (text : List ℕ) (p : Progress) (line next : Line) (left : List Line) 
   line_refused errors.Memory tells = tt
 
 module _ (text : List ℕ) (p : Progress) (rest : Line) (underway : Underway text p (rest ∷ [])) where
-  pub rest_refused : (e : ParseError) → TellsNext p (error_at_end (forms_read p) rest) e → IsRefused text e
+  rest_refused : (e : ParseError) → TellsNext p (error_at_end (forms_read p) rest) e → IsRefused text e
   rest_refused (errors.Bad e) tells =
       let at : error_of text ≡ Some e =
       sym underway.error ∙ ap (λ (w : Why). or_below (length (forms_read p) + 1) w None) tells.1 ∙ (λ i. let told : ScriptError = record { line = sym tells.0 i; why = e.why } in Some told) in
       (at, no_script_has text e at)
   rest_refused errors.Memory tells = tt
 
-  pub says : (s : Script) → IsWhole p rest s → Says text s
-  says s whole = record {
+  pub says : (r : Result Script ParseError) → IfOk r (IsWhole p rest) → IfOk r (Says text)
+  says (Ok s) whole = record {
     valid = whole.valid;
     text_is = text_of-lines_of text (script_lines s) (underway.whole ∙ ap (λ (l : Line). lines_read p ++ l ∷ []) whole.rest_is ∙ sym (ap (λ (ls : List Line). ls ++ nothing ∷ []) whole.lines));
   }
+  says (Err e) whole = tt
 
-  pub passes : (s : Script) → IsWhole p rest s → error_of text ≡ None
-  passes s whole = sym underway.error ∙ ap (λ (w : Why). or_below (length (forms_read p) + 1) w None) whole.passes
+  pub passes : (r : Result Script ParseError) → IfOk r (IsWhole p rest) → OnOk r (error_of text ≡ None)
+  passes (Ok s) whole = sym underway.error ∙ ap (λ (w : Why). or_below (length (forms_read p) + 1) w None) whole.passes
+  passes (Err e) whole = tt
+
+  pub refuses : (r : Result Script ParseError) → IfErr r (TellsNext p (error_at_end (forms_read p) rest)) → IfErr r (IsRefused text)
+  refuses (Ok s) tells = tt
+  refuses (Err e) tells = rest_refused e tells

@@ -16,7 +16,8 @@ use Rattle.bc_script.specs.Forms.{Form, Version, Disk, Fallback, Key, Thread, En
 use Rattle.bc_script.specs.ScriptErrors.{Why, first_of, with_form, error_at, error_at_end, last_sort, is_end, is_nothing}
 use Rattle.bc_script.specs.Progress.{Progress, IsProgress, IsAt, head_read, with_section, is_in_section, end_read, lines_read, forms_read, sections_read}
 use Rattle.bc_script.specs.Items.{Fits, FitsKey, FitsOp, IsClosed, EndsSection, HasRoomFor, IsNext, sort_of_item, line_of, with_item, with_section_ended}
-use Rattle.bc_script.specs.Reading.{IsReading, Took, IsWhole}
+use Rattle.bc_script.specs.NamedKeys.{IsNoName, HasName}
+use Rattle.bc_script.specs.Reading.{IsReading, Took, IsWhole, left_section}
 use Rattle.bc_script.proofs.FormsRead.{forms_read-step}
 use Rattle.bc_script.proofs.LineForms.{key_fields, op_form, form_of-key_line, form_of-op_line}
 use Rattle.bc_script.proofs.Above.{last_sort-read, length-read_le}
@@ -153,6 +154,19 @@ no_section p is out = at p.last out is.at
     at (Some sorts.Operation) out h = absurd cc
     at (Some sorts.End) out h = h.1
 
+pub none_left : (p : Progress) → IsProgress p → left_section (is_in_section p.last) p.section ≡ []
+none_left p is = at (is_in_section p.last) refl
+  where
+    at : (inside : Bool) → is_in_section p.last ≡ inside → left_section inside p.section ≡ []
+    at true e = refl
+    at false e = no_section p is e
+
+-- where a key with a new name is added, it is added
+pub added_is : (old new : List NamedKey) (named : NamedKey) (added : Bool) → (added ≡ true → (new ≡ old ++ named ∷ []) × IsNoName old named.name) → (added ≡ false → (new ≡ old) × HasName old named.name) → IsNoName old named.name
+    → new ≡ old ++ named ∷ []
+added_is old new named true more same fresh = (more refl).0
+added_is old new named false more same fresh = let has = (same refl).1 in absurd (fresh has.0 has.1)
+
 -- ---- a line that has been read
 
 -- what follows passes, and its line is read with it
@@ -196,9 +210,9 @@ module _ (p : Progress) (is : IsProgress p) where
       (lines_read-op p op is follows)
   took_item items.End follows fits = taken items.End End refl (error_at-passed p end_line End is (is_built p.last _ _ refl refl refl) refl follows (end_passed p is fits)) (lines_read-end p is follows)
 
-  pub took : (line : Line) (item : Item) (q : Progress) → IsNext p line item → q ≡ with_item p item → Took p line q
-  took line item q next same =
-      subst (λ (r : Progress). Took p line r) (sym same) (subst (λ (l : Line). Took p l (with_item p item)) (sym next.line_is) (took_item item next.follows next.fits))
+pub took : (p : Progress) (line : Line) (item : Item) (q : Progress) → IsNext p line item → q ≡ with_item p item → Took p line q
+took p line item q next same =
+    subst (λ (r : Progress). Took p line r) (sym same) (subst (λ (l : Line). Took p l (with_item p item)) (sym next.line_is) (took_item p next.rules item next.follows next.fits))
 
 -- ---- the end
 
@@ -257,3 +271,6 @@ module _ (p : Progress) (is : IsProgress p) (last : p.last ≡ Some sorts.End) w
   all_lines =
       sym (ap (λ (l : Option Sort). head_read l p.blocks ++ (map key_line p.keys ++ (flat_map (section_lines p.keys) (p.threads ++ with_section (is_in_section l) p.section) ++ end_read l))) last
       ∙ ap (λ (t : List (List Op)). (version_line ∷ disk_line p.blocks ∷ fallback_line true ∷ []) ++ (map key_line p.keys ++ (flat_map (section_lines p.keys) t ++ end_line ∷ []))) (append-nil p.threads))
+
+pub and_both : (a b : Bool) → a ≡ true → b ≡ true → (a && b) ≡ true
+and_both a b p q = λ i. p i && q i

@@ -59,7 +59,7 @@ not_true b e = ap not e
 not_false : (b : Bool) → b ≡ false → not b ≡ true
 not_false b e = ap not e
 
-and_no : (b : Bool) → (b && false) ≡ false
+pub and_no : (b : Bool) → (b && false) ≡ false
 and_no true = refl
 and_no false = refl
 

@@ -201,9 +201,9 @@ module _ (p : Progress) (bio : BioForm) (fields : BioFields) (sectors : ℕ) (ro
 
 -- ---- the whole line
 
-pub next_is : (p : Progress) (line : Line) (form : Form) (said : Result Item Unread) → line ≡ form_line form → may_follow p.last (sort_of form) ≡ true → MatchResult said (IsSaid p form) (Tells (tests_of (forms_read p) form)) → IfOk said (IsNext p line)
-next_is p line form (Ok item) line_is follows is = record { line_is = line_is ∙ is.line_is; follows = ap (λ (s : Sort). may_follow p.last s) (sym is.sort_is) ∙ follows; fits = is.fits }
-next_is p line form (Err e) line_is follows tells = tt
+pub next_is : (p : Progress) (line : Line) (form : Form) (said : Result Item Unread) → IsProgress p → line ≡ form_line form → may_follow p.last (sort_of form) ≡ true → MatchResult said (IsSaid p form) (Tells (tests_of (forms_read p) form)) → IfOk said (IsNext p line)
+next_is p line form (Ok item) rules line_is follows is = record { rules = rules; line_is = line_is ∙ is.line_is; follows = ap (λ (s : Sort). may_follow p.last s) (sym is.sort_is) ∙ follows; fits = is.fits }
+next_is p line form (Err e) rules line_is follows tells = tt
 
 pub next_told : (p : Progress) (line : Line) (form : Form) (said : Result Item Unread) → error_at (forms_read p) line ≡ tests_of (forms_read p) form → MatchResult said (IsSaid p form) (Tells (tests_of (forms_read p) form)) → IfErr said (Tells (error_at (forms_read p) line))
 next_told p line form (Ok item) tests is = tt

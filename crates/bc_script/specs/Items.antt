@@ -16,7 +16,7 @@ use Rattle.bc_script.specs.ScriptText.{version_line, disk_line, fallback_line, k
 use Rattle.bc_script.specs.Forms.{Form, Version, Disk, Fallback, Key, Thread, Write, Read, Evict, Reset, Plug, Unplug, End, KeyForm, BioForm, TextForm, Fill, Hex, sort_of, may_follow, dashes_agree}
 use Rattle.bc_script.specs.ScriptErrors.{Why}
 use Rattle.bc_script.specs.NamedKeys.{IsNoName}
-use Rattle.bc_script.specs.Progress.{Progress, sections_read}
+use Rattle.bc_script.specs.Progress.{Progress, IsProgress, sections_read}
 
 -- ---- lines by their forms
 
@@ -120,6 +120,7 @@ pub record IsSaid (p : Progress) (form : Form) (item : Item) : Type 0 where
 
 -- the line says the item, which may stand behind what has been read and fits
 pub record IsNext (p : Progress) (line : Line) (item : Item) : Type 0 where
+  pub rules : IsProgress p
   pub line_is : line ≡ line_of p.keys item
   pub follows : may_follow p.last (sort_of_item item) ≡ true
   pub fits : Fits p item

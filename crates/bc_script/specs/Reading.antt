@@ -2,7 +2,7 @@
 -- no public one does.
 use Rattle.std.specs.Prelude.{◌≡◌, ℕ, ◌+◌, Bool, true, false, List, [], ◌∷◌, ◌++◌, length, sum_by, Option, Some, None, ⊤}
 use Rattle.bc_text.specs.Lines.{Line, nothing}
-use Rattle.bc_script.specs.declared.sort.Sort.TheVariants as sorts
+use Rattle.bc_script.specs.declared.op.Op.{Op}
 use Rattle.bc_script.specs.declared.script_error.ParseError.{ParseError}
 use Rattle.bc_script.specs.declared.script_error.ParseError.TheVariants as errors
 use Rattle.bc_script.specs.Script.{Script, IsScript, open_behind, units_of_section}
@@ -18,6 +18,11 @@ pub record IsReading (p : Progress) (lines : ℕ) (plugged : Bool) (ops units : 
   pub plug : open_behind false p.section ≡ Some plugged
   pub op_count : ops ≡ sum_by length (sections_read p)
   pub unit_count : units ≡ sum_by units_of_section (sections_read p)
+
+-- what is left of a section that has ended
+abbrev pub left_section : Bool → List Op → List Op
+left_section true section = []
+left_section false section = section
 
 -- the line has been read, which passes its tests
 pub record Took (old : Progress) (line : Line) (new : Progress) : Type 0 where

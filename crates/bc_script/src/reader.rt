@@ -1,15 +1,15 @@
 //! A script that is being read, line after line.
 
-ghost use Rattle.std.specs.Prelude.{◌≡◌, ◌+◌, true, [], length, Some, OnOk, IfOk, IfErr};
+ghost use Rattle.std.specs.Prelude.{◌≡◌, ◌+◌, ◌++◌, true, [], length, Some, OnOk, OnErr, IfOk, IfErr};
 ghost use Rattle.bc_script.specs.declared.item.Item.TheVariants as items;
 ghost use Rattle.bc_script.specs.declared.sort.Sort.TheVariants as sorts;
 ghost use Rattle.bc_script.specs.Script.{IsScript, IsDiskSize};
 ghost use Rattle.bc_script.specs.ScriptText.{script_lines};
 ghost use Rattle.bc_script.specs.Forms.{may_follow};
 ghost use Rattle.bc_script.specs.ScriptErrors.{error_at, error_at_end, is_end, is_nothing};
-ghost use Rattle.bc_script.specs.Progress.{IsProgress, lines_read, forms_read, is_in_section};
+ghost use Rattle.bc_script.specs.Progress.{IsProgress, lines_read, forms_read, is_in_section, with_section};
 ghost use Rattle.bc_script.specs.Items.{Fits, FitsKey, FitsOp, IsClosed, EndsSection, HasRoomFor, sort_of_item, with_item, with_section_ended};
-ghost use Rattle.bc_script.specs.Reading.{Took, IsWhole, TellsNext};
+ghost use Rattle.bc_script.specs.Reading.{Took, IsWhole, TellsNext, left_section};
 
 mod line;
 
@@ -57,7 +57,7 @@ impl Model for Reader {
 impl Reader {
     /// No line has been read.
     pub(crate) fn new(alloc: Global) -> Reader
-        ensures { forms_read result ≡ [] }
+        ensures { lines_read result ≡ [] }
     {
         Reader {
             lines: 0,
@@ -192,13 +192,8 @@ impl Reader {
         requires room { HasRoomFor self.old sort }
         ensures { OnOk result (self.new ≡ with_section_ended self.old sort) }
     {
-        if is_in_section(self.last) {
-            self.threads.reserve(1)?;
-            let section = std::mem::replace(&mut self.section, Vec::new(alloc));
-            let Ok(()) = self.threads.push(Items::from_vec(section)) else {
-                unreachable!()
-            };
-        }
+        let inside = is_in_section(self.last);
+        put_section(alloc, inside, &mut self.section, &mut self.threads)?;
         self.last = Some(sort);
         self.lines += 1;
         Ok(())
@@ -252,6 +247,29 @@ fn is_in_section(last: Option<Sort>) -> bool
         Some(Sort::Thread | Sort::Operation) => true,
         _ => false,
     }
+}
+
+/// Puts the section, if one is being read, behind those that have ended.
+fn put_section(
+    alloc: Global,
+    inside: bool,
+    section: &mut Vec<Op>,
+    threads: &mut Vec<Items<Op>>,
+) -> Result<(), AllocError>
+    ensures ended { OnOk result (threads.new.items ≡ threads.old.items ++ with_section inside section.old.items) }
+    ensures begun { OnOk result (section.new.items ≡ left_section inside section.old.items) }
+    ensures kept { OnErr result (threads.new.items ≡ threads.old.items) }
+    ensures going_on { OnErr result (section.new.items ≡ section.old.items) }
+{
+    if !inside {
+        return Ok(());
+    }
+    threads.reserve(1)?;
+    let ended = std::mem::replace(section, Vec::new(alloc));
+    let Ok(()) = threads.push(Items::from_vec(ended)) else {
+        unreachable!()
+    };
+    Ok(())
 }
 
 /// Whether nothing stands in what is left.

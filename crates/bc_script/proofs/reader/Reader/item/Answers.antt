@@ -28,7 +28,7 @@ said-requires c = (IsLineOf-form_of c.args.line (form_lent c.in-Some.form) (sym 
 
 pub returns-clause-ok : goal.returns-clause-ok
 returns-clause-ok c =
-    next_is c.args.self.now c.args.line (form_lent c.in-Some.form) c.said.result (IsLineOf-form_of c.args.line (form_lent c.in-Some.form) (sym c.in-Some.ensures)).line_is
+    next_is c.args.self.now c.args.line (form_lent c.in-Some.form) c.said.result c.last_sort-last.ensures.rules (IsLineOf-form_of c.args.line (form_lent c.in-Some.form) (sym c.in-Some.ensures)).line_is
     (follows_here c.args.self.now c.last_sort-last.result (form_lent c.in-Some.form) c.sort.result c.may_follow.result c.last_sort-last.ensures.value c.sort.ensures c.may_follow.ensures c.if-not-may_follow.false) c.said.ensures
 
 pub returns-clause-bad : goal.returns-clause-bad
