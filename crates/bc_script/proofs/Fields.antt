@@ -1,5 +1,5 @@
 -- What fields say: a field's test is passed exactly where the field is the text of its value.
-use Rattle.std.proofs.Common.{◌≡◌, ℕ, zero, suc, ◌<◌, ◌≤◌, ◌^◌, true, false, List, [], ◌∷◌, length, Option, Some, None, MatchOption, Result, Ok, Err, refl, sym, ap, ◌∙◌, arith, le-leb, leb-true, lt-ltb, ltb-true}
+use Rattle.std.proofs.Common.{◌≡◌, ◌≢◌, ℕ, zero, suc, ◌<◌, ◌≤◌, ◌^◌, true, false, List, [], ◌∷◌, ◌++◌, take, drop, length, Option, Some, None, MatchOption, Result, Ok, Err, refl, sym, ap, ◌∙◌, arith, ◌+◌, ◌*◌, ◌/◌, ◌⊎◌, inl, inr, le-leb, leb-true, lt-ltb, ltb-true}
 use Rattle.std.specs.Prelude.{unwrap_or}
 use Rattle.std.specs.Result.{result_ok}
 use Rattle.std.specs.Str.{bytes_eq}
@@ -8,9 +8,9 @@ use Rattle.std.specs.Fmt.{decimal}
 use Rattle.std.proofs.lemmas.Bool.{and_from, and_parts, false_from_ne_true}
 use Rattle.std.proofs.lemmas.Fmt.{decimal_is_IsNumeral, digits_is_IsNumeral}
 use Rattle.std.proofs.lemmas.Slice.Eq.{bytes_eq-Decides}
-use Rattle.hex.specs.Hex.{encode_lower, decode_of, IsBytes}
+use Rattle.hex.specs.Hex.{encode_lower, lower_digits, decode_of, IsBytes}
 use Rattle.hex.specs.declared.error.FromHexError.{FromHexError}
-use Rattle.hex.proofs.HexLemmas.{decode_of-ok, decode_of-encode_lower}
+use Rattle.hex.proofs.HexLemmas.{decode_of-ok, decode_of-encode_lower, length-encode_with}
 use Rattle.bc_text.specs.Fields.{Reads, byte_text}
 use Rattle.bc_key.specs.NumberText.{number_text, ReadsNumber}
 use Rattle.bc_script.specs.ScriptErrors.{number_in, is_number, is_number_text, bytes_in, is_hex_text}
@@ -133,3 +133,28 @@ no_one_byte field none (b ∷ c ∷ bytes) fits low high text = omega arith
 pub said_byte : (field : List ℕ) (answer : Option ℕ) → Reads (λ b. b < 256) byte_text field answer → MatchOption answer (is_hex_text 1 1 field ≡ false) (λ b. SaysBytes 1 1 field (b ∷ []))
 said_byte field None none = no_bytes 1 1 field (no_one_byte field none)
 said_byte field (Some b) (range, text) = said_bytes 1 1 field (b ∷ []) (one_byte b range) text (omega arith) (omega arith)
+
+-- the digits of bytes are twice as many
+no_room : (least most : ℕ) (field : List ℕ) → (length field / 2 < least) ⊎ (most < length field / 2) → (bytes : List ℕ) → least ≤ length bytes → length bytes ≤ most → field ≡ encode_lower bytes → ⊥
+no_room least most field other bytes low high text =
+    let len : length field ≡ 2 * length bytes = ap length text ∙ length-encode_with lower_digits bytes in
+    elim other [ | inl few ↦ omega arith | inr many ↦ omega arith ]
+
+pub no_bytes_fit : (least most : ℕ) (field : List ℕ) → (length field / 2 < least) ⊎ (most < length field / 2) → is_hex_text least most field ≡ false
+no_bytes_fit least most field other = no_bytes least most field (λ bytes fits low high text. no_room least most field other bytes low high text)
+
+pub no_bytes_there : (least most : ℕ) (field : List ℕ) → ((bytes : List ℕ) → IsBytes bytes → length bytes ≡ length field / 2 → field ≡ encode_lower bytes → ⊥) → is_hex_text least most field ≡ false
+no_bytes_there least most field none =
+    no_bytes least most field (λ bytes fits low high text. let len : length field ≡ 2 * length bytes = ap length text ∙ length-encode_with lower_digits bytes in none bytes fits (omega arith) text)
+
+pub no_bytes_of : (n : ℕ) (field : List ℕ) → length field / 2 ≢ n → is_hex_text n n field ≡ false
+no_bytes_of n field other =
+    no_bytes n n field (λ bytes fits low high text. let len : length field ≡ 2 * length bytes = ap length text ∙ length-encode_with lower_digits bytes in other (omega arith))
+
+-- a list that is filled from its front to its end
+pub filled_whole : (n : ℕ) (bytes rest : List ℕ) → n ≡ length bytes → take n (bytes ++ rest) ≡ bytes
+filled_whole n bytes rest same = rw same (front bytes rest)
+  where
+    front : (bytes rest : List ℕ) → take (length bytes) (bytes ++ rest) ≡ bytes
+    front [] rest = refl
+    front (b ∷ bytes) rest = ap (λ (t : List ℕ). b ∷ t) (front bytes rest)

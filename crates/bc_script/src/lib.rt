@@ -15,3 +15,6 @@ pub use named_key::NamedKey;
 pub use op::{Op, Text};
 pub use script::Script;
 pub use script_error::{ParseError, ScriptError, ScriptWhy};
+
+#[cfg(test)]
+mod tests;
