@@ -1,5 +1,5 @@
 -- What fields say: a field's test is passed exactly where the field is the text of its value.
-use Rattle.std.proofs.Common.{◌≡◌, ◌≢◌, ℕ, zero, suc, ◌<◌, ◌≤◌, ◌^◌, true, false, List, [], ◌∷◌, ◌++◌, take, drop, length, Option, Some, None, MatchOption, Result, Ok, Err, refl, sym, ap, ◌∙◌, arith, ◌+◌, ◌*◌, ◌/◌, ◌⊎◌, inl, inr, le-leb, leb-true, lt-ltb, ltb-true}
+use Rattle.std.proofs.Common.{◌≡◌, ◌≢◌, ℕ, zero, suc, ◌<◌, ◌≤◌, ◌^◌, true, false, List, [], ◌∷◌, ◌++◌, take, length, Option, Some, None, MatchOption, Result, Ok, Err, refl, sym, ap, ◌∙◌, arith, ◌*◌, ◌/◌, ◌⊎◌, inl, inr, le-leb, leb-true, lt-ltb, ltb-true}
 use Rattle.std.specs.Prelude.{unwrap_or}
 use Rattle.std.specs.Result.{result_ok}
 use Rattle.std.specs.Str.{bytes_eq}
@@ -138,7 +138,7 @@ said_byte field (Some b) (range, text) = said_bytes 1 1 field (b ∷ []) (one_by
 no_room : (least most : ℕ) (field : List ℕ) → (length field / 2 < least) ⊎ (most < length field / 2) → (bytes : List ℕ) → least ≤ length bytes → length bytes ≤ most → field ≡ encode_lower bytes → ⊥
 no_room least most field other bytes low high text =
     let len : length field ≡ 2 * length bytes = ap length text ∙ length-encode_with lower_digits bytes in
-    elim other [ | inl few ↦ omega arith | inr many ↦ omega arith ]
+    elim other [ inl few ↦ omega arith | inr many ↦ omega arith ]
 
 pub no_bytes_fit : (least most : ℕ) (field : List ℕ) → (length field / 2 < least) ⊎ (most < length field / 2) → is_hex_text least most field ≡ false
 no_bytes_fit least most field other = no_bytes least most field (λ bytes fits low high text. no_room least most field other bytes low high text)

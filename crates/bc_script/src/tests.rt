@@ -95,7 +95,8 @@ fn fields_stand_as_they_are_written(rt: HostRuntime) -> Result<(), Fail> {
     assert!(rt; form.name == b"name".as_slice() && form.unit == b"1024".as_slice());
     assert!(rt; form.dun_bytes == b"16".as_slice() && form.digits == b"0aff".as_slice());
     let write = b"write k 7 3 fe hex 0102";
-    let Some(Form::Write(bio, TextForm::Hex(digits))) = form_of(Parts::new(write.as_slice(), b' ')) else {
+    let Some(Form::Write(bio, TextForm::Hex(digits))) = form_of(Parts::new(write.as_slice(), b' '))
+    else {
         return Err(Fail::from("a write"));
     };
     assert!(rt; bio.key == b"k".as_slice() && bio.sector == b"7".as_slice());
@@ -125,7 +126,10 @@ fn what_fields_say(rt: HostRuntime) -> Result<(), Fail> {
     assert_eq!(rt; number(b"4294967295", 0, 4294967295), Some(4294967295));
     assert_eq!(rt; number(b"4294967296", 0, 4294967295), None);
     assert_eq!(rt; number(b"00", 0, 1), None);
-    assert_eq!(rt; data_unit_number(b"1f").ok_or("a number")?.words(), [31, 0, 0, 0]);
+    assert_eq!(rt;
+        data_unit_number(b"1f").ok_or("a number")?.words(),
+        [31, 0, 0, 0]
+    );
     assert!(rt; data_unit_number(b"01f").is_none());
     assert_eq!(rt; fill_byte(b"5a"), Some(0x5a));
     assert_eq!(rt; fill_byte(b"5A"), None);
@@ -134,9 +138,28 @@ fn what_fields_say(rt: HostRuntime) -> Result<(), Fail> {
     assert!(rt; hex_bytes(alloc, b"00a5ff", 2)?.is_none());
     assert!(rt; hex_bytes(alloc, b"00a5f", 2)?.is_none());
     assert!(rt; hex_bytes(alloc, b"00A5", 2)?.is_none());
-    assert_eq!(rt; key_bytes(b"0a0b").ok_or("a key")?.as_slice(), [10, 11].as_slice());
-    assert_eq!(rt; key_bytes(&[b'f'; 256]).ok_or("a key")?.as_slice(), [255; 128].as_slice());
+    assert_eq!(rt;
+        key_bytes(b"0a0b").ok_or("a key")?.as_slice(),
+        [10, 11].as_slice()
+    );
+    assert_eq!(rt;
+        key_bytes(&[b'f'; 256]).ok_or("a key")?.as_slice(),
+        [255; 128].as_slice()
+    );
     assert!(rt; key_bytes(&[b'f'; 258]).is_none());
     assert!(rt; key_bytes(b"").is_none());
+    Ok(())
+}
+
+#[test]
+fn which_line_may_follow(rt: HostRuntime) -> Result<(), Fail> {
+    assert!(rt; may_follow(None, Sort::Version) && !may_follow(None, Sort::Disk));
+    assert!(rt; may_follow(Some(Sort::Fallback), Sort::End));
+    assert!(rt;
+        may_follow(Some(Sort::Key), Sort::Thread) && !may_follow(Some(Sort::Thread), Sort::Key)
+    );
+    assert!(rt;
+        !may_follow(Some(Sort::Key), Sort::Operation) && !may_follow(Some(Sort::End), Sort::End)
+    );
     Ok(())
 }
