@@ -1,5 +1,6 @@
 //! Texts and what is wrong with them, by the rules of the language.
 
+mod fields;
 mod limits;
 mod scripts;
 
