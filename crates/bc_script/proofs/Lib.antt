@@ -12,3 +12,4 @@ pub mod Steps
 pub mod Passes
 pub mod NoError
 pub mod FormLines
+pub mod Taken
