@@ -13,3 +13,4 @@ pub mod Passes
 pub mod NoError
 pub mod FormLines
 pub mod Taken
+pub mod Whole
