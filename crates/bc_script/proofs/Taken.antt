@@ -4,7 +4,7 @@ use Rattle.std.specs.Prelude.{sum_by, count_by, IsSome}
 use Rattle.std.specs.List.{AllByRecursion}
 use Rattle.std.specs.Fmt.{decimal}
 use Rattle.std.specs.Str.Parse.{digits_value}
-use Rattle.std.proofs.lemmas.Bool.{and_parts}
+use Rattle.std.proofs.lemmas.Bool.{and_parts, both_ways, not-true, not-false}
 use Rattle.std.proofs.lemmas.Slice.Eq.{bytes_eq-Decides}
 use Rattle.hex.specs.Hex.{encode_lower, IsBytes}
 use Rattle.bc_text.specs.Lines.{Line}
@@ -58,13 +58,6 @@ true_or : (a b : Bool) → (a || b) ≡ true → a ≡ false → b ≡ true
 true_or true b h e = absurd cc
 true_or false b h e = h
 
-not_true : (a : Bool) → not a ≡ true → a ≡ false
-not_true true h = absurd cc
-not_true false h = refl
-
-true_is_not_false : (a : Bool) → a ≡ true → a ≡ false → ⊥
-true_is_not_false a t f = absurd (let e : true ≡ false = sym t ∙ f in cc)
-
 number_said : (least most : ℕ) (field : List ℕ) (next : Why) → number_test least most field next ≡ None → (field ≡ decimal (number_in field)) × (least ≤ number_in field) × (number_in field ≤ most) × (next ≡ None)
 number_said least most field next e =
     let parts = both_passed (is_number least most field) why.Number next e in
@@ -82,15 +75,15 @@ named_or_not name (k ∷ ks) = first (bytes_eq k.name name) refl (named_or_not n
         → ((number : KeyNo) × (number.0 < length (k ∷ ks)) × (name ≡ name_of (k ∷ ks) number)) ⊎ AllByRecursion (λ (named : NamedKey). named.name ≢ name) (k ∷ ks)
     first true is rest = inl (record { 0 = 0 }, omega arith, sym ((bytes_eq-Decides k.name name).0 is))
     first false is (inl found) = inl (record { 0 = suc found.0.0 }, (let lt = found.1 in omega arith), found.2)
-    first false is (inr none) = inr (λ e. true_is_not_false (bytes_eq k.name name) ((bytes_eq-Decides k.name name).1 e) is, none)
+    first false is (inr none) = inr (λ e. both_ways (bytes_eq k.name name) is ((bytes_eq-Decides k.name name).1 e), none)
 
 declared_is : (p : Progress) (name : List ℕ) → IsProgress p → is_declared name (forms_read p) ≡ true → (number : KeyNo) × (number.0 < length p.keys) × (name ≡ name_of p.keys number)
 declared_is p name is known =
-    ⊎_elim (λ found. found) (λ none. absurd (true_is_not_false (is_declared name (forms_read p)) known (is_declared-none p name is none))) (named_or_not name p.keys)
+    ⊎_elim (λ found. found) (λ none. absurd (both_ways (is_declared name (forms_read p)) (is_declared-none p name is none) known)) (named_or_not name p.keys)
 
 undeclared_is : (p : Progress) (name : List ℕ) → IsProgress p → is_declared name (forms_read p) ≡ false → AllByRecursion (λ (named : NamedKey). named.name ≢ name) p.keys
 undeclared_is p name is unknown =
-    ⊎_elim (λ found. absurd (true_is_not_false (is_declared name (forms_read p)) (ap (λ (n : List ℕ). is_declared n (forms_read p)) found.2 ∙ is_declared-read p found.0 is found.1) unknown)) (λ none. none) (named_or_not name p.keys)
+    ⊎_elim (λ found. absurd (both_ways (is_declared name (forms_read p)) unknown (ap (λ (n : List ℕ). is_declared n (forms_read p)) found.2 ∙ is_declared-read p found.0 is found.1))) (λ none. none) (named_or_not name p.keys)
 
 -- the number of a key without its name
 bare_too : (keys : List NamedKey) (n : ℕ) → n < length keys → n < length (bare_keys keys)
@@ -123,16 +116,12 @@ some_unit : (n : ℕ) → is_none (unit_of n) ≡ false → (unit : DataUnit) ×
 some_unit n h = pick (unit_of n) refl
   where
     pick : (o : Option DataUnit) → unit_of n ≡ o → (unit : DataUnit) × (unit_of n ≡ Some unit)
-    pick None e = absurd (true_is_not_false (is_none (unit_of n)) (ap (λ (o : Option DataUnit). is_none o) e) h)
+    pick None e = absurd (both_ways (is_none (unit_of n)) h (ap (λ (o : Option DataUnit). is_none o) e))
     pick (Some unit) e = (unit, e)
 
 halves_differ : (mode : Mode) (raw : List ℕ) → has_equal_halves mode raw ≡ false → HasHalves mode raw
-halves_differ Aes256Xts raw h = λ e. true_is_not_false (bytes_eq (take 32 raw) (drop 32 raw)) ((bytes_eq-Decides (take 32 raw) (drop 32 raw)).1 e) h
+halves_differ Aes256Xts raw h = λ e. both_ways (bytes_eq (take 32 raw) (drop 32 raw)) h ((bytes_eq-Decides (take 32 raw) (drop 32 raw)).1 e)
 halves_differ Aes128CbcEssiv raw h = tt
-
-not_false : (a : Bool) → not a ≡ false → a ≡ true
-not_false true h = refl
-not_false false h = absurd cc
 
 -- what a key is that isn't refused
 record IsKeyOf (mode : Mode) (raw : List ℕ) (size dun_bytes : ℕ) : Type 0 where
@@ -150,11 +139,11 @@ key_of mode raw size dun_bytes e =
     let c = no_error (not (nat_le 1 dun_bytes && nat_le dun_bytes 16)) _ _ b.1 in
     let d = no_error (has_equal_halves mode raw) _ None c.1 in
     let unit = some_unit size b.0 in
-    let range = and_parts _ _ (not_false _ c.0) in
+    let range = and_parts _ _ (not-false _ c.0) in
     record {
       unit = unit.0;
       unit_is = bytes_of-unit_of size unit.0 unit.1;
-      raw_size = eqb-true (length raw) (key_size mode) (not_false _ a.0);
+      raw_size = eqb-true (length raw) (key_size mode) (not-false _ a.0);
       least = leb-true 1 dun_bytes range.0;
       most = leb-true dun_bytes 16 range.1;
       halves = halves_differ mode raw d.0;
@@ -181,7 +170,7 @@ key_taken p key is follows e =
     let made = key_of key.mode (bytes_in key.digits) (number_in key.unit) (number_in key.dun_bytes) (not_refused _ c.0) in
     let limit = both_passed (nat_lt (count_by is_key above) max_keys) why.Limit None c.1 in
     let room : length p.keys < max_keys = subst (λ (n : ℕ). n < max_keys) (keys-read p is) (ltb-true (count_by is_key above) max_keys limit.0) in
-    let fresh = undeclared_is p key.name is (not_true _ name.1) in
+    let fresh = undeclared_is p key.name is (not-true _ name.1) in
     let named : NamedKey = record { name = key.name; key = record { config = record { mode = key.mode; unit = made.unit; dun_bytes = number_in key.dun_bytes }; raw = bytes_in key.digits } } in
     let valid : IsNamedKey named = record {
       name = name.0;
@@ -201,7 +190,7 @@ plugged_is p plugged is e =
     now.1 ∙ ap Some (sym (is_open-read p now.0 is now.1) ∙ e)
 
 closed_is : (p : Progress) → IsProgress p → not (is_open (forms_read p)) ≡ true → open_behind false p.section ≡ Some false
-closed_is p is e = plugged_is p false is (not_true _ e)
+closed_is p is e = plugged_is p false is (not-true _ e)
 
 thread_taken : (p : Progress) → IsProgress p → may_follow p.last sorts.Thread ≡ true → tests_of (forms_read p) Thread ≡ None → Took p (form_line Thread)
 thread_taken p is follows e =
@@ -282,7 +271,7 @@ context_said p bio is agree known numbered = pick (bytes_eq bio.key dash) refl
     pick false undashed =
         let number : not (bytes_eq bio.number dash) ≡ true = sym (ap (λ (b : Bool). if b then bytes_eq bio.number dash else not (bytes_eq bio.number dash)) undashed) ∙ agree in
         let key = declared_is p bio.key is (true_or _ _ known undashed) in
-        let said = number_text-is_number_text bio.number (true_or _ _ numbered (not_true _ number)) in
+        let said = number_text-is_number_text bio.number (true_or _ _ numbered (not-true _ number)) in
         let context : Context = record { key = key.0; dun = digits_value 16 bio.number } in
         record { context = Some context; valid = (bare_too p.keys key.0.0 key.1, said.1); key = key.2; number = said.0 }
 
