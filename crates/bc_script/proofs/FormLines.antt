@@ -1,12 +1,12 @@
 -- The one line that has a form.
-use Rattle.std.proofs.Common.{◌≡◌, ℕ, Bool, true, false, ◌⊎◌, inl, inr, List, [], ◌∷◌, Option, Some, None, codes, bytes_eq, if◌then◌else◌, refl, sym, ap, subst, ◌∙◌}
+use Rattle.std.proofs.Common.{◌≡◌, ℕ, Bool, true, false, List, [], ◌∷◌, Option, Some, None, codes, bytes_eq, if◌then◌else◌, refl, sym, ap, subst, ◌∙◌}
 use Rattle.std.specs.Prelude.{⊤}
 use Rattle.std.proofs.lemmas.Slice.Eq.{bytes_eq-Decides}
 use Rattle.bc_text.specs.Lines.{Line}
 use Rattle.bc_key.specs.declared.config.Mode.{Mode}
 use Rattle.bc_key.specs.declared.config.Mode.TheVariants.{Aes256Xts, Aes128CbcEssiv}
 use Rattle.bc_script.specs.ScriptText.{mode_text}
-use Rattle.bc_script.specs.Forms.{Form, KeyForm, BioForm, TextForm, Fill, Hex, Version, Disk, Fallback, Key, Thread, Write, Read, Evict, Reset, Plug, Unplug, End, alone, with_one, with_word, mode_of, key_form, with_key, dashes_agree, text_form, read_form, write_form, with_bio, with_bio_and_text, form_of_word, form_of}
+use Rattle.bc_script.specs.Forms.{Form, BioForm, TextForm, Fill, Hex, Version, Disk, Fallback, Key, Thread, Write, Read, Evict, Reset, Plug, Unplug, End, alone, with_one, with_word, mode_of, key_form, with_key, dashes_agree, text_form, write_form, with_bio, with_bio_and_text, form_of}
 
 abbrev pub text_line : TextForm → Line
 text_line (Fill digits) = codes "fill" ∷ digits ∷ []
@@ -110,6 +110,9 @@ of_key form (name ∷ mode ∷ unit ∷ dun_bytes ∷ digits ∷ []) e = by_mode
         (record { line_is = ap (λ (w : List ℕ). codes "key" ∷ name ∷ w ∷ unit ∷ dun_bytes ∷ digits ∷ []) (mode_text-mode_of mode m is); agrees = tt })
         (sym (ap (λ (o : Option Mode). key_form name o unit dun_bytes digits) is) ∙ e)
 
+abbrev bio_of : List ℕ → List ℕ → List ℕ → List ℕ → BioForm
+bio_of key sector units number = record { key = key; sector = sector; units = units; number = number }
+
 of_read : (form : Form) (fields : Line) → with_bio fields ≡ Some form → IsLineOf (codes "read" ∷ fields) form
 of_read form [] e = absurd (no_form form e)
 of_read form (a ∷ []) e = absurd (no_form form e)
@@ -117,7 +120,7 @@ of_read form (a ∷ b ∷ []) e = absurd (no_form form e)
 of_read form (a ∷ b ∷ c ∷ []) e = absurd (no_form form e)
 of_read form (a ∷ b ∷ c ∷ d ∷ f ∷ fs) e = absurd (no_form form e)
 of_read form (key ∷ sector ∷ units ∷ number ∷ []) e =
-    let bio : BioForm = record { key = key; sector = sector; units = units; number = number } in
+    let bio = bio_of key sector units number in
     let through = let_through (dashes_agree bio) (Some (Read bio)) form e in
     carry (codes "read" ∷ key ∷ sector ∷ units ∷ number ∷ []) (Read bio) form (record { line_is = refl; agrees = through.0 }) through.1
 
@@ -150,15 +153,12 @@ of_write form (a ∷ b ∷ c ∷ d ∷ f ∷ []) e = absurd (no_form form e)
 of_write form (a ∷ b ∷ c ∷ d ∷ f ∷ g ∷ h ∷ fs) e = absurd (no_form form e)
 of_write form (key ∷ sector ∷ units ∷ number ∷ word ∷ digits ∷ []) e = by_text (text_form word digits) refl
   where
-    bio : BioForm
-    bio = record { key = key; sector = sector; units = units; number = number }
-
     by_text : (o : Option TextForm) → text_form word digits ≡ o → IsLineOf (codes "write" ∷ key ∷ sector ∷ units ∷ number ∷ word ∷ digits ∷ []) form
-    by_text None is = absurd (no_form form (sym (ap (write_form (record { key = key; sector = sector; units = units; number = number })) is) ∙ e))
+    by_text None is = absurd (no_form form (sym (ap (write_form (bio_of key sector units number)) is) ∙ e))
     by_text (Some text) is =
-        let through = let_through (dashes_agree (record { key = key; sector = sector; units = units; number = number })) (Some (Write (record { key = key; sector = sector; units = units; number = number }) text)) form
-        (sym (ap (write_form (record { key = key; sector = sector; units = units; number = number })) is) ∙ e) in
-        carry (codes "write" ∷ key ∷ sector ∷ units ∷ number ∷ word ∷ digits ∷ []) (Write (record { key = key; sector = sector; units = units; number = number }) text) form
+        let through = let_through (dashes_agree (bio_of key sector units number)) (Some (Write (bio_of key sector units number) text)) form
+        (sym (ap (write_form (bio_of key sector units number)) is) ∙ e) in
+        carry (codes "write" ∷ key ∷ sector ∷ units ∷ number ∷ word ∷ digits ∷ []) (Write (bio_of key sector units number) text) form
         (record { line_is = ap (λ (t : Line). codes "write" ∷ key ∷ sector ∷ units ∷ number ∷ t) (text_line-text_form word digits text is); agrees = through.0 })
         through.1
 

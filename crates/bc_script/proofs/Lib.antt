@@ -17,3 +17,5 @@ pub mod Refusals
 pub mod Sayings
 pub mod Readings
 pub mod Parsed
+pub mod Taken
+pub mod Whole

@@ -1,8 +1,9 @@
 -- The form of each printed line.
-use Rattle.std.proofs.Common.{◌≡◌, ◌≢◌, ℕ, ◌<◌, ◌^◌, Bool, true, false, List, [], ◌∷◌, slice_get, unwrap_or, option_map, Option, Some, None, Decides, bytes_eq, refl, ap, subst, arith}
+use Rattle.std.proofs.Common.{◌≡◌, ◌≢◌, ℕ, ◌<◌, ◌^◌, true, false, List, [], ◌∷◌, slice_get, unwrap_or, option_map, Option, Some, None, bytes_eq, refl, ap, subst, arith}
 use Rattle.std.specs.List.{All}
 use Rattle.std.specs.Fmt.{decimal}
 use Rattle.std.proofs.Math.Logic.{⊎_elim}
+use Rattle.std.proofs.lemmas.Bool.{false_from_ne_true}
 use Rattle.std.proofs.lemmas.Slice.Eq.{bytes_eq-Decides}
 use Rattle.hex.specs.Hex.{encode_lower}
 use Rattle.bc_key.specs.DataUnits.{bytes_of}
@@ -58,11 +59,7 @@ pub bytes_eq-same : (field : List ℕ) → bytes_eq field field ≡ true
 bytes_eq-same field = (bytes_eq-Decides field field).1 refl
 
 pub bytes_eq-other : (a b : List ℕ) → a ≢ b → bytes_eq a b ≡ false
-bytes_eq-other a b differ = false_from_not (bytes_eq a b) (a ≡ b) (bytes_eq-Decides a b) differ
-  where
-    false_from_not : (t : Bool) (P : Type 0) → Decides t P → (P → ⊥) → t ≡ false
-    false_from_not true P d not = absurd (not (d.0 refl))
-    false_from_not false P d not = refl
+bytes_eq-other a b differ = false_from_ne_true (bytes_eq a b) (λ same. differ ((bytes_eq-Decides a b).0 same))
 
 -- no name is `-`
 pub name_is_no_dash : (name : List ℕ) → is_name name ≡ true → name ≢ dash

@@ -209,7 +209,7 @@ bio_passed p context sector units next is valid rest =
     (number_passed 0 max_bio_units units _ (omega arith) (omega arith) (omega arith)
     (passed (bytes_eq bio.number dash || is_number_text bio.number) why.Number next (number_known p context sector units valid.context_is) rest)))
 
-units_said : (p : Progress) (context : Option Context) (sector units : ℕ) → IsBio (bare_keys p.keys) context sector units → number_in (decimal units) ≡ units
+pub units_said : (p : Progress) (context : Option Context) (sector units : ℕ) → IsBio (bare_keys p.keys) context sector units → number_in (decimal units) ≡ units
 units_said p context sector units valid = let few = valid.few_units in number_in-decimal units (omega arith)
 
 bio_room : (p : Progress) (context : Option Context) (sector units : ℕ) → IsProgress p → IsBio (bare_keys p.keys) context sector units → sum_by length (sections_read p) < max_ops → sum_by units_of_section (sections_read p) + units ≤ max_units
@@ -258,7 +258,7 @@ text_passed p context sector units (texts.Bytes bytes) is valid (fits, some, lon
     ∙ and_from _ _ (is_hex_text-encode_lower (length bytes) (length bytes) bytes fits (omega arith) (omega arith)) (lt-ltb 0 (length bytes) (omega arith))
 
 -- whether a plug may be opened, or closed
-some_plugged : (o : Option Bool) → IsSome o → (plugged : Bool) × (o ≡ Some plugged)
+pub some_plugged : (o : Option Bool) → IsSome o → (plugged : Bool) × (o ≡ Some plugged)
 some_plugged None h = absurd cc
 some_plugged (Some plugged) h = (plugged, refl)
 

@@ -15,7 +15,7 @@ mod script;
 mod script_error;
 mod sort;
 
-pub use laws::no_proper_prefix;
+pub use laws::{errors_are_exact, no_proper_prefix};
 pub use name::Name;
 pub use named_key::NamedKey;
 pub use op::{Op, Text};
