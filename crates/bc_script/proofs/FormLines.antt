@@ -6,37 +6,13 @@ use Rattle.bc_text.specs.Lines.{Line}
 use Rattle.bc_key.specs.declared.config.Mode.{Mode}
 use Rattle.bc_key.specs.declared.config.Mode.TheVariants.{Aes256Xts, Aes128CbcEssiv}
 use Rattle.bc_script.specs.ScriptText.{mode_text}
+use Rattle.bc_script.specs.Items.{text_line, form_line, DashesAgree}
 use Rattle.bc_script.specs.Forms.{Form, BioForm, TextForm, Fill, Hex, Version, Disk, Fallback, Key, Thread, Write, Read, Evict, Reset, Plug, Unplug, End, alone, with_one, with_word, mode_of, key_form, with_key, dashes_agree, text_form, write_form, with_bio, with_bio_and_text, form_of}
-
-abbrev pub text_line : TextForm → Line
-text_line (Fill digits) = codes "fill" ∷ digits ∷ []
-text_line (Hex digits) = codes "hex" ∷ digits ∷ []
-
--- the one line that has this form
-abbrev pub form_line : Form → Line
-form_line Version = codes "blkcrypt" ∷ codes "1" ∷ []
-form_line (Disk blocks) = codes "disk" ∷ blocks ∷ []
-form_line Fallback = codes "fallback" ∷ codes "on" ∷ []
-form_line (Key key) = codes "key" ∷ key.name ∷ mode_text key.mode ∷ key.unit ∷ key.dun_bytes ∷ key.digits ∷ []
-form_line Thread = codes "thread" ∷ []
-form_line (Write bio text) = codes "write" ∷ bio.key ∷ bio.sector ∷ bio.units ∷ bio.number ∷ text_line text
-form_line (Read bio) = codes "read" ∷ bio.key ∷ bio.sector ∷ bio.units ∷ bio.number ∷ []
-form_line (Evict key) = codes "evict" ∷ key ∷ []
-form_line (Reset device) = codes "reset" ∷ device ∷ []
-form_line Plug = codes "plug" ∷ []
-form_line Unplug = codes "unplug" ∷ []
-form_line End = codes "end" ∷ []
-
--- what else holds of the form of a line: `-` stands for the key exactly where it stands for the number
-abbrev pub Agrees : Form → Type 0
-Agrees (Write bio text) = dashes_agree bio ≡ true
-Agrees (Read bio) = dashes_agree bio ≡ true
-Agrees _ = ⊤
 
 -- the line of a form
 pub record IsLineOf (line : Line) (form : Form) : Type 0 where
   pub line_is : line ≡ form_line form
-  pub agrees : Agrees form
+  pub agrees : DashesAgree form
 
 -- ---- the other fields
 

@@ -34,15 +34,6 @@ name_at_end : (keys : List NamedKey) (more : NamedKey) → name_of (keys ++ more
 name_at_end [] more = refl
 name_at_end (k ∷ ks) more = name_at_end ks more
 
--- keys stay keys of a script where one with a new name is added
-pub keys_more : (keys : List NamedKey) (more : NamedKey) → AreKeys keys → length keys < max_keys → IsNamedKey more → IsNoName keys more.name → AreKeys (keys ++ more ∷ [])
-keys_more keys more are room valid fresh = record {
-  count = omega (arith, length-append keys (more ∷ []));
-  each = AllByRecursion-append IsNamedKey keys (more ∷ []) are.each (valid, tt);
-  names = all_pairs_push (λ (first second : NamedKey). first.name ≢ second.name) keys more are.names
-      (λ k d lt e. let key : KeyNo = record { 0 = k } in fresh key (record { within = lt; name_is = sym e ∙ sym (name_in keys key d lt) }));
-}
-
 -- ---- the index
 
 -- where no number was found, no key has the name

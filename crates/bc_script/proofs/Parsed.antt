@@ -36,23 +36,7 @@ some_line text none = cases (parts_at line_feed text) refl
     cases [] at = some_part line_feed text at
     cases (part ∷ parts) at = let lines : lines_of text ≡ parts_at space part ∷ map (parts_at space) parts = ap (map (parts_at space)) at in cc
 
-pub begun : (text : List ℕ) (p : Progress) (lines left : List Line) → lines ≡ lines_of text → lines ≡ left → lines_read p ≡ [] → Underway text p left
-begun text p lines left all same none =
-    let whole : lines_of text ≡ left = sym all ∙ same in
-    record {
-      whole = whole ∙ sym (ap (λ (ls : List Line). ls ++ left) none);
-      error = ap (λ (ls : List Line). first_error (forms_below [] ls) left) none ∙ sym (ap (first_error []) whole);
-    }
-
 module _ (text : List ℕ) (p : Progress) (line next : Line) (left : List Line) (underway : Underway text p (line ∷ next ∷ left)) where
-  pub further : (q : Progress) → Took p line q → Underway text q (next ∷ left)
-  further q took = record {
-    whole = underway.whole ∙ sym (append_assoc (lines_read p) (line ∷ []) (next ∷ left)) ∙ sym (ap (λ (ls : List Line). ls ++ next ∷ left) took.lines);
-    error = ap (λ (above : List Form). first_error above (next ∷ left)) took.forms
-        ∙ sym (ap (λ (w : Why). or_below (length (forms_read p) + 1) w (first_error (with_form (form_of line) (forms_read p)) (next ∷ left))) took.passes)
-        ∙ underway.error;
-  }
-
   pub line_refused : (e : ParseError) → TellsNext p (error_at (forms_read p) line) e → IsRefused text e
   line_refused (errors.Bad e) tells =
       let at : error_of text ≡ Some e =
@@ -75,10 +59,6 @@ module _ (text : List ℕ) (p : Progress) (rest : Line) (underway : Underway tex
     text_is = text_of-lines_of text (script_lines s) (underway.whole ∙ ap (λ (l : Line). lines_read p ++ l ∷ []) whole.rest_is ∙ sym (ap (λ (ls : List Line). ls ++ nothing ∷ []) whole.lines));
   }
   says (Err e) whole = tt
-
-  pub passes : (r : Result Script ParseError) → IfOk r (IsWhole p rest) → OnOk r (error_of text ≡ None)
-  passes (Ok s) whole = sym underway.error ∙ ap (λ (w : Why). or_below (length (forms_read p) + 1) w None) whole.passes
-  passes (Err e) whole = tt
 
   pub refuses : (r : Result Script ParseError) → IfErr r (TellsNext p (error_at_end (forms_read p) rest)) → IfErr r (IsRefused text)
   refuses (Ok s) tells = tt

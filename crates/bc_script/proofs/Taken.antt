@@ -35,7 +35,8 @@ use Rattle.bc_script.specs.Forms.{Form, KeyForm, BioForm, TextForm, Fill, Hex, V
 use Rattle.bc_script.specs.ScriptErrors.{Why, first_of, is_number, is_number_text, number_in, bytes_in, is_hex_text, number_test, key_refused, key_test, is_declared, sectors_under, is_open, is_key, is_thread, is_operation, units_in, op_limit, bio_limits, bio_tests, is_text, size_of, last_sort, is_end, tests_of, error_of_form, error_at}
 use Rattle.bc_script.specs.Progress.{Progress, IsProgress, lines_read, forms_read, sections_read}
 use Rattle.bc_script.proofs.Fields.{number_in-decimal, decimal-number_in, number_text-is_number_text, IsBytes-bytes_in, encode_lower-bytes_in}
-use Rattle.bc_script.proofs.FormLines.{form_line, Agrees, IsLineOf-form_of}
+use Rattle.bc_script.specs.Items.{form_line, DashesAgree}
+use Rattle.bc_script.proofs.FormLines.{IsLineOf-form_of}
 use Rattle.bc_script.proofs.Above.{op_form, bio_form, text_form_of, last_sort-read, keys-read, threads-read, operations-read, units-read, is_open-read, is_declared-read, is_declared-none, sectors_under-read}
 use Rattle.bc_script.proofs.Passes.{some_plugged, open_behind-append}
 use Rattle.bc_script.proofs.Steps.{with_version, with_disk, with_fallback, with_key, with_op, with_section_ended, IsProgress-version, IsProgress-disk, IsProgress-fallback, IsProgress-key, IsProgress-thread, IsProgress-op, IsProgress-end, lines_read-version, lines_read-disk, lines_read-fallback, lines_read-key, lines_read-thread, lines_read-op, lines_read-end}
@@ -390,7 +391,7 @@ write_taken p bio form is follows agree e =
 -- ---- any line
 
 -- a line of a form that may stand there, which passes its tests, has been read
-pub form_taken : (p : Progress) (form : Form) → IsProgress p → may_follow p.last (sort_of form) ≡ true → Agrees form → tests_of (forms_read p) form ≡ None → Took p (form_line form)
+pub form_taken : (p : Progress) (form : Form) → IsProgress p → may_follow p.last (sort_of form) ≡ true → DashesAgree form → tests_of (forms_read p) form ≡ None → Took p (form_line form)
 form_taken p Version is follows agrees e = record { after = with_version p; rules = IsProgress-version p is follows; lines = lines_read-version p is follows }
 form_taken p (Disk blocks) is follows agrees e =
     let said = number_said 1 16384 blocks None e in
