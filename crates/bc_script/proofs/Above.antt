@@ -1,0 +1,433 @@
+-- What the lines above say, of a script that is being read: the sort of the nearest, counts and sums, whether a plug is open,
+-- and the key that a name names.
+use Rattle.std.proofs.Common.{◌≡◌, ◌≢◌, ℕ, zero, suc, ◌<◌, ◌≤◌, ◌+◌, ◌/◌, Bool, true, false, cond, List, [], ◌∷◌, ◌++◌, length, map, flat_map, slice_get, Option, Some, None, option_map, is_some, append-nil, length-append, bytes_eq, refl, sym, ap, subst, ◌∙◌, arith}
+use Rattle.std.specs.Prelude.{sum_by, count_by, AllPairs}
+use Rattle.std.specs.Option.{option_map_or}
+use Rattle.std.specs.List.{AllByRecursion}
+use Rattle.std.specs.Fmt.{decimal}
+use Rattle.std.proofs.lemmas.List.Sums.{sum_by-cons, sum_by-append}
+use Rattle.std.proofs.lemmas.List.Elements.{recursion_from_All}
+use Rattle.std.proofs.lemmas.Option.{slice_get-map}
+use Rattle.std.proofs.lemmas.List.{length-map}
+use Rattle.bc_key.specs.DataUnits.{bytes_of, sectors_of}
+use Rattle.bc_key.specs.declared.config.DataUnit.{DataUnit}
+use Rattle.bc_key.specs.declared.config.DataUnit.TheVariants.{Bytes512, Bytes1024, Bytes2048, Bytes4096}
+use Rattle.bc_key.specs.declared.keys.KeyNo.{KeyNo}
+use Rattle.bc_key.specs.KeyData.{KeyData}
+use Rattle.bc_bio.specs.declared.bio.Context.{Context}
+use Rattle.bc_bio.specs.Extent.{unit_sectors}
+use Rattle.bc_script.specs.declared.named_key.NamedKey.{NamedKey}
+use Rattle.bc_script.specs.declared.op.Op.{Op}
+use Rattle.bc_script.specs.declared.op.Op.TheVariants as ops
+use Rattle.bc_script.specs.declared.sort.Sort.{Sort}
+use Rattle.bc_script.specs.declared.sort.Sort.TheVariants as sorts
+use Rattle.bc_script.specs.Script.{IsNamedKey, IsContext, IsOp, IsSection, bare_keys, open_behind, units_of, units_of_section}
+use Rattle.bc_script.specs.ScriptText.{name_of, dash, key_field}
+use Rattle.bc_script.specs.Forms.{Form, KeyForm, Version, Disk, Fallback, Key, Thread, Plug, Unplug, End, sort_of}
+use Rattle.bc_script.specs.ScriptErrors.{last_sort, is_key, is_thread, is_operation, units_in, number_in, key_named, is_declared, sectors_under, is_open}
+use Rattle.bc_script.specs.Progress.{Progress, IsProgress, IsAt, with_section, is_in_section, lines_read, forms_read, sections_read}
+use Rattle.bc_script.proofs.Onto.{onto, onto-append, length-onto, length-HaveForms, sum_by-onto, sum_by-agree, sum_by-map, sum_by-flat_map, sum_by-zeros, sum_by-ones, last_sort-onto, key_named-onto, AllByRecursion-append}
+use Rattle.bc_script.proofs.Fields.{number_in-decimal}
+use Rattle.bc_script.proofs.KeyNames.{named_too}
+use Rattle.bc_script.proofs.LineForms.{bytes_eq-same, bytes_eq-other, name_at, name_is_no_dash}
+use Rattle.bc_script.proofs.FormsRead.{head_forms, key_forms, section_forms, end_forms, forms_in, ops_read, have_forms, forms_read-in, parts, last_section}
+pub use Rattle.bc_script.proofs.FormsRead.{forms_read-step}
+pub use Rattle.bc_script.proofs.LineForms.{key_fields, op_form, bio_form, text_form_of, form_of-version, form_of-disk, form_of-fallback, form_of-thread, form_of-end, form_of-key_line, form_of-op_line}
+
+-- ---- counts and sums
+
+-- what the forms of a head and an end add up to, where those forms add nothing
+sum_head : (f : Form → ℕ) → f Version ≡ 0 → ((blocks : List ℕ) → f (Disk blocks) ≡ 0) → f Fallback ≡ 0 → (last : Option Sort) (blocks : ℕ) → sum_by f (head_forms last blocks) ≡ 0
+sum_head f version disk fallback None blocks = refl
+sum_head f version disk fallback (Some sorts.Version) blocks = omega arith
+sum_head f version disk fallback (Some sorts.Disk) blocks = let d = disk (decimal blocks) in omega arith
+sum_head f version disk fallback (Some sorts.Fallback) blocks = let d = disk (decimal blocks) in omega arith
+sum_head f version disk fallback (Some sorts.Key) blocks = let d = disk (decimal blocks) in omega arith
+sum_head f version disk fallback (Some sorts.Thread) blocks = let d = disk (decimal blocks) in omega arith
+sum_head f version disk fallback (Some sorts.Operation) blocks = let d = disk (decimal blocks) in omega arith
+sum_head f version disk fallback (Some sorts.End) blocks = let d = disk (decimal blocks) in omega arith
+
+sum_end : (f : Form → ℕ) → f End ≡ 0 → (last : Option Sort) → sum_by f (end_forms last) ≡ 0
+sum_end f none None = refl
+sum_end f none (Some sorts.Version) = refl
+sum_end f none (Some sorts.Disk) = refl
+sum_end f none (Some sorts.Fallback) = refl
+sum_end f none (Some sorts.Key) = refl
+sum_end f none (Some sorts.Thread) = refl
+sum_end f none (Some sorts.Operation) = refl
+sum_end f none (Some sorts.End) = omega arith
+
+-- what a key adds, and what a section adds with its operations
+sum_read : (f : Form → ℕ) (key : ℕ) (of_section : List Op → ℕ) (p : Progress) → IsProgress p → f Version ≡ 0 → ((blocks : List ℕ) → f (Disk blocks) ≡ 0) → f Fallback ≡ 0 → f End ≡ 0
+    → ((named : KeyForm) → f (Key named) ≡ key)
+    → ((section : List Op) → AllByRecursion (IsOp (bare_keys p.keys)) section → sum_by f (section_forms p.keys section) ≡ of_section section)
+    → sum_by f (forms_read p) ≡ sum_by (λ (named : NamedKey). key) p.keys + sum_by of_section (sections_read p)
+sum_read f key of_section p is version disk fallback none each_key each_section =
+    let sections = flat_map (section_forms p.keys) (sections_read p) in
+    let whole : sum_by f (onto (forms_in p) []) ≡ sum_by f (forms_in p) + 0 = sum_by-onto f (forms_in p) [] in
+    let a = sum_by-append f (head_forms p.last p.blocks) (key_forms p.keys ++ (sections ++ end_forms p.last)) in
+    let b = sum_by-append f (key_forms p.keys) (sections ++ end_forms p.last) in
+    let c = sum_by-append f sections (end_forms p.last) in
+    let head = sum_head f version disk fallback p.last p.blocks in
+    let end = sum_end f none p.last in
+    let keys : sum_by f (key_forms p.keys) ≡ sum_by (λ (named : NamedKey). key) p.keys =
+    sum_by-map f (λ (named : NamedKey). Key (key_fields named)) p.keys
+    ∙ sum_by-agree (λ (named : NamedKey). Unit {0}) (λ (named : NamedKey). f (Key (key_fields named))) (λ (named : NamedKey). key) (λ named u. each_key (key_fields named)) p.keys (all_units p.keys) in
+    let of_sections : sum_by f sections ≡ sum_by of_section (sections_read p) =
+    sum_by-flat_map f (section_forms p.keys) (sections_read p)
+    ∙ sum_by-agree (AllByRecursion (IsOp (bare_keys p.keys))) (λ section. sum_by f (section_forms p.keys section)) of_section each_section (sections_read p) (ops_read p is) in
+    ap (sum_by f) (forms_read-in p is) ∙ omega arith
+  where
+    all_units : (keys : List NamedKey) → AllByRecursion (λ (named : NamedKey). Unit {0}) keys
+    all_units [] = tt
+    all_units (k ∷ ks) = (tt, all_units ks)
+
+-- what counts for one
+abbrev one : Bool → ℕ
+one b = cond b 1 0
+
+-- an operation's form is no key's and begins no section
+pub op_is : (keys : List NamedKey) (op : Op) → (is_key (op_form keys op) ≡ false) × (is_thread (op_form keys op) ≡ false) × (is_operation (op_form keys op) ≡ true)
+op_is keys (ops.Write context sector units text) = (refl, refl, refl)
+op_is keys (ops.Read context sector units) = (refl, refl, refl)
+op_is keys (ops.Evict key) = (refl, refl, refl)
+op_is keys (ops.Reset device) = (refl, refl, refl)
+op_is keys ops.Plug = (refl, refl, refl)
+op_is keys ops.Unplug = (refl, refl, refl)
+
+-- a section adds what its first line adds, and what its operations add
+section_sum : (f : Form → ℕ) (g : Op → ℕ) (keys : List NamedKey) (section : List Op) → ((op : Op) → IsOp (bare_keys keys) op → f (op_form keys op) ≡ g op) → AllByRecursion (IsOp (bare_keys keys)) section
+    → sum_by f (section_forms keys section) ≡ f Thread + sum_by g section
+section_sum f g keys section each valid =
+    let a = sum_by-cons f Thread (map (op_form keys) section) in
+    let b : sum_by f (map (op_form keys) section) ≡ sum_by g section =
+    sum_by-map f (op_form keys) section ∙ sum_by-agree (IsOp (bare_keys keys)) (λ op. f (op_form keys op)) g each section valid in
+    omega arith
+
+pub keys-read : (p : Progress) → IsProgress p → count_by is_key (forms_read p) ≡ length p.keys
+keys-read p is =
+    let ones = sum_by-ones p.keys in
+    let zeros = sum_by-zeros (sections_read p) in
+    sum_read (λ form. one (is_key form)) 1 (λ section. 0) p is refl (λ blocks. refl) refl refl (λ key. refl)
+    (λ section valid. section_sum (λ form. one (is_key form)) (λ op. 0) p.keys section (λ op v. ap one (op_is p.keys op).0) valid ∙ ap (λ n. 0 + n) (sum_by-zeros section))
+    ∙ omega arith
+
+pub threads-read : (p : Progress) → IsProgress p → count_by is_thread (forms_read p) ≡ length (sections_read p)
+threads-read p is =
+    let zeros = sum_by-zeros p.keys in
+    let ones = sum_by-ones (sections_read p) in
+    sum_read (λ form. one (is_thread form)) 0 (λ section. 1) p is refl (λ blocks. refl) refl refl (λ key. refl)
+    (λ section valid. section_sum (λ form. one (is_thread form)) (λ op. 0) p.keys section (λ op v. ap one (op_is p.keys op).1) valid ∙ ap (λ n. 1 + n) (sum_by-zeros section))
+    ∙ omega arith
+
+pub operations-read : (p : Progress) → IsProgress p → count_by is_operation (forms_read p) ≡ sum_by length (sections_read p)
+operations-read p is =
+    let zeros = sum_by-zeros p.keys in
+    sum_read (λ form. one (is_operation form)) 0 length p is refl (λ blocks. refl) refl refl (λ key. refl)
+    (λ section valid. section_sum (λ form. one (is_operation form)) (λ op. 1) p.keys section (λ op v. ap one (op_is p.keys op).2) valid ∙ ap (λ n. 0 + n) (sum_by-ones section) ∙ omega arith)
+    ∙ omega arith
+
+-- an operation's line says how many data units its bio has
+pub units_in-op_form : (keys : List NamedKey) (op : Op) → IsOp (bare_keys keys) op → units_in (op_form keys op) ≡ units_of op
+units_in-op_form keys (ops.Write context sector units text) valid = let few = valid.0.few_units in number_in-decimal units (omega arith)
+units_in-op_form keys (ops.Read context sector units) valid = let few = valid.few_units in number_in-decimal units (omega arith)
+units_in-op_form keys (ops.Evict key) valid = refl
+units_in-op_form keys (ops.Reset device) valid = refl
+units_in-op_form keys ops.Plug valid = refl
+units_in-op_form keys ops.Unplug valid = refl
+
+pub units-read : (p : Progress) → IsProgress p → sum_by units_in (forms_read p) ≡ sum_by units_of_section (sections_read p)
+units-read p is =
+    let zeros = sum_by-zeros p.keys in
+    sum_read units_in 0 units_of_section p is refl (λ blocks. refl) refl refl (λ key. refl)
+    (λ section valid. section_sum units_in units_of p.keys section (units_in-op_form p.keys) valid ∙ omega arith)
+    ∙ omega arith
+
+pub length-read : (p : Progress) → IsProgress p → length (forms_read p) ≡ length (lines_read p)
+length-read p is =
+    let a = length-HaveForms (lines_read p) (forms_in p) (have_forms p is) in
+    let b = length-onto (forms_in p) [] in
+    ap length (forms_read-in p is) ∙ omega arith
+
+-- 3 lines, 4096 keys, 16 sections, 65536 operations, and the end
+pub length-read_le : (p : Progress) → IsProgress p → length (forms_read p) ≤ 69652
+length-read_le p is =
+    let keys = is.keys.count in
+    let threads = is.few_threads in
+    let ops = is.few_ops in
+    let a = length-onto (forms_in p) [] in
+    let b = length-append (head_forms p.last p.blocks) (key_forms p.keys ++ (flat_map (section_forms p.keys) (sections_read p) ++ end_forms p.last)) in
+    let c = length-append (key_forms p.keys) (flat_map (section_forms p.keys) (sections_read p) ++ end_forms p.last) in
+    let d = length-append (flat_map (section_forms p.keys) (sections_read p)) (end_forms p.last) in
+    let head = head_le p.last p.blocks in
+    let end = end_le p.last in
+    let k : length (key_forms p.keys) ≡ length p.keys = length-map p.keys (λ (named : NamedKey). Key (key_fields named)) in
+    let s = of_sections p.keys (sections_read p) in
+    subst (λ (forms : List Form). length forms ≤ 69652) (sym (forms_read-in p is)) (omega arith)
+  where
+    head_le : (last : Option Sort) (blocks : ℕ) → length (head_forms last blocks) ≤ 3
+    head_le None blocks = omega arith
+    head_le (Some sorts.Version) blocks = omega arith
+    head_le (Some sorts.Disk) blocks = omega arith
+    head_le (Some sorts.Fallback) blocks = omega arith
+    head_le (Some sorts.Key) blocks = omega arith
+    head_le (Some sorts.Thread) blocks = omega arith
+    head_le (Some sorts.Operation) blocks = omega arith
+    head_le (Some sorts.End) blocks = omega arith
+
+    end_le : (last : Option Sort) → length (end_forms last) ≤ 1
+    end_le None = omega arith
+    end_le (Some sorts.Version) = omega arith
+    end_le (Some sorts.Disk) = omega arith
+    end_le (Some sorts.Fallback) = omega arith
+    end_le (Some sorts.Key) = omega arith
+    end_le (Some sorts.Thread) = omega arith
+    end_le (Some sorts.Operation) = omega arith
+    end_le (Some sorts.End) = omega arith
+
+    of_sections : (keys : List NamedKey) (sections : List (List Op)) → length (flat_map (section_forms keys) sections) ≡ length sections + sum_by length sections
+    of_sections keys [] = refl
+    of_sections keys (section ∷ sections) =
+        let a = length-append (section_forms keys section) (flat_map (section_forms keys) sections) in
+        let b : length (map (op_form keys) section) ≡ length section = length-map section (op_form keys) in
+        let c = of_sections keys sections in
+        let d = sum_by-cons length section sections in
+        omega arith
+
+-- ---- the nearest line
+
+key_sorts : (keys : List NamedKey) → AllByRecursion (λ form. sort_of form ≡ sorts.Key) (key_forms keys)
+key_sorts [] = tt
+key_sorts (k ∷ ks) = (refl, key_sorts ks)
+
+op_sort : (keys : List NamedKey) (op : Op) → sort_of (op_form keys op) ≡ sorts.Operation
+op_sort keys (ops.Write context sector units text) = refl
+op_sort keys (ops.Read context sector units) = refl
+op_sort keys (ops.Evict key) = refl
+op_sort keys (ops.Reset device) = refl
+op_sort keys ops.Plug = refl
+op_sort keys ops.Unplug = refl
+
+op_sorts : (keys : List NamedKey) (section : List Op) → AllByRecursion (λ form. sort_of form ≡ sorts.Operation) (map (op_form keys) section)
+op_sorts keys [] = tt
+op_sorts keys (op ∷ section) = (op_sort keys op, op_sorts keys section)
+
+last_sort_of : (last : Option Sort) (blocks : ℕ) (keys : List NamedKey) (threads : List (List Op)) (section : List Op)
+    → IsAt last (record { last = last; blocks = blocks; keys = keys; threads = threads; section = section })
+    → last_sort (onto (end_forms last) (onto (flat_map (section_forms keys) (threads ++ with_section (is_in_section last) section)) (onto (key_forms keys) (onto (head_forms last blocks) [])))) ≡ last
+last_sort_of None blocks [] [] section at = refl
+last_sort_of None blocks (k ∷ ks) threads section at = let e = at.0 in absurd cc
+last_sort_of None blocks [] (t ∷ ts) section at = let e = at.1 in absurd cc
+last_sort_of (Some sorts.Version) blocks [] [] section at = refl
+last_sort_of (Some sorts.Version) blocks (k ∷ ks) threads section at = let e = at.0 in absurd cc
+last_sort_of (Some sorts.Version) blocks [] (t ∷ ts) section at = let e = at.1 in absurd cc
+last_sort_of (Some sorts.Disk) blocks [] [] section at = refl
+last_sort_of (Some sorts.Disk) blocks (k ∷ ks) threads section at = let e = at.1 in absurd cc
+last_sort_of (Some sorts.Disk) blocks [] (t ∷ ts) section at = let e = at.2 in absurd cc
+last_sort_of (Some sorts.Fallback) blocks [] [] section at = refl
+last_sort_of (Some sorts.Fallback) blocks (k ∷ ks) threads section at = let e = at.1 in absurd cc
+last_sort_of (Some sorts.Fallback) blocks [] (t ∷ ts) section at = let e = at.2 in absurd cc
+last_sort_of (Some sorts.Key) blocks [] threads section at = absurd (omega arith)
+last_sort_of (Some sorts.Key) blocks (k ∷ ks) (t ∷ ts) section at = let e = at.2 in absurd cc
+last_sort_of (Some sorts.Key) blocks (k ∷ ks) [] section at = last_sort-onto sorts.Key (key_forms ks) (Key (key_fields k) ∷ Fallback ∷ Disk (decimal blocks) ∷ Version ∷ []) (key_sorts ks) refl
+last_sort_of (Some sorts.Thread) blocks keys threads (op ∷ section) at = let e = at.1 in absurd cc
+last_sort_of (Some sorts.Thread) blocks keys threads [] at = ap last_sort (last_section keys threads [] (onto (key_forms keys) (Fallback ∷ Disk (decimal blocks) ∷ Version ∷ [])))
+last_sort_of (Some sorts.Operation) blocks keys threads [] at = absurd (omega arith)
+last_sort_of (Some sorts.Operation) blocks keys threads (op ∷ section) at =
+    ap last_sort (last_section keys threads (op ∷ section) (onto (key_forms keys) (Fallback ∷ Disk (decimal blocks) ∷ Version ∷ [])))
+    ∙ last_sort-onto sorts.Operation (map (op_form keys) section) (op_form keys op ∷ Thread ∷ onto (flat_map (section_forms keys) threads) (onto (key_forms keys) (Fallback ∷ Disk (decimal blocks) ∷ Version ∷ [])))
+    (op_sorts keys section) (ap Some (op_sort keys op))
+last_sort_of (Some sorts.End) blocks keys threads section at = refl
+
+pub last_sort-read : (p : Progress) → IsProgress p → last_sort (forms_read p) ≡ p.last
+last_sort-read p is = ap last_sort (parts p is) ∙ last_sort_of p.last p.blocks p.keys p.threads p.section is.at
+
+-- ---- plugs
+
+open_keys : (keys : List NamedKey) (above : List Form) → is_open (onto (key_forms keys) above) ≡ is_open above
+open_keys [] above = refl
+open_keys (k ∷ ks) above = open_keys ks (Key (key_fields k) ∷ above)
+
+open_head : (last : Option Sort) (blocks : ℕ) → is_open (onto (head_forms last blocks) []) ≡ false
+open_head None blocks = refl
+open_head (Some sorts.Version) blocks = refl
+open_head (Some sorts.Disk) blocks = refl
+open_head (Some sorts.Fallback) blocks = refl
+open_head (Some sorts.Key) blocks = refl
+open_head (Some sorts.Thread) blocks = refl
+open_head (Some sorts.Operation) blocks = refl
+open_head (Some sorts.End) blocks = refl
+
+open_end : (last : Option Sort) (above : List Form) → is_open (onto (end_forms last) above) ≡ is_open above
+open_end None above = refl
+open_end (Some sorts.Version) above = refl
+open_end (Some sorts.Disk) above = refl
+open_end (Some sorts.Fallback) above = refl
+open_end (Some sorts.Key) above = refl
+open_end (Some sorts.Thread) above = refl
+open_end (Some sorts.Operation) above = refl
+open_end (Some sorts.End) above = refl
+
+same_behind : (a b : Bool) → Some a ≡ Some b → a ≡ b
+same_behind a b e = cc
+
+open_ops : (keys : List NamedKey) (section : List Op) (above : List Form) (before behind : Bool) → is_open above ≡ before → open_behind before section ≡ Some behind → is_open (onto (map (op_form keys) section) above) ≡ behind
+open_ops keys [] above before behind e h = e ∙ same_behind before behind h
+open_ops keys (ops.Write context sector units text ∷ section) above before behind e h = open_ops keys section (op_form keys (ops.Write context sector units text) ∷ above) before behind e h
+open_ops keys (ops.Read context sector units ∷ section) above before behind e h = open_ops keys section (op_form keys (ops.Read context sector units) ∷ above) before behind e h
+open_ops keys (ops.Evict key ∷ section) above before behind e h = open_ops keys section (op_form keys (ops.Evict key) ∷ above) before behind e h
+open_ops keys (ops.Reset device ∷ section) above before behind e h = open_ops keys section (op_form keys (ops.Reset device) ∷ above) before behind e h
+open_ops keys (ops.Plug ∷ section) above true behind e h = absurd cc
+open_ops keys (ops.Plug ∷ section) above false behind e h = open_ops keys section (Plug ∷ above) true behind refl h
+open_ops keys (ops.Unplug ∷ section) above true behind e h = open_ops keys section (Unplug ∷ above) false behind refl h
+open_ops keys (ops.Unplug ∷ section) above false behind e h = absurd cc
+
+open_sections : (keys : List NamedKey) (threads : List (List Op)) (above : List Form) → AllByRecursion (IsSection (bare_keys keys)) threads → is_open above ≡ false → is_open (onto (flat_map (section_forms keys) threads) above) ≡ false
+open_sections keys [] above each e = e
+open_sections keys (thread ∷ threads) above each e =
+    ap is_open (onto-append (section_forms keys thread) (flat_map (section_forms keys) threads) above)
+    ∙ open_sections keys threads (onto (section_forms keys thread) above) each.1 (open_ops keys thread (Thread ∷ above) false false e each.0.plugs)
+
+-- outside a section no operations are kept
+outside : (last : Option Sort) (p : Progress) → is_in_section last ≡ false → IsAt last p → p.section ≡ []
+outside None p out at = at.2
+outside (Some sorts.Version) p out at = at.2
+outside (Some sorts.Disk) p out at = at.3
+outside (Some sorts.Fallback) p out at = at.3
+outside (Some sorts.Key) p out at = at.3
+outside (Some sorts.Thread) p out at = absurd cc
+outside (Some sorts.Operation) p out at = absurd cc
+outside (Some sorts.End) p out at = at.1
+
+open_last : (inside : Bool) (keys : List NamedKey) (threads : List (List Op)) (section : List Op) (above : List Form) (plugged : Bool) → (inside ≡ false → section ≡ []) → AllByRecursion (IsSection (bare_keys keys)) threads
+    → is_open above ≡ false → open_behind false section ≡ Some plugged → is_open (onto (flat_map (section_forms keys) (threads ++ with_section inside section)) above) ≡ plugged
+open_last true keys threads section above plugged out each e h =
+    ap is_open (last_section keys threads section above)
+    ∙ open_ops keys section (Thread ∷ onto (flat_map (section_forms keys) threads) above) false plugged (open_sections keys threads above each e) h
+open_last false keys threads section above plugged out each e h =
+    let none : Some false ≡ Some plugged = sym (ap (open_behind false) (out refl)) ∙ h in
+    ap (λ (t : List (List Op)). is_open (onto (flat_map (section_forms keys) t) above)) (append-nil threads)
+    ∙ open_sections keys threads above each e
+    ∙ same_behind false plugged none
+
+-- Whether a plug is open. Outside a section there are no operations, and none is.
+pub is_open-read : (p : Progress) (plugged : Bool) → IsProgress p → open_behind false p.section ≡ Some plugged → is_open (forms_read p) ≡ plugged
+is_open-read p plugged is behind =
+    let heads = onto (head_forms p.last p.blocks) [] in
+    let keys = onto (key_forms p.keys) heads in
+    ap is_open (parts p is)
+    ∙ open_end p.last (onto (flat_map (section_forms p.keys) (sections_read p)) keys)
+    ∙ open_last (is_in_section p.last) p.keys p.threads p.section keys plugged (λ out. outside p.last p out is.at) is.threads (open_keys p.keys heads ∙ open_head p.last p.blocks) behind
+
+-- ---- names
+
+no_sections : (keys : List NamedKey) (sections : List (List Op)) → AllByRecursion (λ form. is_key form ≡ false) (flat_map (section_forms keys) sections)
+no_sections keys [] = tt
+no_sections keys (section ∷ sections) = (refl, AllByRecursion-append (λ form. is_key form ≡ false) (map (op_form keys) section) (flat_map (section_forms keys) sections) (no_ops section) (no_sections keys sections))
+  where
+    no_ops : (section : List Op) → AllByRecursion (λ form. is_key form ≡ false) (map (op_form keys) section)
+    no_ops [] = tt
+    no_ops (op ∷ section) = ((op_is keys op).0, no_ops section)
+
+no_end : (last : Option Sort) → AllByRecursion (λ form. is_key form ≡ false) (end_forms last)
+no_end None = tt
+no_end (Some sorts.Version) = tt
+no_end (Some sorts.Disk) = tt
+no_end (Some sorts.Fallback) = tt
+no_end (Some sorts.Key) = tt
+no_end (Some sorts.Thread) = tt
+no_end (Some sorts.Operation) = tt
+no_end (Some sorts.End) = (refl, tt)
+
+no_head : (name : List ℕ) (last : Option Sort) (blocks : ℕ) → key_named name (onto (head_forms last blocks) []) ≡ None
+no_head name None blocks = refl
+no_head name (Some sorts.Version) blocks = refl
+no_head name (Some sorts.Disk) blocks = refl
+no_head name (Some sorts.Fallback) blocks = refl
+no_head name (Some sorts.Key) blocks = refl
+no_head name (Some sorts.Thread) blocks = refl
+no_head name (Some sorts.Operation) blocks = refl
+no_head name (Some sorts.End) blocks = refl
+
+-- a name is looked for among the keys alone
+among_keys : (name : List ℕ) (p : Progress) → IsProgress p → key_named name (forms_read p) ≡ key_named name (onto (key_forms p.keys) (onto (head_forms p.last p.blocks) []))
+among_keys name p is =
+    let heads = onto (head_forms p.last p.blocks) [] in
+    let keys = onto (key_forms p.keys) heads in
+    ap (key_named name) (parts p is)
+    ∙ key_named-onto name (end_forms p.last) (onto (flat_map (section_forms p.keys) (sections_read p)) keys) (no_end p.last)
+    ∙ key_named-onto name (flat_map (section_forms p.keys) (sections_read p)) keys (no_sections p.keys (sections_read p))
+
+-- one that no key has isn't found
+others : (name : List ℕ) (keys : List NamedKey) (above : List Form) → AllByRecursion (λ (named : NamedKey). named.name ≢ name) keys → key_named name (onto (key_forms keys) above) ≡ key_named name above
+others name [] above differ = refl
+others name (k ∷ ks) above differ =
+    let no : bytes_eq k.name name ≡ false = bytes_eq-other k.name name differ.0 in
+    others name ks (Key (key_fields k) ∷ above) differ.1 ∙ rw no refl
+
+-- the keys behind a key have other names
+later_names : (k : NamedKey) (ks : List NamedKey) → AllPairs (λ (first second : NamedKey). first.name ≢ second.name) (k ∷ ks) → AllByRecursion (λ (named : NamedKey). named.name ≢ k.name) ks
+later_names k ks pairs = recursion_from_All (λ (named : NamedKey). named.name ≢ k.name) ks (λ i d lt e. pairs 0 (suc i) d (omega arith) (omega arith) (sym e))
+
+pairs_tail : (k : NamedKey) (ks : List NamedKey) → AllPairs (λ (first second : NamedKey). first.name ≢ second.name) (k ∷ ks) → AllPairs (λ (first second : NamedKey). first.name ≢ second.name) ks
+pairs_tail k ks pairs i j d lt within = pairs (suc i) (suc j) d (omega arith) (omega arith)
+
+same_Some : {X : Type 0} (x y : X) → Some x ≡ Some y → x ≡ y
+same_Some x y e = cc
+
+found : (keys : List NamedKey) (above : List Form) (i : ℕ) (named : NamedKey) → AllPairs (λ (first second : NamedKey). first.name ≢ second.name) keys → slice_get keys i ≡ Some named → key_named named.name (onto (key_forms keys) above) ≡ Some (key_fields named)
+found [] above i named pairs at = absurd cc
+found (k ∷ ks) above zero named pairs at =
+    let here : key_named k.name (Key (key_fields k) ∷ above) ≡ Some (key_fields k) = rw (bytes_eq-same k.name) refl in
+    subst (λ (n : NamedKey). key_named n.name (onto (key_forms (k ∷ ks)) above) ≡ Some (key_fields n)) (same_Some k named at)
+    (others k.name ks (Key (key_fields k) ∷ above) (later_names k ks pairs) ∙ here)
+found (k ∷ ks) above (suc i) named pairs at = found ks (Key (key_fields k) ∷ above) i named (pairs_tail k ks pairs) at
+
+-- the key with a number is found by its name
+pub key_named-read : (p : Progress) (number : KeyNo) (named : NamedKey) → IsProgress p → slice_get p.keys number.0 ≡ Some named → key_named (name_of p.keys number) (forms_read p) ≡ Some (key_fields named)
+key_named-read p number named is at =
+    ap (λ (name : List ℕ). key_named name (forms_read p)) (name_at p.keys number named at)
+    ∙ among_keys named.name p is
+    ∙ found p.keys (onto (head_forms p.last p.blocks) []) number.0 named is.keys.names at
+
+-- the key at a place of a list that is long enough
+at_place : (keys : List NamedKey) (i : ℕ) → i < length keys → (named : NamedKey) × (slice_get keys i ≡ Some named)
+at_place [] i within = absurd (omega arith)
+at_place (k ∷ ks) zero within = (k, refl)
+at_place (k ∷ ks) (suc i) within = at_place ks i (omega arith)
+
+pub is_declared-read : (p : Progress) (number : KeyNo) → IsProgress p → number.0 < length p.keys → is_declared (name_of p.keys number) (forms_read p) ≡ true
+is_declared-read p number is within =
+    let key = at_place p.keys number.0 within in
+    ap (λ (o : Option KeyForm). is_some o) (key_named-read p number key.0 is key.1)
+
+-- no other name is found
+pub key_named-none : (p : Progress) (name : List ℕ) → IsProgress p → AllByRecursion (λ (named : NamedKey). named.name ≢ name) p.keys → key_named name (forms_read p) ≡ None
+key_named-none p name is differ = among_keys name p is ∙ others name p.keys (onto (head_forms p.last p.blocks) []) differ ∙ no_head name p.last p.blocks
+
+pub is_declared-none : (p : Progress) (name : List ℕ) → IsProgress p → AllByRecursion (λ (named : NamedKey). named.name ≢ name) p.keys → is_declared name (forms_read p) ≡ false
+is_declared-none p name is differ = ap (λ (o : Option KeyForm). is_some o) (key_named-none p name is differ)
+
+-- no name is `-`
+pub key_named-dash : (p : Progress) → IsProgress p → key_named dash (forms_read p) ≡ None
+key_named-dash p is = key_named-none p dash is (no_dashes p.keys is.keys.each)
+  where
+    no_dashes : (keys : List NamedKey) → AllByRecursion IsNamedKey keys → AllByRecursion (λ (named : NamedKey). named.name ≢ dash) keys
+    no_dashes [] each = tt
+    no_dashes (k ∷ ks) each = (name_is_no_dash k.name each.0.name, no_dashes ks each.1)
+
+sectors_in_field : (unit : DataUnit) → number_in (decimal (bytes_of unit)) / 512 ≡ sectors_of unit
+sectors_in_field Bytes512 = ap (λ n. n / 512) (number_in-decimal 512 (omega arith))
+sectors_in_field Bytes1024 = ap (λ n. n / 512) (number_in-decimal 1024 (omega arith))
+sectors_in_field Bytes2048 = ap (λ n. n / 512) (number_in-decimal 2048 (omega arith))
+sectors_in_field Bytes4096 = ap (λ n. n / 512) (number_in-decimal 4096 (omega arith))
+
+-- how many sectors a data unit has, under a context or without one
+pub sectors_under-read : (p : Progress) (context : Option Context) → IsProgress p → IsContext (bare_keys p.keys) context → sectors_under (key_field p.keys context) (forms_read p) ≡ unit_sectors (bare_keys p.keys) context
+sectors_under-read p None is valid = ap (λ (o : Option KeyForm). option_map_or (λ (key : KeyForm). number_in key.unit / 512) o 1) (key_named-dash p is)
+sectors_under-read p (Some context) is valid =
+    let key = at_place p.keys context.key.0 (named_too p.keys context.key.0 valid.0) in
+    let at : slice_get (bare_keys p.keys) context.key.0 ≡ Some key.0.key = slice_get-map (λ (named : NamedKey). named.key) p.keys context.key.0 ∙ ap (option_map (λ (named : NamedKey). named.key)) key.1 in
+    ap (λ (o : Option KeyForm). option_map_or (λ (k : KeyForm). number_in k.unit / 512) o 1) (key_named-read p context.key key.0 is key.1)
+    ∙ sectors_in_field key.0.key.config.unit
+    ∙ sym (ap (λ (o : Option KeyData). option_map_or (λ (k : KeyData). sectors_of k.config.unit) o 1) at)

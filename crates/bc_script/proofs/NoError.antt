@@ -1,0 +1,349 @@
+-- No line of a script's text fails a test.
+use Rattle.std.proofs.Common.{◌≡◌, ◌≢◌, ℕ, suc, ◌<◌, ◌≤◌, ◌+◌, Bool, true, false, List, [], ◌∷◌, ◌++◌, length, map, flat_map, get_or, is_some, codes, Option, Some, None, append-nil, append_assoc, length-append, refl, sym, ap, subst, ◌∙◌, arith}
+use Rattle.std.specs.Prelude.{sum_by, AllPairs, IsSome, ⊤, ◌&&◌}
+use Rattle.std.specs.List.{AllByRecursion}
+use Rattle.std.proofs.lemmas.List.Sums.{sum_by-append, sum_by-cons}
+use Rattle.bc_text.specs.Lines.{Line, lines_of, nothing}
+use Rattle.bc_text.proofs.LineLaws.{lines_of-text_of}
+use Rattle.bc_script.specs.declared.named_key.NamedKey.{NamedKey}
+use Rattle.bc_script.specs.declared.op.Op.{Op}
+use Rattle.bc_script.specs.declared.op.Op.TheVariants as ops
+use Rattle.bc_script.specs.declared.sort.Sort.{Sort}
+use Rattle.bc_script.specs.declared.sort.Sort.TheVariants as sorts
+use Rattle.bc_script.specs.declared.script_error.ScriptError.{ScriptError}
+use Rattle.bc_script.specs.declared.script_error.ScriptWhy.TheVariants as why
+use Rattle.bc_script.specs.Script.{Script, IsScript, IsDiskSize, AreKeys, IsNamedKey, IsOp, IsSection, bare_keys, open_behind, units_of, units_of_section, max_keys, max_threads, max_ops, max_units}
+use Rattle.bc_script.specs.ScriptText.{NoScriptHas, script_text, script_lines, version_line, disk_line, fallback_line, key_line, fault_line, thread_line, op_line, section_lines, end_line}
+use Rattle.bc_script.specs.Forms.{Form, Version, Disk, Fallback, Key, Thread, End, form_of, sort_of, may_follow, is_unbuilt}
+use Rattle.bc_script.specs.ScriptErrors.{Why, first_of, with_form, error_at, error_at_end, first_error, error_of, or_below, last_sort, is_end, is_nothing}
+use Rattle.bc_script.specs.Progress.{Progress, IsProgress, with_section, is_in_section, lines_read, forms_read, forms_below, sections_read}
+use Rattle.bc_script.proofs.Onto.{forms_below-append}
+use Rattle.bc_script.proofs.Above.{key_fields, op_form, last_sort-read, forms_read-step, form_of-disk, form_of-key_line, form_of-op_line}
+use Rattle.bc_script.proofs.LineFields.{script_lines_are_lines}
+use Rattle.bc_script.proofs.Passes.{error_at-passed, is_built, disk_passed, key_passed, thread_passed, end_passed, op_passed}
+use Rattle.bc_script.proofs.Steps.{nothing_read, with_version, with_disk, with_fallback, with_key, with_op, with_section_ended, IsProgress-nothing_read, IsProgress-version, IsProgress-disk, IsProgress-fallback, IsProgress-key, IsProgress-thread, IsProgress-op, IsProgress-end, lines_read-version, lines_read-disk, lines_read-fallback, lines_read-key, lines_read-thread, lines_read-op, lines_read-end, counts-op, is_inside, no_sections}
+
+-- ---- lines that pass
+
+-- each line passes its tests behind those above it
+abbrev pub Pass : List Form → List Line → Type 0
+Pass above [] = ⊤
+Pass above (line ∷ lines) = (error_at above line ≡ None) × Pass (with_form (form_of line) above) lines
+
+Pass-append : (above : List Form) (xs ys : List Line) → Pass above xs → Pass (forms_below above xs) ys → Pass above (xs ++ ys)
+Pass-append above [] ys p q = q
+Pass-append above (x ∷ xs) ys p q = (p.0, Pass-append (with_form (form_of x) above) xs ys p.1 q)
+
+-- then no line of theirs is the first that fails, and nor is what stands behind them
+pub no_first_error : (above : List Form) (lines : List Line) (tail : Line) → Pass above lines → error_at_end (forms_below above lines) tail ≡ None → first_error above (lines ++ tail ∷ []) ≡ None
+no_first_error above [] tail pass e = ap (λ (w : Why). or_below (length above + 1) w None) e
+no_first_error above (l ∷ []) tail pass e =
+    ap (λ (w : Why). or_below (length above + 1) w (first_error (with_form (form_of l) above) (tail ∷ []))) pass.0
+    ∙ no_first_error (with_form (form_of l) above) [] tail pass.1 e
+no_first_error above (l ∷ m ∷ ls) tail pass e =
+    ap (λ (w : Why). or_below (length above + 1) w (first_error (with_form (form_of l) above) (m ∷ ls ++ tail ∷ []))) pass.0
+    ∙ no_first_error (with_form (form_of l) above) (m ∷ ls) tail pass.1 e
+
+-- ---- from one progress to a later one
+
+-- lines that are read, each of which passes, and what has been read then
+record Reads (p : Progress) (lines : List Line) (Then : Progress → Type 0) : Type 0 where
+  after : Progress
+  rules : IsProgress after
+  pass : Pass (forms_read p) lines
+  forms : forms_below (forms_read p) lines ≡ forms_read after
+  holds : Then after
+
+-- no lines
+still : (p : Progress) (Then : Progress → Type 0) → IsProgress p → Then p → Reads p [] Then
+still p Then is holds = record { after = p; rules = is; pass = tt; forms = refl; holds = holds }
+
+-- one line
+one : (p q : Progress) (line : Line) (form : Form) (Then : Progress → Type 0) → IsProgress q → error_at (forms_read p) line ≡ None → lines_read q ≡ lines_read p ++ line ∷ [] → form_of line ≡ Some form → Then q → Reads p (line ∷ []) Then
+one p q line form Then rules passes lines is_form holds =
+    let step = forms_read-step p q line form lines is_form in
+    record { after = q; rules = rules; pass = (passes, tt); forms = ap (λ (o : Option Form). with_form o (forms_read p)) is_form ∙ sym step; holds = holds }
+
+-- lines, and others behind them
+further : (p : Progress) (xs ys : List Line) (P Q : Progress → Type 0) → Reads p xs P → ((q : Progress) → IsProgress q → P q → Reads q ys Q) → Reads p (xs ++ ys) Q
+further p xs ys P Q first rest =
+    let then = rest first.after first.rules first.holds in
+    record {
+      after = then.after;
+      rules = then.rules;
+      pass = Pass-append (forms_read p) xs ys first.pass (subst (λ (above : List Form). Pass above ys) (sym first.forms) then.pass);
+      forms = forms_below-append (forms_read p) xs ys ∙ ap (λ (above : List Form). forms_below above ys) first.forms ∙ then.forms;
+      holds = then.holds;
+    }
+
+-- what holds then, and what follows from it
+weaker : (p : Progress) (lines : List Line) (P Q : Progress → Type 0) → ((q : Progress) → P q → Q q) → Reads p lines P → Reads p lines Q
+weaker p lines P Q f reads = record { after = reads.after; rules = reads.rules; pass = reads.pass; forms = reads.forms; holds = f reads.after reads.holds }
+
+-- ---- the first three lines
+
+-- behind the first three lines
+record HasHead (blocks : ℕ) (q : Progress) : Type 0 where
+  last : q.last ≡ Some sorts.Fallback
+  size : q.blocks ≡ blocks
+  keys : q.keys ≡ []
+  threads : sections_read q ≡ []
+  section : q.section ≡ []
+
+head_passes : (blocks : ℕ) → IsDiskSize blocks → Reads nothing_read (version_line ∷ disk_line blocks ∷ fallback_line true ∷ []) (HasHead blocks)
+head_passes blocks size =
+    let a = nothing_read in
+    let is_a = IsProgress-nothing_read in
+    let b = with_version a in
+    let is_b = IsProgress-version a is_a refl in
+    let c = with_disk b blocks in
+    let is_c = IsProgress-disk b blocks is_b refl size in
+    let d = with_fallback c in
+    let is_d = IsProgress-fallback c is_c refl in
+    further a (version_line ∷ []) (disk_line blocks ∷ fallback_line true ∷ []) (λ q. q ≡ b) (HasHead blocks)
+    (one a b version_line Version (λ q. q ≡ b) is_b (error_at-passed a version_line Version is_a refl refl refl refl) (lines_read-version a is_a refl) refl refl)
+    (λ q is e. subst (λ (r : Progress). Reads r (disk_line blocks ∷ fallback_line true ∷ []) (HasHead blocks)) (sym e)
+    (further b (disk_line blocks ∷ []) (fallback_line true ∷ []) (λ q. q ≡ c) (HasHead blocks)
+    (one b c (disk_line blocks) (Disk _) (λ q. q ≡ c) is_c
+    (error_at-passed b (disk_line blocks) (Disk _) is_b refl (form_of-disk blocks) refl (disk_passed (forms_read b) blocks size))
+    (lines_read-disk b blocks is_b refl) (form_of-disk blocks) refl)
+    (λ q is e. subst (λ (r : Progress). Reads r (fallback_line true ∷ []) (HasHead blocks)) (sym e)
+    (one c d (fallback_line true) Fallback (HasHead blocks) is_d (error_at-passed c (fallback_line true) Fallback is_c refl refl refl refl) (lines_read-fallback c is_c refl) refl
+    (record { last = refl; size = refl; keys = refl; threads = refl; section = refl })))))
+
+-- ---- keys
+
+-- behind keys, where no section has begun
+record HasKeys (blocks : ℕ) (all : List NamedKey) (q : Progress) : Type 0 where
+  follows : may_follow q.last sorts.Key ≡ true
+  size : q.blocks ≡ blocks
+  keys : q.keys ≡ all
+
+key_at_end : (keys more : List NamedKey) (named : NamedKey) → AllByRecursion IsNamedKey (keys ++ named ∷ more) → IsNamedKey named
+key_at_end [] more named each = each.0
+key_at_end (k ∷ ks) more named each = key_at_end ks more named each.1
+
+fresh_at_end : (keys more : List NamedKey) (named : NamedKey) → AllPairs (λ (first second : NamedKey). first.name ≢ second.name) (keys ++ named ∷ more) → AllByRecursion (λ (key : NamedKey). key.name ≢ named.name) keys
+fresh_at_end [] more named pairs = tt
+fresh_at_end (k ∷ ks) more named pairs =
+    (at k ks more named pairs, fresh_at_end ks more named (λ i j d lt within. pairs (suc i) (suc j) d (omega arith) (omega arith)))
+  where
+    there : (ks more : List NamedKey) (named d : NamedKey) → get_or (ks ++ named ∷ more) (length ks) d ≡ named
+    there [] more named d = refl
+    there (k ∷ ks) more named d = there ks more named d
+
+    at : (k : NamedKey) (ks more : List NamedKey) (named : NamedKey) → AllPairs (λ (first second : NamedKey). first.name ≢ second.name) (k ∷ ks ++ named ∷ more) → k.name ≢ named.name
+    at k ks more named pairs = subst (λ (n : NamedKey). k.name ≢ n.name) (there ks more named k) (pairs 0 (suc (length ks)) k (omega arith) (omega (arith, length-append ks (named ∷ more))))
+
+keys_pass : (p : Progress) (keys : List NamedKey) → IsProgress p → may_follow p.last sorts.Key ≡ true → AreKeys (p.keys ++ keys) → Reads p (map key_line keys) (HasKeys p.blocks (p.keys ++ keys))
+keys_pass p [] is follows are = still p (HasKeys p.blocks (p.keys ++ [])) is (record { follows = follows; size = refl; keys = sym (append-nil p.keys) })
+keys_pass p (k ∷ ks) is follows are =
+    let valid = key_at_end p.keys ks k are.each in
+    let fresh = fresh_at_end p.keys ks k are.names in
+    let count = are.count in
+    let room : length p.keys < max_keys = omega (arith, length-append p.keys (k ∷ ks)) in
+    let q = with_key p k in
+    let same : q.keys ++ ks ≡ p.keys ++ k ∷ ks = append_assoc p.keys (k ∷ []) ks in
+    further p (key_line k ∷ []) (map key_line ks) (λ r. r ≡ q) (HasKeys p.blocks (p.keys ++ k ∷ ks))
+    (one p q (key_line k) (Key (key_fields k)) (λ r. r ≡ q) (IsProgress-key p k is follows valid fresh room)
+    (error_at-passed p (key_line k) (Key (key_fields k)) is (is_built p.last (codes "key") _ refl refl refl) (form_of-key_line k) follows (key_passed p k is valid fresh room))
+    (lines_read-key p k is follows) (form_of-key_line k) refl)
+    (λ r is_r e. subst (λ (x : Progress). Reads x (map key_line ks) (HasKeys p.blocks (p.keys ++ k ∷ ks))) (sym e)
+    (subst (λ (all : List NamedKey). Reads q (map key_line ks) (HasKeys p.blocks all)) same
+    (keys_pass q ks (subst IsProgress e is_r) refl (subst AreKeys (sym same) are))))
+
+-- ---- operations
+
+-- behind operations of a section
+record HasOps (p : Progress) (all : List Op) (q : Progress) : Type 0 where
+  follows : may_follow q.last sorts.Operation ≡ true
+  blocks : q.blocks ≡ p.blocks
+  keys : q.keys ≡ p.keys
+  threads : q.threads ≡ p.threads
+  section : q.section ≡ all
+
+-- a front of operations closes no plug that isn't open and opens none twice, where all of them don't
+front_plugs : (before : Bool) (section more : List Op) → IsSome (open_behind before (section ++ more)) → IsSome (open_behind before section)
+front_plugs before [] more h = refl
+front_plugs before (ops.Write context sector units text ∷ section) more h = front_plugs before section more h
+front_plugs before (ops.Read context sector units ∷ section) more h = front_plugs before section more h
+front_plugs before (ops.Evict key ∷ section) more h = front_plugs before section more h
+front_plugs before (ops.Reset device ∷ section) more h = front_plugs before section more h
+front_plugs true (ops.Plug ∷ section) more h = absurd cc
+front_plugs false (ops.Plug ∷ section) more h = front_plugs true section more h
+front_plugs true (ops.Unplug ∷ section) more h = front_plugs false section more h
+front_plugs false (ops.Unplug ∷ section) more h = absurd cc
+
+pub op_built : (last : Option Sort) (keys : List NamedKey) (op : Op) → may_follow last sorts.Operation ≡ true → is_unbuilt last (op_line keys op) ≡ false
+op_built None keys op follows = refl
+op_built (Some sorts.Version) keys op follows = refl
+op_built (Some sorts.Disk) keys op follows = absurd cc
+op_built (Some sorts.Fallback) keys op follows = absurd cc
+op_built (Some sorts.Key) keys op follows = absurd cc
+op_built (Some sorts.Thread) keys op follows = refl
+op_built (Some sorts.Operation) keys op follows = refl
+op_built (Some sorts.End) keys op follows = refl
+
+pub op_sorted : (last : Option Sort) (keys : List NamedKey) (op : Op) → may_follow last (sort_of (op_form keys op)) ≡ may_follow last sorts.Operation
+op_sorted last keys (ops.Write context sector units text) = refl
+op_sorted last keys (ops.Read context sector units) = refl
+op_sorted last keys (ops.Evict key) = refl
+op_sorted last keys (ops.Reset device) = refl
+op_sorted last keys ops.Plug = refl
+op_sorted last keys ops.Unplug = refl
+
+ops_pass : (p : Progress) (section : List Op) → IsProgress p → may_follow p.last sorts.Operation ≡ true → AllByRecursion (IsOp (bare_keys p.keys)) section → IsSome (open_behind false (p.section ++ section))
+    → sum_by length (sections_read p) + length section ≤ max_ops → sum_by units_of_section (sections_read p) + units_of_section section ≤ max_units → Reads p (map (op_line p.keys) section) (HasOps p (p.section ++ section))
+ops_pass p [] is follows valid plugs room fits = still p (HasOps p (p.section ++ [])) is (record { follows = follows; blocks = refl; keys = refl; threads = refl; section = sym (append-nil p.section) })
+ops_pass p (op ∷ section) is follows valid plugs room fits =
+    let q = with_op p op in
+    let counts = counts-op p op follows in
+    let same : q.section ++ section ≡ p.section ++ op ∷ section = append_assoc p.section (op ∷ []) section in
+    let all_plugs : IsSome (open_behind false (q.section ++ section)) = subst (λ (s : List Op). IsSome (open_behind false s)) (sym same) plugs in
+    let one_plugs : IsSome (open_behind false q.section) = front_plugs false q.section section all_plugs in
+    let units = sum_by-cons units_of op section in
+    let op_room : sum_by length (sections_read p) < max_ops = omega arith in
+    let op_fits : sum_by units_of_section (sections_read p) + units_of op ≤ max_units = omega arith in
+    let is_form = form_of-op_line p.keys op is.keys valid.0 in
+    further p (op_line p.keys op ∷ []) (map (op_line p.keys) section) (λ r. r ≡ q) (HasOps p (p.section ++ op ∷ section))
+    (one p q (op_line p.keys op) (op_form p.keys op) (λ r. r ≡ q) (IsProgress-op p op is follows valid.0 one_plugs op_room op_fits)
+    (error_at-passed p (op_line p.keys op) (op_form p.keys op) is (op_built p.last p.keys op follows) is_form (op_sorted p.last p.keys op ∙ follows) (op_passed p op is valid.0 one_plugs op_room op_fits))
+    (lines_read-op p op is follows) is_form refl)
+    (λ r is_r e. subst (λ (x : Progress). Reads x (map (op_line p.keys) section) (HasOps p (p.section ++ op ∷ section))) (sym e)
+    (subst (λ (all : List Op). Reads q (map (op_line p.keys) section) (HasOps p all)) same
+    (weaker q (map (op_line p.keys) section) (HasOps q (q.section ++ section)) (HasOps p (q.section ++ section))
+    (λ x then. record { follows = then.follows; blocks = then.blocks; keys = then.keys; threads = then.threads; section = then.section })
+    (ops_pass q section (subst IsProgress e is_r) refl valid.1 all_plugs (omega (arith, counts.1)) (omega (arith, counts.2))))))
+
+-- ---- sections
+
+-- behind sections, each of which is closed
+record HasSections (p : Progress) (q : Progress) : Type 0 where
+  follows : may_follow q.last sorts.End ≡ true
+  blocks : q.blocks ≡ p.blocks
+  keys : q.keys ≡ p.keys
+  closed : open_behind false q.section ≡ Some false
+
+threads_follow : (last : Option Sort) → may_follow last sorts.End ≡ true → may_follow last sorts.Thread ≡ true
+threads_follow None h = absurd cc
+threads_follow (Some sorts.Version) h = absurd cc
+threads_follow (Some sorts.Disk) h = absurd cc
+threads_follow (Some sorts.Fallback) h = refl
+threads_follow (Some sorts.Key) h = refl
+threads_follow (Some sorts.Thread) h = refl
+threads_follow (Some sorts.Operation) h = refl
+threads_follow (Some sorts.End) h = absurd cc
+
+-- the operations of a section stand behind the sections before it
+section_done : (p q : Progress) (section : List Op) → HasOps (with_section_ended p sorts.Thread) section q → sections_read q ≡ sections_read p ++ section ∷ []
+section_done p q section has =
+    ap (λ (t : List (List Op)). t ++ with_section (is_in_section q.last) q.section) has.threads
+    ∙ ap (λ (b : Bool). sections_read p ++ with_section b q.section) (is_inside q.last has.follows)
+    ∙ ap (λ (s : List Op). sections_read p ++ s ∷ []) has.section
+
+ends_after_ops : (last : Option Sort) → may_follow last sorts.Operation ≡ true → may_follow last sorts.End ≡ true
+ends_after_ops None h = absurd cc
+ends_after_ops (Some sorts.Version) h = absurd cc
+ends_after_ops (Some sorts.Disk) h = absurd cc
+ends_after_ops (Some sorts.Fallback) h = refl
+ends_after_ops (Some sorts.Key) h = refl
+ends_after_ops (Some sorts.Thread) h = refl
+ends_after_ops (Some sorts.Operation) h = refl
+ends_after_ops (Some sorts.End) h = absurd cc
+
+-- one section
+section_passes : (p : Progress) (section : List Op) → IsProgress p → may_follow p.last sorts.End ≡ true → open_behind false p.section ≡ Some false → IsSection (bare_keys p.keys) section
+    → length (sections_read p) < max_threads → sum_by length (sections_read p) + length section ≤ max_ops → sum_by units_of_section (sections_read p) + units_of_section section ≤ max_units
+    → Reads p (section_lines p.keys section) (HasOps (with_section_ended p sorts.Thread) section)
+section_passes p section is follows closed valid room ops_room units_room =
+    let t = with_section_ended p sorts.Thread in
+    let thread_follows = threads_follow p.last follows in
+    let is_t = IsProgress-thread p is thread_follows closed room in
+    let ops = sum_by-append length (sections_read p) ([] ∷ []) in
+    let units = sum_by-append units_of_section (sections_read p) ([] ∷ []) in
+    further p (thread_line ∷ []) (map (op_line p.keys) section) (λ q. q ≡ t) (HasOps t section)
+    (one p t thread_line Thread (λ q. q ≡ t) is_t
+    (error_at-passed p thread_line Thread is (is_built p.last (codes "thread") [] refl refl refl) refl thread_follows (thread_passed p is closed room))
+    (lines_read-thread p is thread_follows) refl refl)
+    (λ q is_q e. subst (λ (x : Progress). Reads x (map (op_line p.keys) section) (HasOps t section)) (sym e)
+    (ops_pass t section is_t refl valid.each (ap (λ (o : Option Bool). is_some o) valid.plugs) (omega arith) (omega arith)))
+
+sections_pass : (p : Progress) (sections : List (List Op)) → IsProgress p → may_follow p.last sorts.End ≡ true → open_behind false p.section ≡ Some false → AllByRecursion (IsSection (bare_keys p.keys)) sections
+    → length (sections_read p) + length sections ≤ max_threads → sum_by length (sections_read p) + sum_by length sections ≤ max_ops → sum_by units_of_section (sections_read p) + sum_by units_of_section sections ≤ max_units
+    → Reads p (flat_map (section_lines p.keys) sections) (HasSections p)
+sections_pass p [] is follows closed valid room ops_room units_room = still p (HasSections p) is (record { follows = follows; blocks = refl; keys = refl; closed = closed })
+sections_pass p (section ∷ sections) is follows closed valid room ops_room units_room =
+    let t = with_section_ended p sorts.Thread in
+    let ops = sum_by-cons length section sections in
+    let units = sum_by-cons units_of_section section sections in
+    further p (section_lines p.keys section) (flat_map (section_lines p.keys) sections) (HasOps t section) (HasSections p)
+    (section_passes p section is follows closed valid.0 (omega arith) (omega arith) (omega arith))
+    (λ q is_q has.
+    let done = section_done p q section has in
+    let count = ap length done ∙ length-append (sections_read p) (section ∷ []) in
+    let ops_done = ap (sum_by length) done ∙ sum_by-append length (sections_read p) (section ∷ []) in
+    let units_done = ap (sum_by units_of_section) done ∙ sum_by-append units_of_section (sections_read p) (section ∷ []) in
+    let rest = sections_pass q sections is_q (ends_after_ops q.last has.follows) (ap (open_behind false) has.section ∙ valid.0.plugs)
+    (subst (λ (keys : List NamedKey). AllByRecursion (IsSection (bare_keys keys)) sections) (sym has.keys) valid.1) (omega arith) (omega arith) (omega arith) in
+    subst (λ (keys : List NamedKey). Reads q (flat_map (section_lines keys) sections) (HasSections p)) has.keys
+    (weaker q (flat_map (section_lines q.keys) sections) (HasSections q) (HasSections p)
+    (λ r then. record { follows = then.follows; blocks = then.blocks ∙ has.blocks; keys = then.keys ∙ has.keys; closed = then.closed })
+    rest))
+
+-- ---- the whole script
+
+abbrev HasEnded : Progress → Type 0
+HasEnded q = q.last ≡ Some sorts.End
+
+end_passes : (p : Progress) → IsProgress p → may_follow p.last sorts.End ≡ true → open_behind false p.section ≡ Some false → Reads p (end_line ∷ []) HasEnded
+end_passes p is follows closed =
+    one p (with_section_ended p sorts.End) end_line End HasEnded (IsProgress-end p is follows closed)
+    (error_at-passed p end_line End is (is_built p.last (codes "end") [] refl refl refl) refl follows (end_passed p is closed))
+    (lines_read-end p is follows) refl refl
+
+-- the lines of a script in which software does what no device can, and no fault is planned
+abbrev built_lines : Script → List Line
+built_lines s = (version_line ∷ disk_line s.blocks ∷ fallback_line true ∷ []) ++ (map key_line s.keys ++ (flat_map (section_lines s.keys) s.threads ++ end_line ∷ []))
+
+are_built : (s : Script) → IsScript s → script_lines s ≡ built_lines s
+are_built s valid =
+    ap (λ (on : Bool). (version_line ∷ disk_line s.blocks ∷ fallback_line on ∷ []) ++ (map key_line s.keys ++ (map fault_line s.faults ++ (flat_map (section_lines s.keys) s.threads ++ end_line ∷ [])))) valid.fallback
+    ∙ ap (λ (faults : List (ℕ × ℕ)). (version_line ∷ disk_line s.blocks ∷ fallback_line true ∷ []) ++ (map key_line s.keys ++ (map fault_line faults ++ (flat_map (section_lines s.keys) s.threads ++ end_line ∷ [])))) valid.faults
+
+whole_passes : (s : Script) → IsScript s → Reads nothing_read (built_lines s) HasEnded
+whole_passes s valid =
+    let sections = flat_map (section_lines s.keys) s.threads in
+    further nothing_read (version_line ∷ disk_line s.blocks ∷ fallback_line true ∷ []) (map key_line s.keys ++ (sections ++ end_line ∷ [])) (HasHead s.blocks) HasEnded (head_passes s.blocks valid.blocks)
+    (λ p is has.
+    let all : p.keys ++ s.keys ≡ s.keys = ap (λ (keys : List NamedKey). keys ++ s.keys) has.keys in
+    let follows : may_follow p.last sorts.Key ≡ true = ap (λ (last : Option Sort). may_follow last sorts.Key) has.last in
+    further p (map key_line s.keys) (sections ++ end_line ∷ []) (HasKeys p.blocks (p.keys ++ s.keys)) HasEnded (keys_pass p s.keys is follows (subst AreKeys (sym all) valid.keys))
+    (λ q is_q then.
+    let keys : q.keys ≡ s.keys = then.keys ∙ all in
+    let none = no_sections q is_q then.follows in
+    let each : AllByRecursion (IsSection (bare_keys q.keys)) s.threads = subst (λ (k : List NamedKey). AllByRecursion (IsSection (bare_keys k)) s.threads) (sym keys) valid.threads.each in
+    let few = valid.threads.count in
+    let few_ops = valid.threads.few_ops in
+    let few_units = valid.threads.few_units in
+    let all_sections : Reads q (flat_map (section_lines q.keys) s.threads) (HasSections q) =
+    sections_pass q s.threads is_q none.2 (ap (open_behind false) none.1) each
+    (subst (λ (t : List (List Op)). length t + length s.threads ≤ max_threads) (sym none.0) (omega arith))
+    (subst (λ (t : List (List Op)). sum_by length t + sum_by length s.threads ≤ max_ops) (sym none.0) (omega arith))
+    (subst (λ (t : List (List Op)). sum_by units_of_section t + sum_by units_of_section s.threads ≤ max_units) (sym none.0) (omega arith)) in
+    further q sections (end_line ∷ []) (HasSections q) HasEnded
+    (subst (λ (k : List NamedKey). Reads q (flat_map (section_lines k) s.threads) (HasSections q)) keys all_sections)
+    (λ r is_r done. end_passes r is_r done.follows done.closed)))
+
+-- no line of a script's text fails
+pub no_error : (s : Script) → IsScript s → error_of (script_text s) ≡ None
+no_error s valid =
+    let lines : lines_of (script_text s) ≡ built_lines s ++ nothing ∷ [] = lines_of-text_of (script_lines s) (script_lines_are_lines s valid) ∙ ap (λ (ls : List Line). ls ++ nothing ∷ []) (are_built s valid) in
+    let reads = whole_passes s valid in
+    let ended : is_end (last_sort (forms_below [] (built_lines s))) ≡ true =
+    ap (λ (above : List Form). is_end (last_sort above)) reads.forms ∙ ap (λ (last : Option Sort). is_end last) (last_sort-read reads.after reads.rules ∙ reads.holds) in
+    ap (first_error []) lines
+    ∙ no_first_error [] (built_lines s) nothing reads.pass (ap (λ (b : Bool). first_of (b && is_nothing nothing) why.End None) ended)
+
+-- so a text with a line that fails is no script's
+pub no_script_has : (text : List ℕ) (e : ScriptError) → error_of text ≡ Some e → NoScriptHas text
+no_script_has text e fails s valid is = let none : Some e ≡ None = sym fails ∙ ap error_of is ∙ no_error s valid in absurd cc

@@ -1,0 +1,19 @@
+use Rattle.std.proofs.Common.{◌≡◌, true, subst, sym, arith}
+use Rattle.bc_script.specs.declared.sort.Sort.TheVariants as sorts
+use Rattle.bc_script.specs.Forms.{may_follow}
+use Rattle.bc_script.specs.Progress.{Progress}
+use Rattle.bc_script.specs.Items.{FitsKey}
+use Rattle.bc_script.proofs.Readings.{few_lines, reading_key, added_is}
+use Rattle.bc_script.proofs.reader.Reader.add_key.Goals as goal
+
+pub overflow_add-self : goal.overflow_add-self
+overflow_add-self c = omega (arith, few_lines _ c.self.inside.lines c.self.inside.ops c.self.inside.units c.self.inside.plugged c.self.invariant)
+
+pub invariant_of-self-2 : goal.invariant_of-self-2
+invariant_of-self-2 c =
+    let here = c.self.inside in
+    let back = sym c.self.view_is in
+    let follows = subst (λ (p : Progress). may_follow p.last sorts.Key ≡ true) back c.requires.follows in
+    let fits = subst (λ (p : Progress). FitsKey p c.args.named) back c.requires.fits in
+    rw (added_is here.keys c.add.new.self c.args.named c.in_ok-add.field-0 c.in_ok-add.ensures.added c.in_ok-add.ensures.taken fits.fresh)
+    (reading_key _ here.lines here.ops here.units here.plugged c.self.invariant c.args.named follows fits)

@@ -1,0 +1,163 @@
+-- The forms of lines: what sort of line it is, by its first word, the number of its fields and its fixed words; the other
+-- fields stand as they are written. And which sort of line may follow which.
+use Rattle.std.specs.Prelude.{ℕ, Bool, true, false, not, ◌&&◌, ◌||◌, if◌then◌else◌, List, [], ◌∷◌, codes, Option, Some, None}
+use Rattle.std.specs.Str.{bytes_eq}
+use Rattle.bc_text.specs.Lines.{Line}
+use Rattle.bc_key.specs.declared.config.Mode.{Mode}
+use Rattle.bc_key.specs.declared.config.Mode.TheVariants.{Aes256Xts, Aes128CbcEssiv}
+use Rattle.bc_script.specs.ScriptText.{dash}
+use Rattle.bc_script.specs.declared.sort.Sort.{Sort}
+use Rattle.bc_script.specs.declared.sort.Sort.TheVariants as sorts
+
+-- the fields of a key's line; the mode is a fixed word
+pub record KeyForm : Type 0 where
+  pub name : List ℕ
+  pub mode : Mode
+  pub unit : List ℕ
+  pub dun_bytes : List ℕ
+  pub digits : List ℕ
+
+-- the fields of a bio
+pub record BioForm : Type 0 where
+  pub key : List ℕ
+  pub sector : List ℕ
+  pub units : List ℕ
+  pub number : List ℕ
+
+-- the fields of what a write writes: a byte, or all bytes, in hexadecimal digits
+pub data TextForm : Type 0 where
+  Fill : List ℕ → TextForm
+  Hex : List ℕ → TextForm
+
+pub data Form : Type 0 where
+  Version : Form
+  Disk : List ℕ → Form
+  Fallback : Form
+  Key : KeyForm → Form
+  Thread : Form
+  Write : BioForm → TextForm → Form
+  Read : BioForm → Form
+  Evict : List ℕ → Form
+  Reset : List ℕ → Form
+  Plug : Form
+  Unplug : Form
+  End : Form
+
+-- ---- the form of a line
+
+-- a form that has no fields but its word
+abbrev pub alone : Form → Line → Option Form
+alone form [] = Some form
+alone form (field ∷ fields) = None
+
+-- a form that has one more field, and any
+abbrev pub with_one : (List ℕ → Form) → Line → Option Form
+with_one form [] = None
+with_one form (field ∷ fields) = alone (form field) fields
+
+-- a form that has one more field, which is fixed
+abbrev pub with_word : List ℕ → Form → Line → Option Form
+with_word word form [] = None
+with_word word form (field ∷ fields) = if bytes_eq field word then alone form fields else None
+
+abbrev pub mode_of : List ℕ → Option Mode
+mode_of word =
+    if bytes_eq word (codes "aes-256-xts") then Some Aes256Xts
+    else (if bytes_eq word (codes "aes-128-cbc-essiv") then Some Aes128CbcEssiv else None)
+
+abbrev pub key_form : List ℕ → Option Mode → List ℕ → List ℕ → List ℕ → Option Form
+key_form name None unit dun_bytes digits = None
+key_form name (Some mode) unit dun_bytes digits =
+    Some (Key (record { name = name; mode = mode; unit = unit; dun_bytes = dun_bytes; digits = digits }))
+
+-- NAME MODE UNIT BYTES HEX
+abbrev pub with_key : Line → Option Form
+with_key (name ∷ mode ∷ unit ∷ dun_bytes ∷ digits ∷ []) = key_form name (mode_of mode) unit dun_bytes digits
+with_key _ = None
+
+-- `-` stands for the key exactly where it stands for the number
+abbrev pub dashes_agree : BioForm → Bool
+dashes_agree bio = if bytes_eq bio.key dash then bytes_eq bio.number dash else not (bytes_eq bio.number dash)
+
+abbrev pub text_form : List ℕ → List ℕ → Option TextForm
+text_form word digits =
+    if bytes_eq word (codes "fill") then Some (Fill digits)
+    else (if bytes_eq word (codes "hex") then Some (Hex digits) else None)
+
+abbrev pub read_form : BioForm → Option Form
+read_form bio = if dashes_agree bio then Some (Read bio) else None
+
+abbrev pub write_form : BioForm → Option TextForm → Option Form
+write_form bio None = None
+write_form bio (Some text) = if dashes_agree bio then Some (Write bio text) else None
+
+-- KEY SECTOR UNITS NUMBER
+abbrev pub with_bio : Line → Option Form
+with_bio (key ∷ sector ∷ units ∷ number ∷ []) = read_form (record { key = key; sector = sector; units = units; number = number })
+with_bio _ = None
+
+-- KEY SECTOR UNITS NUMBER, and `fill` or `hex` with digits
+abbrev pub with_bio_and_text : Line → Option Form
+with_bio_and_text (key ∷ sector ∷ units ∷ number ∷ word ∷ digits ∷ []) =
+    write_form (record { key = key; sector = sector; units = units; number = number }) (text_form word digits)
+with_bio_and_text _ = None
+
+-- the form that a line has by its first word and its other fields, if it has one
+abbrev pub form_of_word : List ℕ → Line → Option Form
+form_of_word word fields =
+    if bytes_eq word (codes "write") then with_bio_and_text fields
+    else (if bytes_eq word (codes "read") then with_bio fields
+    else (if bytes_eq word (codes "evict") then with_one Evict fields
+    else (if bytes_eq word (codes "reset") then with_one Reset fields
+    else (if bytes_eq word (codes "plug") then alone Plug fields
+    else (if bytes_eq word (codes "unplug") then alone Unplug fields
+    else (if bytes_eq word (codes "thread") then alone Thread fields
+    else (if bytes_eq word (codes "key") then with_key fields
+    else (if bytes_eq word (codes "blkcrypt") then with_word (codes "1") Version fields
+    else (if bytes_eq word (codes "disk") then with_one Disk fields
+    else (if bytes_eq word (codes "fallback") then with_word (codes "on") Fallback fields
+    else (if bytes_eq word (codes "end") then alone End fields
+    else None)))))))))))
+
+abbrev pub form_of : Line → Option Form
+form_of [] = None
+form_of (word ∷ fields) = form_of_word word fields
+
+-- ---- where lines may stand
+
+abbrev pub sort_of : Form → Sort
+sort_of Version = sorts.Version
+sort_of (Disk blocks) = sorts.Disk
+sort_of Fallback = sorts.Fallback
+sort_of (Key key) = sorts.Key
+sort_of Thread = sorts.Thread
+sort_of End = sorts.End
+sort_of _ = sorts.Operation
+
+-- A line of this sort may stand behind the line of that sort, or as the first line. The first three lines stand once and in
+-- order; then come keys, then sections, then the end.
+abbrev pub may_follow : Option Sort → Sort → Bool
+may_follow None sorts.Version = true
+may_follow (Some sorts.Version) sorts.Disk = true
+may_follow (Some sorts.Disk) sorts.Fallback = true
+may_follow (Some sorts.Fallback) sorts.Key = true
+may_follow (Some sorts.Fallback) sorts.Thread = true
+may_follow (Some sorts.Fallback) sorts.End = true
+may_follow (Some sorts.Key) sorts.Key = true
+may_follow (Some sorts.Key) sorts.Thread = true
+may_follow (Some sorts.Key) sorts.End = true
+may_follow (Some sorts.Thread) sorts.Operation = true
+may_follow (Some sorts.Thread) sorts.Thread = true
+may_follow (Some sorts.Thread) sorts.End = true
+may_follow (Some sorts.Operation) sorts.Operation = true
+may_follow (Some sorts.Operation) sorts.Thread = true
+may_follow (Some sorts.Operation) sorts.End = true
+may_follow _ _ = false
+
+-- A line of a form that isn't built yet, at a place where it may stand: software that doesn't do what no device can, a device
+-- (behind the first three lines), or a planned fault (behind the keys, or behind the first three lines where there are none).
+abbrev pub is_unbuilt : Option Sort → Line → Bool
+is_unbuilt (Some sorts.Disk) (word ∷ switch ∷ []) = bytes_eq word (codes "fallback") && bytes_eq switch (codes "off")
+is_unbuilt (Some sorts.Fallback) (word ∷ fields) = bytes_eq word (codes "device") || bytes_eq word (codes "fault")
+is_unbuilt (Some sorts.Key) (word ∷ fields) = bytes_eq word (codes "fault")
+is_unbuilt _ _ = false

@@ -1,0 +1,144 @@
+-- What one line says: the line that says it, whether it fits behind the lines that have been read, and what is read with it.
+-- The contracts of private functions speak of this; no public one does.
+use Rattle.std.specs.Prelude.{◌≡◌, ℕ, ◌+◌, ◌<◌, ◌≤◌, Bool, true, false, List, [], ◌∷◌, ◌++◌, codes, length, sum_by, Option, Some, None, IsSome, ⊤}
+use Rattle.bc_text.specs.Lines.{Line}
+use Rattle.bc_script.specs.declared.op.Op.{Op}
+use Rattle.bc_script.specs.declared.sort.Sort.{Sort}
+use Rattle.bc_script.specs.declared.sort.Sort.TheVariants as sorts
+use Rattle.bc_script.specs.declared.script_error.ScriptWhy.{ScriptWhy}
+use Rattle.bc_script.specs.declared.item.Item.{Item}
+use Rattle.bc_script.specs.declared.item.Item.TheVariants as items
+use Rattle.bc_script.specs.declared.item.Unread.{Unread}
+use Rattle.bc_script.specs.declared.item.Unread.TheVariants as unread
+use Rattle.bc_script.specs.declared.named_key.NamedKey.{NamedKey}
+use Rattle.bc_script.specs.Script.{IsDiskSize, IsNamedKey, IsOp, bare_keys, open_behind, units_of, units_of_section, max_keys, max_threads, max_ops, max_units}
+use Rattle.bc_script.specs.ScriptText.{version_line, disk_line, fallback_line, key_line, thread_line, op_line, end_line, mode_text}
+use Rattle.bc_script.specs.Forms.{Form, Version, Disk, Fallback, Key, Thread, Write, Read, Evict, Reset, Plug, Unplug, End, KeyForm, BioForm, TextForm, Fill, Hex, sort_of, may_follow, dashes_agree}
+use Rattle.bc_script.specs.ScriptErrors.{Why}
+use Rattle.bc_script.specs.NamedKeys.{IsNoName}
+use Rattle.bc_script.specs.Progress.{Progress, IsProgress, sections_read}
+
+-- ---- lines by their forms
+
+abbrev pub text_line : TextForm → Line
+text_line (Fill digits) = codes "fill" ∷ digits ∷ []
+text_line (Hex digits) = codes "hex" ∷ digits ∷ []
+
+-- the one line that has this form
+abbrev pub form_line : Form → Line
+form_line Version = codes "blkcrypt" ∷ codes "1" ∷ []
+form_line (Disk blocks) = codes "disk" ∷ blocks ∷ []
+form_line Fallback = codes "fallback" ∷ codes "on" ∷ []
+form_line (Key key) = codes "key" ∷ key.name ∷ mode_text key.mode ∷ key.unit ∷ key.dun_bytes ∷ key.digits ∷ []
+form_line Thread = codes "thread" ∷ []
+form_line (Write bio text) = codes "write" ∷ bio.key ∷ bio.sector ∷ bio.units ∷ bio.number ∷ text_line text
+form_line (Read bio) = codes "read" ∷ bio.key ∷ bio.sector ∷ bio.units ∷ bio.number ∷ []
+form_line (Evict key) = codes "evict" ∷ key ∷ []
+form_line (Reset device) = codes "reset" ∷ device ∷ []
+form_line Plug = codes "plug" ∷ []
+form_line Unplug = codes "unplug" ∷ []
+form_line End = codes "end" ∷ []
+
+-- ---- items
+
+-- the line that says it
+abbrev pub line_of : List NamedKey → Item → Line
+line_of keys items.Version = version_line
+line_of keys (items.Disk blocks) = disk_line blocks
+line_of keys items.Fallback = fallback_line true
+line_of keys (items.Key named) = key_line named
+line_of keys items.Thread = thread_line
+line_of keys (items.Operation op) = op_line keys op
+line_of keys items.End = end_line
+
+abbrev pub sort_of_item : Item → Sort
+sort_of_item items.Version = sorts.Version
+sort_of_item (items.Disk blocks) = sorts.Disk
+sort_of_item items.Fallback = sorts.Fallback
+sort_of_item (items.Key named) = sorts.Key
+sort_of_item items.Thread = sorts.Thread
+sort_of_item (items.Operation op) = sorts.Operation
+sort_of_item items.End = sorts.End
+
+-- a valid key with a new name, of which there is room for one more
+pub record FitsKey (p : Progress) (named : NamedKey) : Type 0 where
+  pub valid : IsNamedKey named
+  pub fresh : IsNoName p.keys named.name
+  pub room : length p.keys < max_keys
+
+-- a valid operation, which opens no plug twice and closes none that isn't open, and for which there is room
+pub record FitsOp (p : Progress) (op : Op) : Type 0 where
+  pub valid : IsOp (bare_keys p.keys) op
+  pub plugs : IsSome (open_behind false (p.section ++ op ∷ []))
+  pub room : sum_by length (sections_read p) < max_ops
+  pub units : sum_by units_of_section (sections_read p) + units_of op ≤ max_units
+
+-- each plug of the section that is being read is closed
+abbrev pub IsClosed : Progress → Type 0
+IsClosed p = open_behind false p.section ≡ Some false
+
+-- a line of this sort ends the section above it
+abbrev pub EndsSection : Sort → Type 0
+EndsSection sorts.Thread = ⊤
+EndsSection sorts.End = ⊤
+EndsSection _ = ⊥
+
+-- there is room for one more section, where one begins
+abbrev pub HasRoomFor : Progress → Sort → Type 0
+HasRoomFor p sorts.Thread = length (sections_read p) < max_threads
+HasRoomFor p _ = ⊤
+
+-- it fits behind what has been read
+abbrev pub Fits : Progress → Item → Type 0
+Fits p items.Version = ⊤
+Fits p (items.Disk blocks) = IsDiskSize blocks
+Fits p items.Fallback = ⊤
+Fits p (items.Key named) = FitsKey p named
+Fits p items.Thread = IsClosed p × (length (sections_read p) < max_threads)
+Fits p (items.Operation op) = FitsOp p op
+Fits p items.End = IsClosed p
+
+-- the section that is being read has ended, with a line of this sort
+abbrev pub with_section_ended : Progress → Sort → Progress
+with_section_ended p sort = record { last = Some sort; blocks = p.blocks; keys = p.keys; threads = sections_read p; section = [] }
+
+-- what has been read with the item
+abbrev pub with_item : Progress → Item → Progress
+with_item p items.Version = record p { last = Some sorts.Version }
+with_item p (items.Disk blocks) = record p { last = Some sorts.Disk; blocks = blocks }
+with_item p items.Fallback = record p { last = Some sorts.Fallback }
+with_item p (items.Key named) = record p { last = Some sorts.Key; keys = p.keys ++ named ∷ [] }
+with_item p items.Thread = with_section_ended p sorts.Thread
+with_item p (items.Operation op) = record p { last = Some sorts.Operation; section = p.section ++ op ∷ [] }
+with_item p items.End = with_section_ended p sorts.End
+
+-- a line of this form says the item, which fits behind what has been read
+pub record IsSaid (p : Progress) (form : Form) (item : Item) : Type 0 where
+  pub line_is : form_line form ≡ line_of p.keys item
+  pub sort_is : sort_of form ≡ sort_of_item item
+  pub fits : Fits p item
+
+-- the line says the item, which may stand behind what has been read and fits
+pub record IsNext (p : Progress) (line : Line) (item : Item) : Type 0 where
+  pub rules : IsProgress p
+  pub line_is : line ≡ line_of p.keys item
+  pub follows : may_follow p.last (sort_of_item item) ≡ true
+  pub fits : Fits p item
+
+-- `-` stands for the key exactly where it stands for the number
+abbrev pub DashesAgree : Form → Type 0
+DashesAgree (Write bio text) = dashes_agree bio ≡ true
+DashesAgree (Read bio) = dashes_agree bio ≡ true
+DashesAgree _ = ⊤
+
+-- ---- refusals
+
+-- a line is not read since it fails this test, or for want of memory
+abbrev pub Tells : Why → Unread → Type 0
+Tells why (unread.Bad kind) = why ≡ Some kind
+Tells why unread.Memory = ⊤
+
+-- the same of one test alone
+abbrev pub Refuses : Bool → ScriptWhy → Unread → Type 0
+Refuses passed kind (unread.Bad why) = (passed ≡ false) × (why ≡ kind)
+Refuses passed kind unread.Memory = ⊤

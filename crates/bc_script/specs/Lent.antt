@@ -1,0 +1,33 @@
+-- The form of a line whose fields are lent: the same form with the fields themselves. The contracts of private functions
+-- speak of these; no public one does.
+use Rattle.bc_script.specs.Forms.{Form, Version, Disk, Fallback, Key, Thread, Write, Read, Evict, Reset, Plug, Unplug, End, KeyForm, BioForm, TextForm, Fill, Hex}
+use Rattle.bc_script.specs.declared.form.KeyForm as key_forms
+use Rattle.bc_script.specs.declared.form.BioForm as bio_forms
+use Rattle.bc_script.specs.declared.form.TextForm as text_forms
+use Rattle.bc_script.specs.declared.form.TextForm.TheVariants as lent_texts
+use Rattle.bc_script.specs.declared.form.Form as lent_forms
+use Rattle.bc_script.specs.declared.form.Form.TheVariants as lent
+
+abbrev pub key_lent : key_forms.KeyForm → KeyForm
+key_lent key = record { name = key.name.now; mode = key.mode; unit = key.unit.now; dun_bytes = key.dun_bytes.now; digits = key.digits.now }
+
+abbrev pub bio_lent : bio_forms.BioForm → BioForm
+bio_lent bio = record { key = bio.key.now; sector = bio.sector.now; units = bio.units.now; number = bio.number.now }
+
+abbrev pub text_lent : text_forms.TextForm → TextForm
+text_lent (lent_texts.Fill digits) = Fill digits.now
+text_lent (lent_texts.Hex digits) = Hex digits.now
+
+abbrev pub form_lent : lent_forms.Form → Form
+form_lent lent.Version = Version
+form_lent (lent.Disk blocks) = Disk blocks.now
+form_lent lent.Fallback = Fallback
+form_lent (lent.Key key) = Key (key_lent key)
+form_lent lent.Thread = Thread
+form_lent (lent.Write bio text) = Write (bio_lent bio) (text_lent text)
+form_lent (lent.Read bio) = Read (bio_lent bio)
+form_lent (lent.Evict key) = Evict key.now
+form_lent (lent.Reset device) = Reset device.now
+form_lent lent.Plug = Plug
+form_lent lent.Unplug = Unplug
+form_lent lent.End = End

@@ -1,0 +1,13 @@
+pub mod Name
+pub mod Script
+pub mod ScriptText
+pub mod Forms
+pub mod ScriptErrors
+pub mod Progress
+pub mod Says
+pub mod Lent
+pub mod NamedKeys
+pub mod Items
+pub mod BioFields
+pub mod Reading
+pub mod Parsing

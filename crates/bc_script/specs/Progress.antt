@@ -1,0 +1,86 @@
+-- A script that is being read: what the lines say that have been read so far. The contracts of private functions speak of
+-- this; no public one does.
+use Rattle.std.specs.Prelude.{◌≡◌, ℕ, ◌≤◌, Bool, true, false, List, [], ◌∷◌, ◌++◌, length, map, flat_map, sum_by, Option, Some, None, IsSome}
+use Rattle.std.specs.List.{AllByRecursion}
+use Rattle.bc_text.specs.Lines.{Line}
+use Rattle.bc_script.specs.declared.named_key.NamedKey.{NamedKey}
+use Rattle.bc_script.specs.declared.op.Op.{Op}
+use Rattle.bc_script.specs.declared.sort.Sort.{Sort}
+use Rattle.bc_script.specs.declared.sort.Sort.TheVariants as sorts
+use Rattle.bc_script.specs.Script.{IsDiskSize, AreKeys, IsOp, IsSection, bare_keys, open_behind, units_of_section, max_threads, max_ops, max_units}
+use Rattle.bc_script.specs.ScriptText.{version_line, disk_line, fallback_line, key_line, section_lines, end_line}
+use Rattle.bc_script.specs.Forms.{Form, form_of}
+use Rattle.bc_script.specs.ScriptErrors.{with_form}
+
+-- the sort of the nearest line, the disk's blocks, the keys, the sections that have ended, and the operations of the
+-- section that is being read
+pub record Progress : Type 0 where
+  pub last : Option Sort
+  pub blocks : ℕ
+  pub keys : List NamedKey
+  pub threads : List (List Op)
+  pub section : List Op
+
+-- ---- the lines that have been read
+
+-- as many of the first three as there are
+abbrev pub head_read : Option Sort → ℕ → List Line
+head_read None blocks = []
+head_read (Some sorts.Version) blocks = version_line ∷ []
+head_read (Some sorts.Disk) blocks = version_line ∷ disk_line blocks ∷ []
+head_read (Some _) blocks = version_line ∷ disk_line blocks ∷ fallback_line true ∷ []
+
+-- whether a section is being read
+abbrev pub is_in_section : Option Sort → Bool
+is_in_section (Some sorts.Thread) = true
+is_in_section (Some sorts.Operation) = true
+is_in_section _ = false
+
+abbrev pub with_section : Bool → List Op → List (List Op)
+with_section false section = []
+with_section true section = section ∷ []
+
+-- the sections, with the one that is being read
+abbrev pub sections_read : Progress → List (List Op)
+sections_read p = p.threads ++ with_section (is_in_section p.last) p.section
+
+abbrev pub end_read : Option Sort → List Line
+end_read (Some sorts.End) = end_line ∷ []
+end_read _ = []
+
+abbrev pub lines_read : Progress → List Line
+lines_read p =
+    head_read p.last p.blocks ++ (map key_line p.keys ++ (flat_map (section_lines p.keys) (sections_read p) ++ end_read p.last))
+
+-- the forms of lines below those above, the nearest first
+abbrev pub forms_below : List Form → List Line → List Form
+forms_below above [] = above
+forms_below above (line ∷ lines) = forms_below (with_form (form_of line) above) lines
+
+-- the forms of the lines that have been read, the nearest first
+abbrev pub forms_read : Progress → List Form
+forms_read p = forms_below [] (lines_read p)
+
+-- ---- what holds of them
+
+-- nothing is read yet of what stands below the nearest line
+abbrev pub IsAt : Option Sort → Progress → Type 0
+IsAt None p = (p.keys ≡ []) × (p.threads ≡ []) × (p.section ≡ [])
+IsAt (Some sorts.Version) p = (p.keys ≡ []) × (p.threads ≡ []) × (p.section ≡ [])
+IsAt (Some sorts.Disk) p = IsDiskSize p.blocks × (p.keys ≡ []) × (p.threads ≡ []) × (p.section ≡ [])
+IsAt (Some sorts.Fallback) p = IsDiskSize p.blocks × (p.keys ≡ []) × (p.threads ≡ []) × (p.section ≡ [])
+IsAt (Some sorts.Key) p = IsDiskSize p.blocks × (1 ≤ length p.keys) × (p.threads ≡ []) × (p.section ≡ [])
+IsAt (Some sorts.Thread) p = IsDiskSize p.blocks × (p.section ≡ [])
+IsAt (Some sorts.Operation) p = IsDiskSize p.blocks × (1 ≤ length p.section)
+IsAt (Some sorts.End) p = IsDiskSize p.blocks × (p.section ≡ [])
+
+-- the rules of a script, as far as it has been read
+pub record IsProgress (p : Progress) : Type 0 where
+  pub at : IsAt p.last p
+  pub keys : AreKeys p.keys
+  pub threads : AllByRecursion (IsSection (bare_keys p.keys)) p.threads
+  pub section : AllByRecursion (IsOp (bare_keys p.keys)) p.section
+  pub plugs : IsSome (open_behind false p.section)
+  pub few_threads : length (sections_read p) ≤ max_threads
+  pub few_ops : sum_by length (sections_read p) ≤ max_ops
+  pub few_units : sum_by units_of_section (sections_read p) ≤ max_units

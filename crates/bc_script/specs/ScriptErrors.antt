@@ -1,0 +1,215 @@
+-- The first line of a text that fails a test, and the first test that it fails.
+--
+-- A test speaks of its line and of the lines above: how many keys, operations or data units those have is a count or a sum
+-- over their forms, which stand here with the nearest line first.
+use Rattle.std.specs.Prelude.{ℕ, ◌+◌, ◌*◌, ◌/◌, ◌^◌, ◌&&◌, ◌||◌, not, nat_lt, nat_le, Bool, true, false, if◌then◌else◌, List, [], ◌∷◌, length, Option, Some, None, is_some, sum_by, count_by, unwrap_or}
+use Rattle.std.specs.Option.{option_map, option_map_or}
+use Rattle.std.specs.Result.{result_ok}
+use Rattle.std.specs.Str.{bytes_eq}
+use Rattle.std.specs.Str.Parse.{digits_value}
+use Rattle.std.specs.Fmt.{decimal}
+use Rattle.hex.specs.Hex.{encode_lower, decode_of}
+use Rattle.bc_text.specs.Lines.{Line, lines_of}
+use Rattle.bc_key.specs.NumberText.{number_text}
+use Rattle.bc_key.specs.KeyRefusal.{key_refusal}
+use Rattle.bc_script.specs.declared.sort.Sort.{Sort}
+use Rattle.bc_script.specs.declared.sort.Sort.TheVariants as sorts
+use Rattle.bc_script.specs.declared.script_error.ScriptWhy.{ScriptWhy}
+use Rattle.bc_script.specs.declared.script_error.ScriptWhy.TheVariants as why
+use Rattle.bc_script.specs.declared.script_error.ScriptError.{ScriptError}
+use Rattle.bc_script.specs.Name.{is_name}
+use Rattle.bc_script.specs.Script.{max_keys, max_threads, max_ops, max_units, max_bio_units, max_bio_sectors}
+use Rattle.bc_script.specs.ScriptText.{dash}
+use Rattle.bc_script.specs.Forms.{Form, Disk, Key, Thread, Write, Read, Evict, Reset, Plug, Unplug, End, KeyForm, BioForm, TextForm, Fill, Hex, form_of, sort_of, may_follow, is_unbuilt}
+
+-- ---- what fields say: a field is malformed where it isn't the text of its value
+
+-- the number that decimal digits say
+abbrev pub number_in : List ℕ → ℕ
+number_in field = digits_value 10 field
+
+-- the decimal text of a number in a range
+abbrev pub is_number : ℕ → ℕ → List ℕ → Bool
+is_number least most field = bytes_eq (decimal (number_in field)) field && (nat_le least (number_in field) && nat_le (number_in field) most)
+
+-- the text of a data unit number
+abbrev pub is_number_text : List ℕ → Bool
+is_number_text field = bytes_eq (number_text (digits_value 16 field)) field && nat_lt (digits_value 16 field) (2 ^ 256)
+
+-- the bytes that hexadecimal digits say
+abbrev pub bytes_in : List ℕ → List ℕ
+bytes_in field = unwrap_or (result_ok (decode_of field)) []
+
+-- the lower-case digits of so many bytes, of which there are some
+abbrev pub is_hex_text : ℕ → ℕ → List ℕ → Bool
+is_hex_text least most field =
+    bytes_eq (encode_lower (bytes_in field)) field && (nat_le least (length (bytes_in field)) && nat_le (length (bytes_in field)) most)
+
+-- ---- what the lines above say
+
+abbrev pub last_sort : List Form → Option Sort
+last_sort [] = None
+last_sort (form ∷ above) = Some (sort_of form)
+
+abbrev pub is_key : Form → Bool
+is_key (Key key) = true
+is_key _ = false
+
+abbrev pub is_thread : Form → Bool
+is_thread Thread = true
+is_thread _ = false
+
+abbrev pub is_operation : Form → Bool
+is_operation (Write bio text) = true
+is_operation (Read bio) = true
+is_operation (Evict key) = true
+is_operation (Reset device) = true
+is_operation Plug = true
+is_operation Unplug = true
+is_operation _ = false
+
+abbrev pub units_in : Form → ℕ
+units_in (Write bio text) = number_in bio.units
+units_in (Read bio) = number_in bio.units
+units_in _ = 0
+
+-- the key's line with this name
+abbrev pub key_named : List ℕ → List Form → Option KeyForm
+key_named name [] = None
+key_named name (Key key ∷ above) = if bytes_eq key.name name then Some key else key_named name above
+key_named name (form ∷ above) = key_named name above
+
+abbrev pub is_declared : List ℕ → List Form → Bool
+is_declared name above = is_some (key_named name above)
+
+-- how many sectors a data unit has under the key with this name, and one without a key
+abbrev pub sectors_under : List ℕ → List Form → ℕ
+sectors_under name above = option_map_or (λ (key : KeyForm). number_in key.unit / 512) (key_named name above) 1
+
+-- whether a plug is open: the nearest line that opens or closes one decides
+abbrev pub is_open : List Form → Bool
+is_open [] = false
+is_open (Plug ∷ above) = true
+is_open (Unplug ∷ above) = false
+is_open (form ∷ above) = is_open above
+
+-- ---- the tests of each form, in their order: its fields from left to right, then the key, the order and the limits
+
+abbrev pub Why : Type 0
+Why = Option ScriptWhy
+
+-- go on to the next test where this one is passed
+abbrev pub first_of : Bool → ScriptWhy → Why → Why
+first_of passed kind next = if passed then next else Some kind
+
+abbrev pub number_test : ℕ → ℕ → List ℕ → Why → Why
+number_test least most field next = first_of (is_number least most field) why.Number next
+
+abbrev pub key_refused : KeyForm → Why
+key_refused key =
+    option_map (λ error. why.Key error) (key_refusal key.mode (bytes_in key.digits) (number_in key.unit) (number_in key.dun_bytes))
+
+-- go on to the next test where the key is one
+abbrev pub key_test : Why → Why → Why
+key_test None next = next
+key_test (Some kind) next = Some kind
+
+abbrev pub key_tests : List Form → KeyForm → Why
+key_tests above key =
+    first_of (is_name key.name && not (is_declared key.name above)) why.Name
+    (number_test 0 4294967295 key.unit
+    (number_test 0 255 key.dun_bytes
+    (first_of (is_hex_text 1 128 key.digits) why.Hex
+    (key_test (key_refused key)
+    (first_of (nat_lt (count_by is_key above) max_keys) why.Limit
+    None)))))
+
+-- a section has room for one more operation
+abbrev pub op_limit : List Form → Why
+op_limit above = first_of (nat_lt (count_by is_operation above) max_ops) why.Limit None
+
+-- a bio has few enough sectors, and the script few enough data units and operations
+abbrev pub bio_limits : List Form → BioForm → Why
+bio_limits above bio =
+    first_of (nat_le (number_in bio.units * sectors_under bio.key above) max_bio_sectors) why.Limit
+    (first_of (nat_le (sum_by units_in above + number_in bio.units) max_units) why.Limit
+    (op_limit above))
+
+-- `-`, or a declared name; a sector; a number of data units; `-`, or a data unit number
+abbrev pub bio_tests : List Form → BioForm → Why → Why
+bio_tests above bio next =
+    first_of (bytes_eq bio.key dash || is_declared bio.key above) why.Name
+    (number_test 0 4294967295 bio.sector
+    (number_test 0 max_bio_units bio.units
+    (first_of (bytes_eq bio.number dash || is_number_text bio.number) why.Number
+    next)))
+
+-- one byte; or the bytes of all data units, of which there is one at least
+abbrev pub is_text : ℕ → TextForm → Bool
+is_text size (Fill digits) = is_hex_text 1 1 digits
+is_text size (Hex digits) = is_hex_text size size digits && nat_lt 0 size
+
+-- how many bytes a bio has
+abbrev pub size_of : List Form → BioForm → ℕ
+size_of above bio = number_in bio.units * (512 * sectors_under bio.key above)
+
+abbrev pub tests_of : List Form → Form → Why
+tests_of above (Disk blocks) = number_test 1 16384 blocks None
+tests_of above (Key key) = key_tests above key
+tests_of above Thread = first_of (not (is_open above)) why.Order (first_of (nat_lt (count_by is_thread above) max_threads) why.Limit None)
+tests_of above (Write bio text) = bio_tests above bio (first_of (is_text (size_of above bio) text) why.Hex (bio_limits above bio))
+tests_of above (Read bio) = bio_tests above bio (bio_limits above bio)
+tests_of above (Evict name) = first_of (is_declared name above) why.Name (op_limit above)
+-- there is no device that could be named
+tests_of above (Reset device) = Some why.Number
+tests_of above Plug = first_of (not (is_open above)) why.Order (op_limit above)
+tests_of above Unplug = first_of (is_open above) why.Order (op_limit above)
+tests_of above End = first_of (not (is_open above)) why.Order None
+tests_of above _ = None
+
+-- ---- the first line that fails
+
+abbrev pub is_end : Option Sort → Bool
+is_end (Some sorts.End) = true
+is_end _ = false
+
+-- the test that a line of this form fails, or of none
+abbrev pub error_of_form : List Form → Option Form → Why
+error_of_form above None = Some why.Word
+error_of_form above (Some form) = first_of (may_follow (last_sort above) (sort_of form)) why.Word (tests_of above form)
+
+-- the test that a line fails
+abbrev pub error_at : List Form → Line → Why
+error_at above line =
+    first_of (not (is_end (last_sort above))) why.End
+    (first_of (not (is_unbuilt (last_sort above) line)) why.NotBuilt
+    (error_of_form above (form_of line)))
+
+-- a line of one empty field, as stands behind the last line feed
+abbrev pub is_nothing : Line → Bool
+is_nothing ([] ∷ []) = true
+is_nothing _ = false
+
+-- the text ends here: behind the `end` line, and with a line feed; or too early
+abbrev pub error_at_end : List Form → Line → Why
+error_at_end above tail = first_of (is_end (last_sort above) && is_nothing tail) why.End None
+
+abbrev pub with_form : Option Form → List Form → List Form
+with_form None above = above
+with_form (Some form) above = form ∷ above
+
+-- this line's error, or that of the lines below where it has none
+abbrev pub or_below : ℕ → Why → Option ScriptError → Option ScriptError
+or_below number None below = below
+or_below number (Some kind) below = Some (record { line = number; why = kind })
+
+-- The first line, from 1, that fails, and the test. The last of the lines is what stands behind the last line feed.
+abbrev pub first_error : List Form → List Line → Option ScriptError
+first_error above [] = None
+first_error above (tail ∷ []) = or_below (length above + 1) (error_at_end above tail) None
+first_error above (line ∷ next ∷ below) =
+    or_below (length above + 1) (error_at above line) (first_error (with_form (form_of line) above) (next ∷ below))
+
+-- why a text is no script's, if it is none
+abbrev pub error_of : List ℕ → Option ScriptError
+error_of text = first_error [] (lines_of text)

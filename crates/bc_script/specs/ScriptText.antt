@@ -1,0 +1,116 @@
+-- The text of a script: its lines, each by its fields. Each sort of line is one definition.
+use Rattle.std.specs.Prelude.{◌≡◌, ℕ, Bool, true, false, List, [], ◌∷◌, ◌++◌, codes, map, flat_map, slice_get, unwrap_or, Option, Some, None}
+use Rattle.std.specs.Option.{option_map}
+use Rattle.std.specs.Fmt.{decimal}
+use Rattle.hex.specs.Hex.{encode_lower}
+use Rattle.bc_text.specs.Lines.{Line, text_of}
+use Rattle.bc_text.specs.Fields.{byte_text}
+use Rattle.bc_key.specs.declared.config.Mode.{Mode}
+use Rattle.bc_key.specs.declared.config.Mode.TheVariants.{Aes256Xts, Aes128CbcEssiv}
+use Rattle.bc_key.specs.declared.keys.KeyNo.{KeyNo}
+use Rattle.bc_key.specs.DataUnits.{bytes_of}
+use Rattle.bc_key.specs.NumberText.{number_text}
+use Rattle.bc_bio.specs.declared.bio.Context.{Context}
+use Rattle.bc_script.specs.declared.named_key.NamedKey.{NamedKey}
+use Rattle.bc_script.specs.declared.op.Op.{Op}
+use Rattle.bc_script.specs.declared.op.Op.TheVariants.{Write, Read, Evict, Reset, Plug, Unplug}
+use Rattle.bc_script.specs.declared.op.Text.{Text}
+use Rattle.bc_script.specs.declared.op.Text.TheVariants.{Fill, Bytes}
+use Rattle.bc_script.specs.Script.{Script, IsScript}
+
+-- ---- the first three lines
+
+abbrev pub version_line : Line
+version_line = codes "blkcrypt" ∷ codes "1" ∷ []
+
+abbrev pub disk_line : ℕ → Line
+disk_line blocks = codes "disk" ∷ decimal blocks ∷ []
+
+abbrev pub on_off : Bool → List ℕ
+on_off true = codes "on"
+on_off false = codes "off"
+
+abbrev pub fallback_line : Bool → Line
+fallback_line fallback = codes "fallback" ∷ on_off fallback ∷ []
+
+abbrev pub head_lines : Script → List Line
+head_lines s = version_line ∷ disk_line s.blocks ∷ fallback_line s.fallback ∷ []
+
+-- ---- a line for each key
+
+abbrev pub mode_text : Mode → List ℕ
+mode_text Aes256Xts = codes "aes-256-xts"
+mode_text Aes128CbcEssiv = codes "aes-128-cbc-essiv"
+
+-- the name, the mode, the data unit's bytes, the number bytes, and the key's bytes in hexadecimal digits
+abbrev pub key_line : NamedKey → Line
+key_line named =
+    codes "key" ∷ named.name ∷ mode_text named.key.config.mode ∷ decimal (bytes_of named.key.config.unit) ∷ decimal named.key.config.dun_bytes
+    ∷ encode_lower named.key.raw ∷ []
+
+-- ---- a line for each fault that is planned
+
+-- the shard, and the place in its order
+abbrev pub fault_line : ℕ × ℕ → Line
+fault_line fault = codes "fault" ∷ decimal fault.0 ∷ decimal fault.1 ∷ []
+
+-- ---- a line for each thread, and one for each of its operations
+
+-- the name of the key with this number
+abbrev pub name_of : List NamedKey → KeyNo → List ℕ
+name_of keys number = unwrap_or (option_map (λ (named : NamedKey). named.name) (slice_get keys number.0)) []
+
+abbrev pub dash : List ℕ
+dash = codes "-"
+
+abbrev pub key_field : List NamedKey → Option Context → List ℕ
+key_field keys None = dash
+key_field keys (Some context) = name_of keys context.key
+
+abbrev pub number_field : Option Context → List ℕ
+number_field None = dash
+number_field (Some context) = number_text context.dun
+
+abbrev pub text_fields : Text → Line
+text_fields (Fill byte) = codes "fill" ∷ byte_text byte ∷ []
+text_fields (Bytes bytes) = codes "hex" ∷ encode_lower bytes ∷ []
+
+-- the key, the sector, the number of units, and the number of the first unit
+abbrev pub bio_fields : List NamedKey → Option Context → ℕ → ℕ → Line
+bio_fields keys context sector units = key_field keys context ∷ decimal sector ∷ decimal units ∷ number_field context ∷ []
+
+abbrev pub op_line : List NamedKey → Op → Line
+op_line keys (Write context sector units text) = codes "write" ∷ (bio_fields keys context sector units ++ text_fields text)
+op_line keys (Read context sector units) = codes "read" ∷ bio_fields keys context sector units
+op_line keys (Evict key) = codes "evict" ∷ name_of keys key ∷ []
+op_line keys (Reset device) = codes "reset" ∷ decimal device ∷ []
+op_line keys Plug = codes "plug" ∷ []
+op_line keys Unplug = codes "unplug" ∷ []
+
+abbrev pub thread_line : Line
+thread_line = codes "thread" ∷ []
+
+abbrev pub section_lines : List NamedKey → List Op → List Line
+section_lines keys section = thread_line ∷ map (op_line keys) section
+
+-- ---- the whole text
+
+abbrev pub end_line : Line
+end_line = codes "end" ∷ []
+
+abbrev pub script_lines : Script → List Line
+script_lines s =
+    head_lines s ++ (map key_line s.keys ++ (map fault_line s.faults ++ (flat_map (section_lines s.keys) s.threads ++ end_line ∷ [])))
+
+-- the one text of a script
+abbrev pub script_text : Script → List ℕ
+script_text s = text_of (script_lines s)
+
+-- the text is this script's
+pub record Says (text : List ℕ) (s : Script) : Type 0 where
+  pub valid : IsScript s
+  pub text_is : text ≡ script_text s
+
+-- no script has this text
+abbrev pub NoScriptHas : List ℕ → Type 0
+NoScriptHas text = (s : Script) → IsScript s → text ≡ script_text s → ⊥

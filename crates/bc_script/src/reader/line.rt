@@ -1,0 +1,362 @@
+//! The tests of a line, in their order.
+
+ghost use Rattle.std.specs.Prelude.{◌≡◌, ℕ, ◌+◌, ◌*◌, ◌≤◌, ◌&&◌, ◌||◌, not, nat_le, nat_lt, true, length, sum_by, IfOk, IfErr, MatchResult};
+ghost use Rattle.std.specs.Str.{bytes_eq};
+ghost use Rattle.bc_bio.specs.Extent.{unit_sectors};
+ghost use Rattle.bc_script.specs.declared.script_error.ScriptWhy.TheVariants as why;
+ghost use Rattle.bc_script.specs.declared.item.Item.TheVariants as items;
+ghost use Rattle.bc_script.specs.Name.{is_name};
+ghost use Rattle.bc_script.specs.Script.{IsContext, bare_keys, units_of_section, max_bio_units, max_bio_sectors, max_ops, max_units};
+ghost use Rattle.bc_script.specs.ScriptText.{dash};
+ghost use Rattle.bc_script.specs.Forms as forms;
+ghost use Rattle.bc_script.specs.ScriptErrors.{error_at, tests_of, is_declared, is_number_text, is_text, is_number};
+ghost use Rattle.bc_script.specs.Progress.{IsProgress, forms_read, sections_read};
+ghost use Rattle.bc_script.specs.Says.{SaysNumber};
+ghost use Rattle.bc_script.specs.Lent.{key_lent, bio_lent, text_lent, form_lent};
+ghost use Rattle.bc_script.specs.Items.{IsNext, IsSaid, DashesAgree, Tells, Refuses};
+ghost use Rattle.bc_script.specs.BioFields.{IsNewName, IsDeclared, SaysKey, SaysNumberField, SaysBio, RefusesBio, SaysText, context_with};
+
+use super::{Reader, is_end, is_in_section};
+use crate::field;
+use crate::form::{self, BioForm, Form, KeyForm, TextForm};
+use crate::item::{Item, Unread};
+use crate::name::Name;
+use crate::named_key::NamedKey;
+use crate::op::{Op, Text};
+use crate::script_error::ScriptWhy;
+use crate::sort::Sort;
+use bc_bio::Context;
+use bc_key::{Dun, Key, KeyNo};
+use bc_text::Parts;
+use std::alloc::Global;
+
+/// The most keys, sections, operations of all sections together, and data units of all bios together.
+const MAX_KEYS: usize = 4096;
+
+const MAX_THREADS: usize = 16;
+
+const MAX_OPS: u32 = 65536;
+
+const MAX_UNITS: u32 = 65536;
+
+/// The most data units of a bio, and the most sectors of them.
+const MAX_BIO_UNITS: u32 = 256;
+
+const MAX_BIO_SECTORS: u32 = 256;
+
+/// The fields that a bio has beside its text.
+#[derive(Clone, Copy)]
+struct BioFields {
+    context: Option<Context>,
+    sector: u32,
+    units: u32,
+}
+
+impl Reader {
+    /// What the next line says.
+    pub(super) fn item(&self, alloc: Global, line: Parts) -> Result<Item, Unread>
+        ensures ok { IfOk result (IsNext self.now line.entry) }
+        ensures bad { IfErr result (Tells (error_at (forms_read self.now) line.entry)) }
+    {
+        let last = self.last_sort();
+        if is_end(last) {
+            return Err(Unread::Bad(ScriptWhy::End));
+        }
+        if form::is_unbuilt(last, &line) {
+            return Err(Unread::Bad(ScriptWhy::NotBuilt));
+        }
+        let Some(form) = form::form_of(line) else {
+            return Err(Unread::Bad(ScriptWhy::Word));
+        };
+        if !form::may_follow(last, form.sort()) {
+            return Err(Unread::Bad(ScriptWhy::Word));
+        }
+        self.said(alloc, form)
+    }
+
+    /// What a line of this form says, where it may stand.
+    fn said(&self, alloc: Global, form: Form) -> Result<Item, Unread>
+        requires { DashesAgree (form_lent form) }
+        ensures { MatchResult result (IsSaid self.now (form_lent form.entry)) (Tells (tests_of (forms_read self.now) (form_lent form.entry))) }
+    {
+        match form {
+            Form::Version => Ok(Item::Version),
+            Form::Disk(blocks) => disk(blocks),
+            Form::Fallback => Ok(Item::Fallback),
+            Form::Key(key) => self.key(key),
+            Form::Thread => self.thread(),
+            Form::Write(bio, text) => self.write(alloc, bio, text),
+            Form::Read(bio) => self.read(bio),
+            Form::Evict(name) => self.evict(name),
+            Form::Reset(_) => Err(Unread::Bad(ScriptWhy::Number)),
+            Form::Plug => self.plug(),
+            Form::Unplug => self.unplug(),
+            Form::End => self.end(),
+        }
+    }
+
+    fn key(&self, form: KeyForm) -> Result<Item, Unread>
+        ensures { MatchResult result (IsSaid self.now (forms.Key (key_lent form.entry))) (Tells (tests_of (forms_read self.now) (forms.Key (key_lent form.entry)))) }
+    {
+        let name = self.new_name(form.name)?;
+        let unit = number(form.unit, 0, u32::MAX)?;
+        let dun_bytes = number(form.dun_bytes, 0, 255)?;
+        let Some(raw) = field::key_bytes(form.digits) else {
+            return Err(Unread::Bad(ScriptWhy::Hex));
+        };
+        let key = match Key::new(form.mode, raw.as_slice(), unit, dun_bytes as u8) {
+            Ok(key) => key,
+            Err(error) => return Err(Unread::Bad(ScriptWhy::Key(error))),
+        };
+        if self.keys.len() >= MAX_KEYS {
+            return Err(Unread::Bad(ScriptWhy::Limit));
+        }
+        Ok(Item::Key(NamedKey { name, key }))
+    }
+
+    /// A name that no key has yet.
+    fn new_name(&self, name: &[u8]) -> Result<Name, Unread>
+        ensures { MatchResult result (IsNewName self.now name.now) (Refuses (is_name name.now && not (is_declared name.now (forms_read self.now))) why.Name) }
+    {
+        if self.keys.number_of(name).is_some() {
+            return Err(Unread::Bad(ScriptWhy::Name));
+        }
+        match Name::of(name) {
+            Some(name) => Ok(name),
+            None => Err(Unread::Bad(ScriptWhy::Name)),
+        }
+    }
+
+    fn thread(&self) -> Result<Item, Unread>
+        ensures { MatchResult result (IsSaid self.now (forms.Thread)) (Tells (tests_of (forms_read self.now) (forms.Thread))) }
+    {
+        if self.plugged {
+            return Err(Unread::Bad(ScriptWhy::Order));
+        }
+        if self.section_count() >= MAX_THREADS {
+            return Err(Unread::Bad(ScriptWhy::Limit));
+        }
+        Ok(Item::Thread)
+    }
+
+    /// How many sections there are, with the one that is being read.
+    fn section_count(&self) -> usize
+        ensures { result ≡ length (sections_read self.now) }
+    {
+        self.threads.len() + usize::from(is_in_section(self.last))
+    }
+
+    fn write(&self, alloc: Global, form: BioForm, text: TextForm) -> Result<Item, Unread>
+        requires dashes { forms.dashes_agree (bio_lent form) ≡ true }
+        ensures { MatchResult result (IsSaid self.now (forms.Write (bio_lent form.entry) (text_lent text.entry))) (Tells (tests_of (forms_read self.now) (forms.Write (bio_lent form.entry) (text_lent text.entry)))) }
+    {
+        let BioFields {
+            context,
+            sector,
+            units,
+        } = self.bio(&form)?;
+        let sectors = self.unit_sectors(&context);
+        let text = text_of(alloc, text, units as usize * (512 * sectors as usize))?;
+        if !self.has_room_for(units, sectors) {
+            return Err(Unread::Bad(ScriptWhy::Limit));
+        }
+        Ok(Item::Operation(Op::Write {
+            context,
+            sector,
+            units,
+            text,
+        }))
+    }
+
+    fn read(&self, form: BioForm) -> Result<Item, Unread>
+        requires dashes { forms.dashes_agree (bio_lent form) ≡ true }
+        ensures { MatchResult result (IsSaid self.now (forms.Read (bio_lent form.entry))) (Tells (tests_of (forms_read self.now) (forms.Read (bio_lent form.entry)))) }
+    {
+        let BioFields {
+            context,
+            sector,
+            units,
+        } = self.bio(&form)?;
+        if !self.has_room_for(units, self.unit_sectors(&context)) {
+            return Err(Unread::Bad(ScriptWhy::Limit));
+        }
+        Ok(Item::Operation(Op::Read {
+            context,
+            sector,
+            units,
+        }))
+    }
+
+    fn bio(&self, form: &BioForm) -> Result<BioFields, Unread>
+        requires dashes { forms.dashes_agree (bio_lent form.now) ≡ true }
+        ensures { MatchResult result (SaysBio self.now (bio_lent form.now)) (RefusesBio self.now (bio_lent form.now)) }
+    {
+        let key = self.bio_key(form.key)?;
+        let sector = number(form.sector, 0, u32::MAX)?;
+        let units = number(form.units, 0, MAX_BIO_UNITS)?;
+        let dun = bio_number(form.number)?;
+        Ok(BioFields {
+            context: context_of(key, dun),
+            sector,
+            units,
+        })
+    }
+
+    /// The key of a bio, which has none where the field is `-`.
+    fn bio_key(&self, name: &[u8]) -> Result<Option<KeyNo>, Unread>
+        ensures { MatchResult result (SaysKey self.now name.now) (Refuses (bytes_eq name.now dash || is_declared name.now (forms_read self.now)) why.Name) }
+    {
+        if name == b"-".as_slice() {
+            return Ok(None);
+        }
+        Ok(Some(self.declared(name)?))
+    }
+
+    /// The key with this name.
+    fn declared(&self, name: &[u8]) -> Result<KeyNo, Unread>
+        ensures { MatchResult result (IsDeclared self.now name.now) (Refuses (is_declared name.now (forms_read self.now)) why.Name) }
+    {
+        match self.keys.number_of(name) {
+            Some(key) => Ok(key),
+            None => Err(Unread::Bad(ScriptWhy::Name)),
+        }
+    }
+
+    /// How many sectors a data unit has.
+    fn unit_sectors(&self, context: &Option<Context>) -> u32
+        requires { IsContext (bare_keys self.now.keys) context.now }
+        ensures value { result ≡ unit_sectors (bare_keys self.now.keys) context.now }
+        ensures most { result ≤ 8 }
+        ensures rules { IsProgress self.now }
+    {
+        let keys = self.keys.as_slice();
+        match context {
+            Some(context) => {
+                let named = &keys[usize::from(context.key.0)];
+                named.key.config().unit.sectors()
+            }
+            None => 1,
+        }
+    }
+
+    /// Whether the script may have one more bio, of so many data units.
+    fn has_room_for(&self, units: u32, sectors: u32) -> bool
+        requires units { units ≤ max_bio_units }
+        requires sectors { sectors ≤ 8 }
+        ensures test { result ≡ (nat_le (units * sectors) max_bio_sectors && (nat_le (sum_by units_of_section (sections_read self.now) + units) max_units && nat_lt (sum_by length (sections_read self.now)) max_ops)) }
+        ensures rules { IsProgress self.now }
+    {
+        units * sectors <= MAX_BIO_SECTORS && self.units + units <= MAX_UNITS && self.has_room()
+    }
+
+    /// Whether the script may have one more operation.
+    fn has_room(&self) -> bool
+        ensures test { result ≡ nat_lt (sum_by length (sections_read self.now)) max_ops }
+        ensures rules { IsProgress self.now }
+    {
+        self.ops < MAX_OPS
+    }
+
+    fn evict(&self, name: &[u8]) -> Result<Item, Unread>
+        ensures { MatchResult result (IsSaid self.now (forms.Evict name.now)) (Tells (tests_of (forms_read self.now) (forms.Evict name.now))) }
+    {
+        let key = self.declared(name)?;
+        if !self.has_room() {
+            return Err(Unread::Bad(ScriptWhy::Limit));
+        }
+        Ok(Item::Operation(Op::Evict(key)))
+    }
+
+    fn plug(&self) -> Result<Item, Unread>
+        ensures { MatchResult result (IsSaid self.now (forms.Plug)) (Tells (tests_of (forms_read self.now) (forms.Plug))) }
+    {
+        if self.plugged {
+            return Err(Unread::Bad(ScriptWhy::Order));
+        }
+        if !self.has_room() {
+            return Err(Unread::Bad(ScriptWhy::Limit));
+        }
+        Ok(Item::Operation(Op::Plug))
+    }
+
+    fn unplug(&self) -> Result<Item, Unread>
+        ensures { MatchResult result (IsSaid self.now (forms.Unplug)) (Tells (tests_of (forms_read self.now) (forms.Unplug))) }
+    {
+        if !self.plugged {
+            return Err(Unread::Bad(ScriptWhy::Order));
+        }
+        if !self.has_room() {
+            return Err(Unread::Bad(ScriptWhy::Limit));
+        }
+        Ok(Item::Operation(Op::Unplug))
+    }
+
+    fn end(&self) -> Result<Item, Unread>
+        ensures { MatchResult result (IsSaid self.now (forms.End)) (Tells (tests_of (forms_read self.now) (forms.End))) }
+    {
+        if self.plugged {
+            return Err(Unread::Bad(ScriptWhy::Order));
+        }
+        Ok(Item::End)
+    }
+}
+
+fn disk(blocks: &[u8]) -> Result<Item, Unread>
+    ensures { MatchResult result (λ item. (n : ℕ) × (item ≡ items.Disk n) × SaysNumber 1 16384 blocks.now n) (Refuses (is_number 1 16384 blocks.now) why.Number) }
+{
+    Ok(Item::Disk(number(blocks, 1, 16384)?))
+}
+
+/// The number that a field says, if it is one of these.
+fn number(field: &[u8], least: u32, most: u32) -> Result<u32, Unread>
+    ensures { MatchResult result (SaysNumber least most field.now) (Refuses (is_number least most field.now) why.Number) }
+{
+    match field::number(field, least, most) {
+        Some(number) => Ok(number),
+        None => Err(Unread::Bad(ScriptWhy::Number)),
+    }
+}
+
+/// The number of a bio's first data unit, of which it has none where the field is `-`.
+fn bio_number(field: &[u8]) -> Result<Option<Dun>, Unread>
+    ensures { MatchResult result (SaysNumberField field.now) (Refuses (bytes_eq field.now dash || is_number_text field.now) why.Number) }
+{
+    if field == b"-".as_slice() {
+        return Ok(None);
+    }
+    match field::data_unit_number(field) {
+        Some(number) => Ok(Some(number)),
+        None => Err(Unread::Bad(ScriptWhy::Number)),
+    }
+}
+
+/// A key and a number make a context.
+fn context_of(key: Option<KeyNo>, dun: Option<Dun>) -> Option<Context>
+    ensures { result ≡ context_with key dun }
+{
+    match (key, dun) {
+        (Some(key), Some(dun)) => Some(Context { key, dun }),
+        _ => None,
+    }
+}
+
+/// What a write writes, which has so many bytes.
+fn text_of(alloc: Global, form: TextForm, size: usize) -> Result<Text, Unread>
+    ensures { MatchResult result (SaysText size (text_lent form.entry)) (Refuses (is_text size (text_lent form.entry)) why.Hex) }
+{
+    match form {
+        TextForm::Fill(digits) => match field::fill_byte(digits) {
+            Some(byte) => Ok(Text::Fill(byte)),
+            None => Err(Unread::Bad(ScriptWhy::Hex)),
+        },
+        TextForm::Hex(digits) => {
+            if size == 0 {
+                return Err(Unread::Bad(ScriptWhy::Hex));
+            }
+            match field::hex_bytes(alloc, digits, size)? {
+                Some(bytes) => Ok(Text::Bytes(bytes)),
+                None => Err(Unread::Bad(ScriptWhy::Hex)),
+            }
+        }
+    }
+}

@@ -1,0 +1,93 @@
+//! What a script says.
+
+ghost use Rattle.std.specs.Prelude.{◌≡◌, true, []};
+
+use crate::named_key::NamedKey;
+use crate::op::Op;
+use bc_base::Items;
+use std::alloc::Global;
+use std::marker::Model;
+
+/// A script: a disk, its keys, and for each thread the section of its operations. It keeps the rules of the script
+/// language by its type, so each script has a text.
+#[derive(Drop)]
+pub struct Script {
+    blocks: u32,
+    fallback: bool,
+    keys: Items<NamedKey>,
+    faults: Items<(u16, u32)>,
+    threads: Items<Items<Op>>,
+}
+
+impl Model for Script {
+    ghost use Rattle.bc_script.specs.Script as specs;
+
+    ghost Value = { specs.Script };
+
+    ghost view = { λ s. record { blocks = s.blocks; fallback = s.fallback; keys = s.keys; faults = s.faults; threads = s.threads } };
+
+    ghost invariant = { λ s. specs.IsScript (record { blocks = s.blocks; fallback = s.fallback; keys = s.keys; faults = s.faults; threads = s.threads }) };
+}
+
+impl Script {
+    ghost use Rattle.bc_script.specs.Script as specs;
+
+    /// A script that keeps the rules.
+    pub(crate) fn new(
+        alloc: Global,
+        blocks: u32,
+        keys: Items<NamedKey>,
+        threads: Items<Items<Op>>,
+    ) -> Script
+        requires { specs.IsScript (record { blocks = blocks; fallback = true; keys = keys; faults = []; threads = threads }) }
+        ensures { result ≡ record { blocks = blocks; fallback = true; keys = keys; faults = []; threads = threads } }
+    {
+        Script {
+            blocks,
+            fallback: true,
+            keys,
+            faults: Items::new(alloc),
+            threads,
+        }
+    }
+
+    /// How many blocks of 4096 bytes the disk has.
+    pub fn blocks(&self) -> u32
+        ensures value { result ≡ self.now.blocks }
+        ensures rules { specs.IsScript self.now }
+    {
+        self.blocks
+    }
+
+    /// Whether software does what no device can.
+    pub fn fallback(&self) -> bool
+        ensures value { result ≡ self.now.fallback }
+        ensures rules { specs.IsScript self.now }
+    {
+        self.fallback
+    }
+
+    /// The keys, each with its name, by number.
+    pub fn keys(&self) -> &[NamedKey]
+        ensures value { result.now ≡ self.now.keys }
+        ensures rules { specs.IsScript self.now }
+    {
+        self.keys.as_slice()
+    }
+
+    /// The faults that are planned, each by its shard and its place in the shard's order.
+    pub fn faults(&self) -> &[(u16, u32)]
+        ensures value { result.now ≡ self.now.faults }
+        ensures rules { specs.IsScript self.now }
+    {
+        self.faults.as_slice()
+    }
+
+    /// The sections, by the number of their thread.
+    pub fn threads(&self) -> &[Items<Op>]
+        ensures value { result.now ≡ self.now.threads }
+        ensures rules { specs.IsScript self.now }
+    {
+        self.threads.as_slice()
+    }
+}
