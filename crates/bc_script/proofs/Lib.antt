@@ -3,3 +3,4 @@ pub mod KeyNames
 pub mod LineFields
 pub mod LineLaws
 pub mod ScriptLaws
+pub mod Printed
