@@ -303,3 +303,6 @@ fn put_hex(text: &mut Vec<u8>, bytes: &[u8]) -> Result<(), AllocError>
     let digits = hex::encode(*text.allocator(), bytes)?;
     text.extend_from_slice(digits.as_bytes())
 }
+
+#[cfg(test)]
+mod tests;

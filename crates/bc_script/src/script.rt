@@ -1,10 +1,11 @@
 //! What a script says.
 
-ghost use Rattle.std.specs.Prelude.{◌≡◌};
+ghost use Rattle.std.specs.Prelude.{◌≡◌, true, []};
 
 use crate::named_key::NamedKey;
 use crate::op::Op;
 use bc_base::Items;
+use std::alloc::Global;
 use std::marker::Model;
 
 /// A script: a disk, its keys, and for each thread the section of its operations. It keeps the rules of the script
@@ -30,6 +31,25 @@ impl Model for Script {
 
 impl Script {
     ghost use Rattle.bc_script.specs.Script as specs;
+
+    /// A script that keeps the rules.
+    pub(crate) fn new(
+        alloc: Global,
+        blocks: u32,
+        keys: Items<NamedKey>,
+        threads: Items<Items<Op>>,
+    ) -> Script
+        requires { specs.IsScript (record { blocks = blocks; fallback = true; keys = keys; faults = []; threads = threads }) }
+        ensures { result ≡ record { blocks = blocks; fallback = true; keys = keys; faults = []; threads = threads } }
+    {
+        Script {
+            blocks,
+            fallback: true,
+            keys,
+            faults: Items::new(alloc),
+            threads,
+        }
+    }
 
     /// How many blocks of 4096 bytes the disk has.
     pub fn blocks(&self) -> u32
