@@ -89,6 +89,31 @@ fn each_operation_has_its_line(rt: HostRuntime) -> Result<(), Fail> {
 }
 
 #[test]
+fn sections_follow_one_another(rt: HostRuntime) -> Result<(), Fail> {
+    let alloc = rt.alloc();
+    let section = Items::from_vec(vec![in alloc; Op::Plug, Op::Unplug]?);
+    let threads = vec![in alloc; section, Items::new(alloc)]?;
+    let mut text = Vec::new(alloc);
+    put_sections(&mut text, two_keys(alloc)?.as_slice(), threads.as_slice())?;
+    assert_eq!(rt;
+        text.as_slice(),
+        b"thread\nplug\nunplug\nthread\n".as_slice()
+    );
+    Ok(())
+}
+
+#[test]
+fn a_planned_fault_has_its_line(rt: HostRuntime) -> Result<(), Fail> {
+    let mut text = Vec::new(rt.alloc());
+    put_faults(&mut text, &[(3, 17), (65535, 4294967295)])?;
+    assert_eq!(rt;
+        text.as_slice(),
+        b"fault 3 17\nfault 65535 4294967295\n".as_slice()
+    );
+    Ok(())
+}
+
+#[test]
 fn a_script_without_a_key_is_printed(rt: HostRuntime) -> Result<(), Fail> {
     let alloc = rt.alloc();
     let script = Script::new(alloc, 16384, Items::new(alloc), Items::new(alloc));
