@@ -19,3 +19,4 @@ pub mod Readings
 pub mod Parsed
 pub mod Taken
 pub mod Whole
+pub mod Printed

@@ -11,6 +11,7 @@ mod named_keys;
 mod op;
 mod parser;
 mod reader;
+mod printing;
 mod script;
 mod script_error;
 mod sort;
@@ -20,6 +21,7 @@ pub use name::Name;
 pub use named_key::NamedKey;
 pub use op::{Op, Text};
 pub use parser::parse;
+pub use printing::print;
 pub use script::Script;
 pub use script_error::{ParseError, ScriptError, ScriptWhy};
 
