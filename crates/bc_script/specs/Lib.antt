@@ -4,3 +4,4 @@ pub mod ScriptText
 pub mod Forms
 pub mod ScriptErrors
 pub mod Progress
+pub mod Answered

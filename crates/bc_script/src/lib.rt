@@ -6,6 +6,7 @@ mod named_key;
 mod op;
 mod script;
 mod script_error;
+mod script_text;
 mod sort;
 
 pub use name::Name;
@@ -13,3 +14,4 @@ pub use named_key::NamedKey;
 pub use op::{Op, Text};
 pub use script::Script;
 pub use script_error::{ParseError, ScriptError, ScriptWhy};
+pub use script_text::parse;
