@@ -1,7 +1,3 @@
-pub mod Name
-pub mod Script
-pub mod ScriptText
-pub mod Reading
 pub mod Bios
 pub mod Way
 pub mod Plan
