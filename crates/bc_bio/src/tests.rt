@@ -1,7 +1,7 @@
 //! The worked examples of bios, and the edges of each test.
 ghost use Rattle.std.specs.Prelude.{◌≡◌, length, IfOk, IsSomeAnd};
 
-use crate::{Access, Bio, BioError, Context, Unit, back_runs_on};
+use crate::{Access, Bio, BioError, Context, Extent, Unit, back_runs_on};
 use bc_base::{Items, Place};
 use bc_key::{Dun, Key, KeyNo, Keys, Mode};
 use std::alloc::{AllocError, Global};
@@ -181,5 +181,29 @@ fn bios_run_on_at_the_back(rt: HostRuntime) -> Result<(), Fail> {
         ..bio(alloc, 6, 1, None)?
     };
     assert!(rt; !back_runs_on(&keys, &plain, &read));
+    Ok(())
+}
+
+#[test]
+fn an_extent_is_refused_as_its_bio(rt: HostRuntime) -> Result<(), Fail> {
+    let alloc = rt.alloc();
+    let four = keys_of(alloc, 512, 4)?;
+    let top = context_at([0xffff_ffff, 0, 0, 0]);
+    let cases = [
+        (0, 2, Err(BioError::DunRange)),
+        (0, 1, Ok(())),
+        (7, 2, Err(BioError::Outside)),
+        (0, 0, Err(BioError::Empty)),
+        (0, u64::MAX, Err(BioError::Outside)),
+    ];
+    for (sector, units, want) in cases {
+        let extent = Extent {
+            access: Access::Read,
+            context: top,
+            sector,
+            units,
+        };
+        assert_eq!(rt; extent.check(&four, 8), want, "{sector} {units}");
+    }
     Ok(())
 }

@@ -1,18 +1,18 @@
 -- The lists of a run's report are as long as its text allows.
 use Rattle.std.proofs.Common.{◌≡◌, ℕ, suc, ◌+◌, ◌*◌, ◌^◌, ◌<◌, ◌≤◌, Bool, true, false, cond, List, [], ◌∷◌, length, map, refl, sym, ap, subst, ◌∙◌, arith, Some, length-append}
-use Rattle.std.specs.Prelude.{◌==◌, filter, flat_map}
+use Rattle.std.specs.Prelude.{◌==◌, filter, flat_map, sum_by}
 use Rattle.std.specs.List.{range_with_len, enumerate_from, AllByRecursion}
 use Rattle.std.proofs.lemmas.List.{length-map}
+use Rattle.std.proofs.lemmas.List.Sums.{sum_by-cons}
 use Rattle.std.proofs.lemmas.List.FromFn.{length-map-range_with_len}
-use Rattle.std.proofs.lemmas.Option.{same_Some}
-use Rattle.bc_key.specs.KeyData.{KeyData}
-use Rattle.bc_bio.specs.Extent.{Extent}
-use Rattle.bc_run.specs.declared.op.Op.{Op}
-use Rattle.bc_run.specs.declared.op.Op.TheVariants as ops
+use Rattle.std.proofs.lemmas.Option.{same_Some, none-some}
+use Rattle.bc_bio.specs.declared.extent.Extent.{Extent}
+use Rattle.bc_script.specs.declared.op.Op.{Op}
+use Rattle.bc_script.specs.declared.op.Op.TheVariants as ops
 use Rattle.bc_run.specs.declared.report.Answer.{Answer}
 use Rattle.bc_run.specs.declared.report.Line.{Line}
-use Rattle.bc_run.specs.declared.one_caller.Entry.{Entry}
-use Rattle.bc_run.specs.Script.{Script, IsScript, IsOp, IsSection, keys_of, sectors_in}
+use Rattle.bc_run.specs.declared.entries.Entry.{Entry}
+use Rattle.bc_script.specs.Script.{Script, IsScript, keys_of, units_of as count_of, units_of_section as count_of_section}
 use Rattle.bc_run.specs.Bios.{bio_of}
 use Rattle.bc_run.specs.Plan.{unit_at, units_of, units_of_section}
 use Rattle.bc_run.specs.KeyedDisk.{Sectors}
@@ -20,36 +20,36 @@ use Rattle.bc_run.specs.Report.{IsReport}
 use Rattle.bc_run.specs.Serial.{disk_after, section_answers, entry_of, entries_in, lines_on, shard_lines}
 use Rattle.bc_run.proofs.Names.{all_map, all_every, by_bio}
 
--- an operation has at most one unit
-units_of_bio_is_one : (operation : Op) (bio : Extent) (keys : List KeyData) (sectors : ℕ) → IsOp keys sectors operation → bio_of operation ≡ Some bio → bio.units ≡ 1
-units_of_bio_is_one (ops.Write context sector units text) bio keys sectors rules is = ap (λ (b : Extent). b.units) (sym (same_Some _ _ is)) ∙ rules.0.one_unit
-units_of_bio_is_one (ops.Read context sector units) bio keys sectors rules is = ap (λ (b : Extent). b.units) (sym (same_Some _ _ is)) ∙ rules.one_unit
+-- an operation's bio has the units that the operation says
+units_of_its_bio : (operation : Op) (bio : Extent) → bio_of operation ≡ Some bio → bio.units ≡ count_of operation
+units_of_its_bio (ops.Write context sector units text) bio is = ap (λ (b : Extent). b.units) (sym (same_Some _ _ is))
+units_of_its_bio (ops.Read context sector units) bio is = ap (λ (b : Extent). b.units) (sym (same_Some _ _ is))
+units_of_its_bio (ops.Evict key) bio is = absurd (none-some bio is)
+units_of_its_bio (ops.Reset device) bio is = absurd (none-some bio is)
+units_of_its_bio ops.Plug bio is = absurd (none-some bio is)
+units_of_its_bio ops.Unplug bio is = absurd (none-some bio is)
 
 module _ (script : Script) where
-  few_units : (op : ℕ) (operation : Op) → IsOp (keys_of script) (sectors_in script) operation → length (units_of script (op, operation)) ≤ 1
-  few_units op operation rules =
-      by_bio (λ us. length us ≤ 1) script op operation (omega arith)
-      (λ bio is _.
-      let one = units_of_bio_is_one operation bio (keys_of script) (sectors_in script) rules is in
-      omega (arith, length-map-range_with_len (unit_at (keys_of script) op operation bio) 0 bio.units))
+  few_units : (op : ℕ) (operation : Op) → length (units_of script (op, operation)) ≤ count_of operation
+  few_units op operation =
+      by_bio (λ us. length us ≤ count_of operation) script op operation (omega arith)
+      (λ bio is _. omega (arith, length-map-range_with_len (unit_at (keys_of script) op operation bio) 0 bio.units, units_of_its_bio operation bio is))
 
-  section_units : (op : ℕ) (section : List Op) → AllByRecursion (IsOp (keys_of script) (sectors_in script)) section
-      → length (flat_map (units_of script) (enumerate_from op section)) ≤ length section
-  section_units op [] rules = omega arith
-  section_units op (operation ∷ section) rules =
-      let here = few_units op operation rules.0 in
-      let there = section_units (op + 1) section rules.1 in
-      omega (arith, length-append (units_of script (op, operation)) (flat_map (units_of script) (enumerate_from (op + 1) section)))
+  section_units : (op : ℕ) (section : List Op) → length (flat_map (units_of script) (enumerate_from op section)) ≤ count_of_section section
+  section_units op [] = omega arith
+  section_units op (operation ∷ section) =
+      let here = few_units op operation in
+      let there = section_units (op + 1) section in
+      omega (arith, sum_by-cons count_of operation section, length-append (units_of script (op, operation)) (flat_map (units_of script) (enumerate_from (op + 1) section)))
 
-  all_entries : (shards thread : ℕ) (sections : List (List Op)) → AllByRecursion (IsSection (keys_of script) (sectors_in script)) sections
-      → length (flat_map (entries_in script shards) (enumerate_from thread sections)) ≤ 65536 * length sections
-  all_entries shards thread [] rules = omega arith
-  all_entries shards thread (section ∷ sections) rules =
-      let here = section_units 0 section rules.0.each in
-      let most : length section ≤ 65536 = rules.0.count in
-      let there = all_entries shards (thread + 1) sections rules.1 in
+  all_entries : (shards thread : ℕ) (sections : List (List Op))
+      → length (flat_map (entries_in script shards) (enumerate_from thread sections)) ≤ sum_by count_of_section sections
+  all_entries shards thread [] = omega arith
+  all_entries shards thread (section ∷ sections) =
+      let here = section_units 0 section in
+      let there = all_entries shards (thread + 1) sections in
       let mapped = length-map (units_of_section script section) (entry_of shards thread) in
-      omega (arith, length-append (map (entry_of shards thread) (units_of_section script section)) (flat_map (entries_in script shards) (enumerate_from (thread + 1) sections)))
+      omega (arith, sum_by-cons count_of_section section sections, length-append (map (entry_of shards thread) (units_of_section script section)) (flat_map (entries_in script shards) (enumerate_from (thread + 1) sections)))
 
   length-section_answers : (sections : List (List Op)) (disk : Sectors) → length (section_answers script disk sections) ≡ length sections
   length-section_answers [] disk = refl
@@ -74,8 +74,9 @@ pub is_report : (script : Script) → IsScript script → (shards : ℕ) → sha
     → entries ≡ flat_map (entries_in script shards) (enumerate_from 0 script.threads) → lines ≡ shard_lines shards entries
     → threads ≡ section_answers script disk script.threads → IsReport (record { threads = threads; shards = lines })
 is_report script rules shards few disk entries threads lines entries_are lines_are answers_are =
-    let most : length entries ≤ 65536 * length script.threads = subst (λ (l : List Entry). length l ≤ 65536 * length script.threads) (sym entries_are) (all_entries script shards 0 script.threads rules.threads.each) in
-    let sections : length script.threads ≤ 1 = rules.threads.count in
+    let units : sum_by count_of_section script.threads ≤ 65536 = rules.threads.few_units in
+    let most : length entries ≤ sum_by count_of_section script.threads = subst (λ (l : List Entry). length l ≤ sum_by count_of_section script.threads) (sym entries_are) (all_entries script shards 0 script.threads) in
+    let sections : length script.threads ≤ 16 = rules.threads.count in
     record {
       threads = omega (arith, ap length answers_are, length-section_answers script script.threads disk);
       shards = omega (arith, ap length lines_are, length-map-range_with_len (lines_on entries) 0 shards);

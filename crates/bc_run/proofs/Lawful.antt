@@ -14,13 +14,13 @@ use Rattle.bc_bio.specs.declared.bio.Context.{Context}
 use Rattle.bc_bio.specs.PlannedUnit.{PlannedUnit}
 use Rattle.bc_run.specs.declared.orders.UnitName.{UnitName}
 use Rattle.bc_run.specs.declared.report.Line.{Line}
-use Rattle.bc_run.specs.declared.one_caller.Entry.{Entry}
-use Rattle.bc_run.specs.Script.{Script, IsScript, keys_of}
+use Rattle.bc_run.specs.declared.entries.Entry.{Entry}
+use Rattle.bc_script.specs.Script.{Script, IsScript, keys_of}
 use Rattle.bc_run.specs.Way.{way_of}
 use Rattle.bc_run.specs.Plan.{plan_of, units_of_section}
 use Rattle.bc_run.specs.Places.{shard_of}
 use Rattle.bc_run.specs.KeyedDisk.{Sectors, UnitAnswer, sectors_of, bytes_at, answers_along}
-use Rattle.bc_run.specs.LawfulOrders.{is_same, attempted_on}
+use Rattle.bc_run.specs.LawfulOrders.{LawfulOrders, is_same, attempted_on}
 use Rattle.bc_run.specs.Outcome.{Run, planned, units_on, disk_of, answers_on, answers_of, unit_answer, fault_of, final_image, is_fault, is_unit_of}
 use Rattle.bc_run.specs.Report.{Report}
 use Rattle.bc_run.specs.RunOf.{orders_of, run_of}
@@ -73,8 +73,12 @@ module _ (script : Script) (rules : IsScript script) (shards : ℕ) (some : 1 �
   abbrev first : Sectors
   first = sectors_of image
 
+  -- the run without faults, which is the script's
   abbrev run : Run
-  run = run_of script image report
+  run = record { image = image; keys = keys_of script; plan = plan_of script; faults = []; orders = orders_of report }
+
+  run_is : run ≡ run_of script image report
+  run_is = ap (λ (faults : List (ℕ × ℕ)). record { image = image; keys = keys_of script; plan = plan_of script; faults = faults; orders = orders_of report }) (sym rules.faults)
 
   -- the lines of each shard are those of its steps
   lines : report.shards ≡ map (λ shard. map (λ (step : Step). (entry shards step).line) (steps_on shards shard steps)) (range_with_len 0 shards)
@@ -105,7 +109,7 @@ module _ (script : Script) (rules : IsScript script) (shards : ℕ) (some : 1 �
       ∙ found_units run (steps_on shards shard steps) (all_filter (λ (step : Step). planned run (name step) ≡ Some step.1) (λ step. lies_on shards shard step.1) steps found)
 
   placed : AllByRecursion (IsPlaced keys shards) (serial_units script script.threads)
-  placed = placed_units script rules shards script.threads
+  placed = placed_units script rules shards script.threads rules.threads.each
 
   units_are : map (λ (step : Step). step.1) steps ≡ serial_units script script.threads
   units_are = units_of_steps script 0 script.threads
@@ -218,10 +222,10 @@ module _ (script : Script) (rules : IsScript script) (shards : ℕ) (some : 1 �
 
   pub lawful_run : LawfulRun script image shards report left
   lawful_run = record {
-    orders = lawful_orders shards plan (orders_of report) orders;
-    answers = told_answers;
-    image_left = image_left;
-    ways = ways;
+    orders = subst (λ (faults : List (ℕ × ℕ)). LawfulOrders shards plan faults (orders_of report)) (sym rules.faults) (lawful_orders shards plan (orders_of report) orders);
+    answers = subst (λ (r : Run). HasAnswers script r report.threads) run_is told_answers;
+    image_left = image_left ∙ ap final_image run_is;
+    ways = subst (λ (r : Run). HaveWays r report.shards) run_is ways;
   }
 
   pub is_serial : IsSerial script report
@@ -229,5 +233,6 @@ module _ (script : Script) (rules : IsScript script) (shards : ℕ) (some : 1 �
     section_after_section =
         section_after_section shards plan (orders_of report) orders
         ∙ ap (λ (n : ℕ). map (λ shard. flat_map (attempted_on n plan [] (orders_of report) shard) (range_with_len 0 (length plan))) (range_with_len 0 n)) (length-map report.shards (map (λ (line : Line). line.name)))
-        ∙ ap (λ (n : ℕ). map (λ shard. flat_map (attempted_on (length report.shards) plan [] (orders_of report) shard) (range_with_len 0 n)) (range_with_len 0 (length report.shards))) (length-map script.threads (units_of_section script));
+        ∙ ap (λ (n : ℕ). map (λ shard. flat_map (attempted_on (length report.shards) plan [] (orders_of report) shard) (range_with_len 0 n)) (range_with_len 0 (length report.shards))) (length-map script.threads (units_of_section script))
+        ∙ ap (λ (faults : List (ℕ × ℕ)). map (λ shard. flat_map (attempted_on (length report.shards) plan faults (orders_of report) shard) (range_with_len 0 (length script.threads))) (range_with_len 0 (length report.shards))) (sym rules.faults);
   }

@@ -1,12 +1,7 @@
-pub mod LineLaws
-pub mod NamedKeys
-pub mod LineFields
-pub mod ReaderLaws
-pub mod ScriptLaws
+pub mod Parts
+pub mod Units
 pub mod Image
 pub mod Written
-pub mod Single
-pub mod Operations
 pub mod Sections
 pub mod Steps
 pub mod Names
@@ -16,6 +11,6 @@ pub mod Placed
 pub mod Told
 pub mod Lawful
 pub mod Counts
-pub mod OneKey
 pub mod Printing
 pub mod Words
+pub mod Equal

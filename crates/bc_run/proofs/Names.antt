@@ -5,12 +5,12 @@ use Rattle.std.specs.List.{range_with_len, enumerate_from, AllByRecursion}
 use Rattle.std.proofs.lemmas.Bool.{eq-eqb, ne_eqb, and_left, and_right}
 use Rattle.bc_bio.specs.declared.bio.Access.TheVariants as access
 use Rattle.bc_bio.specs.declared.refusal.Refusal.{Refusal}
-use Rattle.bc_bio.specs.Extent.{Extent}
+use Rattle.bc_bio.specs.declared.extent.Extent.{Extent}
 use Rattle.bc_bio.specs.PlannedUnit.{PlannedUnit}
 use Rattle.bc_key.specs.KeyData.{KeyData}
-use Rattle.bc_run.specs.declared.op.Op.{Op}
-use Rattle.bc_run.specs.declared.op.Op.TheVariants as ops
-use Rattle.bc_run.specs.Script.{Script, keys_of}
+use Rattle.bc_script.specs.declared.op.Op.{Op}
+use Rattle.bc_script.specs.declared.op.Op.TheVariants as ops
+use Rattle.bc_script.specs.Script.{Script, keys_of}
 use Rattle.bc_run.specs.Bios.{bio_of, refusal_of}
 use Rattle.bc_run.specs.Plan.{unit_at, units_of, units_of_bio, units_of_section}
 use Rattle.bc_run.specs.LawfulOrders.{name_of, is_same}
@@ -74,7 +74,7 @@ module _ (keys : List KeyData) (op : ℕ) (operation : Op) (bio : Extent) where
   ops_bio first zero = tt
   ops_bio first (suc n) = (refl, ops_bio (first + 1) n)
 
-accepted_or : (P : List PlannedUnit → Type 0) (script : Script) (op : ℕ) (operation : Op) (bio : Extent) → P []
+pub accepted_or : (P : List PlannedUnit → Type 0) (script : Script) (op : ℕ) (operation : Op) (bio : Extent) → P []
     → (refusal_of script bio ≡ None → P (map (unit_at (keys_of script) op operation bio) (range_with_len 0 bio.units)))
     → P (units_of_bio script op operation bio)
 accepted_or P script op operation bio none some =
@@ -93,6 +93,10 @@ by_bio P script op (ops.Write context sector units text) none some =
 by_bio P script op (ops.Read context sector units) none some =
     let bio : Extent = record { access = access.Read; context = context; sector = sector; units = units } in
     accepted_or P script op (ops.Read context sector units) bio none (some bio refl)
+by_bio P script op (ops.Evict key) none some = none
+by_bio P script op (ops.Reset device) none some = none
+by_bio P script op ops.Plug none some = none
+by_bio P script op ops.Unplug none some = none
 
 module _ (script : Script) where
   pub ops_of : (op : ℕ) (operation : Op) → AllByRecursion (λ u. u.op ≡ op) (units_of script (op, operation))

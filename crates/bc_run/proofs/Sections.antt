@@ -6,10 +6,10 @@ use Rattle.std.proofs.Math.Seq.{drop-cons}
 use Rattle.std.proofs.lemmas.List.{drop_all, map-append}
 use Rattle.bc_key.specs.KeyData.{KeyData}
 use Rattle.bc_bio.specs.PlannedUnit.{PlannedUnit}
-use Rattle.bc_run.specs.declared.op.Op.{Op}
+use Rattle.bc_script.specs.declared.op.Op.{Op}
 use Rattle.bc_run.specs.declared.report.Answer.{Answer}
-use Rattle.bc_run.specs.declared.one_caller.Entry.{Entry}
-use Rattle.bc_run.specs.Script.{Script, keys_of}
+use Rattle.bc_run.specs.declared.entries.Entry.{Entry}
+use Rattle.bc_script.specs.Script.{Script, keys_of}
 use Rattle.bc_run.specs.Plan.{units_of, units_of_section}
 use Rattle.bc_run.specs.KeyedDisk.{Sectors, accessed}
 use Rattle.bc_run.specs.Serial.{disk_after, answer_over, answers_over, section_answers, serial_units, entry_of, entries_in}

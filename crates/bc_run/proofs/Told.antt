@@ -8,14 +8,14 @@ use Rattle.std.proofs.lemmas.List.{map-append}
 use Rattle.std.proofs.lemmas.List.Elements.{filter-append}
 use Rattle.bc_key.specs.KeyData.{KeyData}
 use Rattle.bc_bio.specs.declared.bio.Access.TheVariants as access
-use Rattle.bc_bio.specs.Extent.{Extent}
+use Rattle.bc_bio.specs.declared.extent.Extent.{Extent}
 use Rattle.bc_bio.specs.PlannedUnit.{PlannedUnit}
-use Rattle.bc_run.specs.declared.op.Op.{Op}
-use Rattle.bc_run.specs.declared.op.Op.TheVariants as ops
+use Rattle.bc_script.specs.declared.op.Op.{Op}
+use Rattle.bc_script.specs.declared.op.Op.TheVariants as ops
 use Rattle.bc_run.specs.declared.orders.UnitName.{UnitName}
 use Rattle.bc_run.specs.declared.report.Answer.TheVariants as answers
-use Rattle.bc_run.specs.declared.one_caller.Entry.{Entry}
-use Rattle.bc_run.specs.Script.{Script, keys_of}
+use Rattle.bc_run.specs.declared.entries.Entry.{Entry}
+use Rattle.bc_script.specs.Script.{Script, keys_of}
 use Rattle.bc_run.specs.Bios.{refusal_of}
 use Rattle.bc_run.specs.Plan.{units_of, units_of_bio, units_of_section}
 use Rattle.bc_run.specs.KeyedDisk.{Sectors, UnitAnswer, accessed}
@@ -173,6 +173,10 @@ module _ (script : Script) (run : Run) (thread : ℕ) (us : List PlannedUnit) (n
       → IsAnswer script run thread (op, operation) (answer_over script disk (op, operation))
   is_answer op (ops.Write context sector units text) disk are all = bio_answered op (ops.Write context sector units text) (record { access = access.Write; context = context; sector = sector; units = units }) disk are all
   is_answer op (ops.Read context sector units) disk are all = bio_answered op (ops.Read context sector units) (record { access = access.Read; context = context; sector = sector; units = units }) disk are all
+  is_answer op (ops.Evict key) disk are all = refl
+  is_answer op (ops.Reset device) disk are all = refl
+  is_answer op ops.Plug disk are all = refl
+  is_answer op ops.Unplug disk are all = refl
 
   -- the operations from this one on
   are_answers : (op : ℕ) (section : List Op) (disk : Sectors)

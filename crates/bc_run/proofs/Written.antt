@@ -51,13 +51,12 @@ module _ (xs ys : List ℕ) (first n s : ℕ) (whole : length ys ≡ 512 * n) (w
       (λ (le : first ≤ s). ⊎_elim (inside le) above (cases_lt (512 * s) (512 * first + length ys)))
       (cases_lt s first)
 
--- one sector was written
-pub sectors_of-one_written : (xs ys text : List ℕ) (first : ℕ) → length ys ≡ 512 → 512 * first + 512 ≤ length xs → ys ≡ text
-    → sectors_of (put_mid (512 * first) (512 * first + 512 - 512 * first) xs ys) ≡ with_bytes (sectors_of xs) first text
-sectors_of-one_written xs ys text first size within same =
-    let long : 512 * first + 512 - 512 * first ≡ length ys = omega arith in
+-- some sectors were written
+pub sectors_of-written : (xs ys : List ℕ) (first n end : ℕ) → length ys ≡ 512 * n → end ≡ 512 * first + 512 * n → end ≤ length xs
+    → sectors_of (put_mid (512 * first) (end - 512 * first) xs ys) ≡ with_bytes (sectors_of xs) first ys
+sectors_of-written xs ys first n end size is within =
+    let long : end - 512 * first ≡ length ys = omega arith in
     let each : (s : ℕ) → sectors_of (put_mid (512 * first) (length ys) xs ys) s ≡ with_bytes (sectors_of xs) first ys s =
-    λ s. sectors_of-put_mid xs ys first 1 s (omega arith) (omega arith) in
-    ap (λ (n : ℕ). sectors_of (put_mid (512 * first) n xs ys)) long
+    λ s. sectors_of-put_mid xs ys first n s size (omega arith) in
+    ap (λ (m : ℕ). sectors_of (put_mid (512 * first) m xs ys)) long
     ∙ (λ i s. each s i)
-    ∙ ap (λ (l : List ℕ). with_bytes (sectors_of xs) first l) same

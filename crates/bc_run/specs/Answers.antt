@@ -1,12 +1,13 @@
--- The answers of a report: those of the outcome, or the refusal of a bio.
+-- The answers of a report: a bio's is that of the outcome, or its refusal.
 use Rattle.std.specs.Prelude.{◌≡◌, ℕ, ◌==◌, List, [], ◌∷◌, MatchOption, if◌then◌else◌}
 use Rattle.std.specs.List.{list_all, enumerate_from, AllZip}
 use Rattle.std.specs.Option.{option_map_or}
 use Rattle.sha2.specs.Sha256.{sha256}
-use Rattle.bc_bio.specs.Extent.{Extent}
+use Rattle.bc_bio.specs.declared.extent.Extent.{Extent}
 use Rattle.bc_run.specs.Outcome.{Run, BioAnswer, Wrote, Bytes, Fault, bio_answer}
-use Rattle.bc_run.specs.declared.op.Op.{Op}
-use Rattle.bc_run.specs.Script.{Script}
+use Rattle.bc_script.specs.declared.op.Op.{Op}
+use Rattle.bc_script.specs.declared.op.Op.TheVariants as ops
+use Rattle.bc_script.specs.Script.{Script}
 use Rattle.bc_run.specs.Bios.{bio_of, refusal_of}
 use Rattle.bc_run.specs.declared.report.Answer.{Answer}
 use Rattle.bc_run.specs.declared.report.Answer.TheVariants as answers
@@ -27,8 +28,12 @@ abbrev pub answer_of_bio : Script → Run → ℕ → ℕ → Extent → Answer
 answer_of_bio script run thread op bio =
     option_map_or answers.Refused (refusal_of script bio) (told (bio_answer run bio.access thread op))
 
--- what operation number op of a thread is answered: each has a bio
+-- what operation number op of a thread is answered; an eviction always succeeds, since no device keeps a key
 abbrev pub IsAnswer : Script → Run → ℕ → ℕ × Op → Answer → Type 0
+IsAnswer script run thread (op, ops.Evict key) answer = answer ≡ answers.Evicted
+IsAnswer script run thread (op, ops.Reset device) answer = answer ≡ answers.Reset
+IsAnswer script run thread (op, ops.Plug) answer = answer ≡ answers.Plug
+IsAnswer script run thread (op, ops.Unplug) answer = answer ≡ answers.Unplug
 IsAnswer script run thread (op, operation) answer =
     MatchOption (bio_of operation) ⊥ (λ bio. answer ≡ answer_of_bio script run thread op bio)
 

@@ -4,7 +4,7 @@ use Rattle.std.specs.List.{range_with_len}
 use Rattle.bc_run.specs.declared.orders.UnitName.{UnitName}
 use Rattle.bc_run.specs.LawfulOrders.{LawfulOrders, attempted_on}
 use Rattle.bc_run.specs.Outcome.{final_image}
-use Rattle.bc_run.specs.Script.{Script}
+use Rattle.bc_script.specs.Script.{Script}
 use Rattle.bc_run.specs.Plan.{plan_of}
 use Rattle.bc_run.specs.RunOf.{orders_of, faults_of, run_of}
 use Rattle.bc_run.specs.Answers.{HasAnswers}

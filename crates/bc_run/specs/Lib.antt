@@ -1,8 +1,3 @@
-pub mod Name
-pub mod Script
-pub mod ScriptText
-pub mod NamedKeys
-pub mod Reading
 pub mod Bios
 pub mod Way
 pub mod Plan

@@ -1,20 +1,22 @@
 -- The plan of a script: for each thread the data units of its accepted bios, by operation and then unit.
-use Rattle.std.specs.Prelude.{ℕ, ◌+◌, ◌*◌, List, [], map, replicate, flat_map, is_none, if◌then◌else◌}
+use Rattle.std.specs.Prelude.{ℕ, ◌+◌, ◌*◌, List, [], map, replicate, flat_map, slice_range, is_none, if◌then◌else◌}
 use Rattle.std.specs.List.{enumerate_from, range_with_len}
 use Rattle.std.specs.Option.{option_map_or}
 use Rattle.bc_key.specs.KeyData.{KeyData}
-use Rattle.bc_bio.specs.Extent.{Extent, unit_sectors, context_after}
+use Rattle.bc_bio.specs.declared.extent.Extent.{Extent}
+use Rattle.bc_bio.specs.Extent.{unit_sectors, context_after}
 use Rattle.bc_bio.specs.PlannedUnit.{PlannedUnit}
-use Rattle.bc_run.specs.declared.op.Op.{Op}
-use Rattle.bc_run.specs.declared.op.Op.TheVariants as ops
-use Rattle.bc_run.specs.declared.op.Text.{Text}
-use Rattle.bc_run.specs.declared.op.Text.TheVariants.{Fill}
-use Rattle.bc_run.specs.Script.{Script, keys_of}
+use Rattle.bc_script.specs.declared.op.Op.{Op}
+use Rattle.bc_script.specs.declared.op.Op.TheVariants as ops
+use Rattle.bc_script.specs.declared.op.Text.{Text}
+use Rattle.bc_script.specs.declared.op.Text.TheVariants.{Fill, Bytes}
+use Rattle.bc_script.specs.Script.{Script, keys_of}
 use Rattle.bc_run.specs.Bios.{bio_of, refusal_of}
 
 -- the bytes of unit i of a text, of so many bytes each
 abbrev pub text_at : Text → ℕ → ℕ → List ℕ
 text_at (Fill byte) size i = replicate size byte
+text_at (Bytes bytes) size i = slice_range bytes (size * i) (size * i + size)
 
 -- the bytes that unit i of an operation writes
 abbrev pub written_at : Op → ℕ → ℕ → List ℕ

@@ -11,7 +11,7 @@ use Rattle.bc_bio.specs.declared.refusal.Refusal.TheVariants.{Bio, Unsupported}
 use Rattle.bc_run.specs.declared.via.Via.{Via}
 use Rattle.bc_run.specs.declared.via.Via.TheVariants.{Plain, Soft}
 use Rattle.bc_run.specs.declared.report.Answer.{Answer}
-use Rattle.bc_run.specs.declared.report.Answer.TheVariants.{Wrote, ReadFill, ReadSum, Fault, Refused}
+use Rattle.bc_run.specs.declared.report.Answer.TheVariants.{Wrote, ReadFill, ReadSum, Fault, Refused, Evicted, Reset, Plug, Unplug}
 use Rattle.bc_run.specs.declared.report.Line.{Line as Entry}
 use Rattle.bc_run.specs.Report.{Report}
 
@@ -32,6 +32,10 @@ answer_line (ReadFill byte) = codes "done" ∷ codes "fill" ∷ byte_text byte �
 answer_line (ReadSum digest) = codes "done" ∷ codes "sha256" ∷ encode_lower digest ∷ []
 answer_line (Fault unit) = codes "fault" ∷ decimal unit ∷ []
 answer_line (Refused refusal) = codes "refused" ∷ refusal_word refusal ∷ []
+answer_line Evicted = codes "evicted" ∷ []
+answer_line Reset = codes "reset" ∷ []
+answer_line Plug = codes "plug" ∷ []
+answer_line Unplug = codes "unplug" ∷ []
 
 -- ---- a line for each entry
 

@@ -1,7 +1,9 @@
 -- What the command `serial` carries out: the script that its text says, over an image of zeros, with one shard.
-use Rattle.std.specs.Prelude.{◌≡◌, ℕ, ◌*◌, ◌≤◌, List, [], ◌∷◌, codes, length, replicate}
-use Rattle.bc_run.specs.Script.{Script}
-use Rattle.bc_run.specs.ScriptText.{Says, NoScriptHas}
+use Rattle.std.specs.Prelude.{◌≡◌, ℕ, ◌*◌, ◌≤◌, List, [], ◌∷◌, codes, length, replicate, Some}
+use Rattle.bc_script.specs.Script.{Script}
+use Rattle.bc_script.specs.declared.script_error.ScriptError.{ScriptError}
+use Rattle.bc_script.specs.ScriptText.{Says, NoScriptHas}
+use Rattle.bc_script.specs.ScriptErrors.{error_of}
 use Rattle.bc_run.specs.Report.{Report}
 use Rattle.bc_run.specs.ReportText.{report_text}
 use Rattle.bc_run.specs.LawfulRun.{LawfulRun, IsSerial}
@@ -22,10 +24,11 @@ pub record IsTextOf (text : List ℕ) (script : Script) : Type 0 where
   pub within : IsWithinLimit text
   pub says : Says text script
 
--- the text is within the limit, and no script's
-pub record IsNoScript (text : List ℕ) : Type 0 where
+-- the text is within the limit, and no script's, by this error
+pub record IsNoScript (error : ScriptError) (text : List ℕ) : Type 0 where
   pub within : IsWithinLimit text
   pub none : NoScriptHas text
+  pub first_error : error_of text ≡ Some error
 
 -- an image of zeros, of the length that the script asks for
 abbrev pub zeros_for : Script → List ℕ

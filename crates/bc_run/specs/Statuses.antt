@@ -1,12 +1,12 @@
 -- How a run ends: the number of each status, and what each status says of the run.
-use Rattle.std.specs.Prelude.{◌≡◌, ◌<◌, ⊤, ℕ, List, length, Option, IfSome}
+use Rattle.std.specs.Prelude.{◌≡◌, ◌<◌, ⊤, ℕ, List, length, Option, Some, IfSome}
 use Rattle.std.specs.Io.KnownBytes.{Appends}
 use Rattle.bc_base.specs.Outside.{Rose, AppendsFront}
-use Rattle.bc_run.specs.declared.script_error.ScriptError.{ScriptError}
-use Rattle.bc_run.specs.declared.script_error.ScriptWhy.TheVariants.{NotBuilt}
+use Rattle.bc_script.specs.declared.script_error.ScriptError.{ScriptError}
 use Rattle.bc_run.specs.declared.status.Status.{Status}
 use Rattle.bc_run.specs.declared.status.Status.TheVariants.{Ok, Usage, BadScript, ReadFault, WriteFault, TooLong, NoMemory}
-use Rattle.bc_run.specs.ScriptText.{NoScriptHas}
+use Rattle.bc_script.specs.ScriptText.{NoScriptHas}
+use Rattle.bc_script.specs.ScriptErrors.{error_of}
 use Rattle.bc_run.specs.Run.{IsCommand, script_limit, IsNoScript, IsCarriedOut}
 
 -- the number that the process ends with
@@ -45,22 +45,18 @@ Written run = Appends run.held_before run.held_after
 abbrev pub FrontWritten : Course → List ℕ → Type 0
 FrontWritten run = AppendsFront run.held_before run.held_after
 
--- each kind of wrong text is told at line 1 as not built, until the language is built in full
-abbrev pub IsNotBuilt : ScriptError → Type 0
-IsNotBuilt e = e ≡ record { line = 1; why = NotBuilt }
-
 -- Why a run ended with this status, in the order of its stages; each row also says what the stages before it passed.
 abbrev pub EndsBy : Course → Status → Type 0
 EndsBy run Usage = IsCommand run.words → ⊥
 EndsBy run ReadFault = IsCommand run.words × ReadRose run
 EndsBy run (TooLong limit) = IsCommand run.words × (limit ≡ script_limit) × IfSome run.text (λ text. limit < length text)
-EndsBy run (BadScript e) = IsCommand run.words × IfSome run.text IsNoScript × IsNotBuilt e
+EndsBy run (BadScript e) = IsCommand run.words × IfSome run.text (IsNoScript e)
 EndsBy run WriteFault = IsCommand run.words × IfSome run.text (IsCarriedOut (FrontWritten run)) × WriteRose run
 EndsBy run Ok = IsCommand run.words × IfSome run.text (IsCarriedOut (Written run))
 EndsBy run NoMemory = IsCommand run.words
 
--- why a text within the limit was not read as a script: none has it, or there was no memory
+-- why a text within the limit was not read as a script: none has it, and this is its error; or there was no memory
 abbrev pub IsParseStatus : List ℕ → Status → Type 0
-IsParseStatus text (BadScript e) = NoScriptHas text × IsNotBuilt e
+IsParseStatus text (BadScript e) = NoScriptHas text × (error_of text ≡ Some e)
 IsParseStatus text NoMemory = ⊤
 IsParseStatus text other = ⊥

@@ -4,20 +4,18 @@ ghost use Rattle.std.specs.Prelude.{◌≡◌, ◌≢◌, ◌↔◌, ◌⊎◌, 
 ghost use Rattle.std.specs.String.{string_bytes};
 ghost use Rattle.std.specs.Io.KnownBytes.{Consumes, Appends, IsAtEnd, Keeps};
 ghost use Rattle.bc_base.specs.Outside.{Rose, HasCause, AppendsFront};
-ghost use Rattle.bc_run.specs.ScriptText.{Says, NoScriptHas};
+ghost use Rattle.bc_script.specs.ScriptText.{Says, NoScriptHas};
 ghost use Rattle.bc_run.specs.ReportText.{report_text};
 ghost use Rattle.bc_run.specs.Run.{IsCommand, script_limit, IsTextOf, IsReportOf, zeros_for};
-ghost use Rattle.bc_run.specs.Statuses.{EndsBy, ReadRose, WriteRose, IsNotBuilt, IsParseStatus};
-ghost use Rattle.bc_run.specs.Script as specs;
+ghost use Rattle.bc_run.specs.Statuses.{EndsBy, ReadRose, WriteRose, IsParseStatus};
+ghost use Rattle.bc_script.specs.Script as specs;
 
 use crate::one_caller::serial;
 use crate::report::Report;
 use crate::report_text::print;
-use crate::script::Script;
-use crate::script_error::ParseError;
-use crate::script_text::parse;
 use crate::status::Status;
 use bc_base::{ReadError, Sink, Source, read_all, write_all};
+use bc_script::{ParseError, Script, parse};
 use std::alloc::{AllocError, Global};
 
 /// The most bytes of a script's text: 16 MiB.

@@ -21,6 +21,14 @@ pub enum Answer {
     Fault(u32),
     /// The bio was refused.
     Refused(Refusal),
+    /// The key is in no keyslot.
+    Evicted,
+    /// The device's keyslots were programmed again.
+    Reset,
+    /// A plug was opened.
+    Plug,
+    /// The plug was closed.
+    Unplug,
 }
 
 /// A data unit in a shard's order, and its way.

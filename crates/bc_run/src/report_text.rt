@@ -67,6 +67,10 @@ fn put_answer(text: &mut Vec<u8>, answer: &Answer) -> Result<(), AllocError>
         Answer::ReadSum(digest) => put_digits(text, b"done sha256 ", digest),
         Answer::Fault(unit) => put_fault(text, *unit),
         Answer::Refused(refusal) => put_refusal(text, refusal),
+        Answer::Evicted => text.extend_from_slice(b"evicted\n"),
+        Answer::Reset => text.extend_from_slice(b"reset\n"),
+        Answer::Plug => text.extend_from_slice(b"plug\n"),
+        Answer::Unplug => text.extend_from_slice(b"unplug\n"),
     }
 }
 

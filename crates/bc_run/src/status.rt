@@ -3,7 +3,7 @@
 ghost use Rattle.std.specs.Prelude.{◌≡◌};
 ghost use Rattle.bc_run.specs.Statuses.{code_of};
 
-use crate::script_error::ScriptError;
+use bc_script::ScriptError;
 use std::fmt;
 
 /// How a run ends. Each status but `Ok` says why the report wasn't written, or not all of it.

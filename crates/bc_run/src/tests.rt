@@ -3,6 +3,8 @@ ghost use Rattle.std.specs.Prelude.{length, ◌^◌, ◌<◌};
 use super::*;
 use bc_base::{Items, MemSink, MemSource};
 use bc_bio::{BioError, Refusal};
+use bc_key::KeyError;
+use bc_script::{ScriptError, ScriptWhy};
 use std::alloc::Global;
 use std::test::Fail;
 
@@ -81,6 +83,10 @@ fn a_report_with_each_answer_is_printed(rt: HostRuntime) -> Result<(), Fail> {
         Answer::Refused(Refusal::Bio(BioError::Outside)),
         Answer::Refused(Refusal::Bio(BioError::DunRange)),
         Answer::Refused(Refusal::Unsupported),
+        Answer::Evicted,
+        Answer::Reset,
+        Answer::Plug,
+        Answer::Unplug,
     ]?;
     let entries = vec![in alloc; line(0, 0, 0, Via::Plain), line(15, 65535, 255, Via::Soft)]?;
     assert_eq!(rt; entries.len(), 2);
@@ -88,6 +94,7 @@ fn a_report_with_each_answer_is_printed(rt: HostRuntime) -> Result<(), Fail> {
     let wanted = b"report 1\nthread 0\ndone\ndone fill 0a\n\
         done sha256 000102030405060708090a0b0c0d0e0f101112131415161718191a1b1c1d1e1f\n\
         fault 3\nrefused empty\nrefused misaligned\nrefused outside\nrefused dun\nrefused unsupported\n\
+        evicted\nreset\nplug\nunplug\n\
         thread 1\nshard 0 2\n0 0 0 plain\n15 65535 255 soft\nshard 1 0\nend\n";
     assert_eq!(rt; text.as_slice(), wanted.as_slice());
     Ok(())
@@ -97,14 +104,19 @@ fn a_report_with_each_answer_is_printed(rt: HostRuntime) -> Result<(), Fail> {
 
 #[test]
 fn each_status_has_its_number_and_its_line(rt: HostRuntime) -> Result<(), Fail> {
-    let bad = ScriptError {
+    let not_built = ScriptError {
         line: 1,
         why: ScriptWhy::NotBuilt,
+    };
+    let key = ScriptError {
+        line: 4,
+        why: ScriptWhy::Key(KeyError::EqualHalves),
     };
     let table = [
         (Status::Ok, 0, ""),
         (Status::Usage, 1, "bad command line"),
-        (Status::BadScript(bad), 2, "script line 1: not built"),
+        (Status::BadScript(not_built), 2, "script line 1: not built"),
+        (Status::BadScript(key), 2, "script line 4: key"),
         (Status::ReadFault, 3, "reading failed"),
         (Status::WriteFault, 4, "writing failed"),
         (
@@ -185,8 +197,8 @@ fn a_number_with_a_leading_zero_is_no_number(rt: HostRuntime) -> Result<(), Fail
     let text = b"blkcrypt 1\ndisk 01\nfallback on\nend\n";
     let status = status_of(&rt, &["serial"], text, 4096, &mut out)?;
     let error = ScriptError {
-        line: 1,
-        why: ScriptWhy::NotBuilt,
+        line: 2,
+        why: ScriptWhy::Number,
     };
     assert_eq!(rt; status, Status::BadScript(error));
     assert_eq!(rt; out.held().len(), 0);
@@ -227,5 +239,3 @@ fn a_script_of_one_byte_more_than_the_limit_is_too_long(rt: HostRuntime) -> Resu
     assert_eq!(rt; out.held().len(), 0);
     Ok(())
 }
-
-mod keys;

@@ -1,161 +1,208 @@
-//! Scripts that are carried out, with the answers and entries that the rules of scripts give them.
+//! Scripts that are carried out. What they answer and list follows from the rules of scripts; the digests of what is
+//! read and left were made by another implementation of both modes, Python's `cryptography`.
 
-ghost use Rattle.std.specs.Prelude.{◌≡◌, ◌*◌, ◌<◌, ◌≤◌, [], ◌∷◌, IfOk};
-ghost use Rattle.bc_run.specs.Script.{IsDiskSize, IsNamedKey, IsSection};
+ghost use Rattle.std.specs.Prelude.{◌≤◌};
 
 use super::*;
-use crate::name::Name;
-use crate::named_key::NamedKey;
-use bc_key::{Key, KeyNo, Mode};
+use crate::report_text::print;
+use bc_script::parse;
+use sha2::{Digest, Sha256};
 use std::test::Fail;
 
-/// A key over data units of 512 bytes, with 8 number bytes.
-fn key_of(mode: Mode, raw: &[u8]) -> Result<NamedKey, Fail>
-    ensures rule { IfOk result IsNamedKey }
-    ensures number_bytes { IfOk result (λ named. named.key.config.dun_bytes ≡ 8) }
+/// The report and the image of the script that a text says, carried out over zeros.
+fn finished(alloc: Global, text: &[u8], shards: u16) -> Result<Finished, Fail>
+    requires { (1 ≤ shards) × (shards ≤ 64) }
 {
-    let key = Key::new(mode, raw, 512, 8)?;
-    let Some(name) = Name::of(b"a") else {
-        unreachable!()
-    };
-    Ok(NamedKey { name, key })
+    let script = parse(alloc, text)?;
+    let image = vec![in alloc; 0; 4096 * script.blocks() as usize]?;
+    Ok(serial(alloc, &script, image, shards)?)
 }
 
-/// The one whose bytes are 00 to 3f.
-fn key_a(alloc: Global) -> Result<NamedKey, Fail>
-    ensures rule { IfOk result IsNamedKey }
-    ensures number_bytes { IfOk result (λ named. named.key.config.dun_bytes ≡ 8) }
-{
-    let raw: Vec<u8> = (0..64u8).collect(alloc)?;
-    key_of(Mode::Aes256Xts, raw.as_slice())
+/// SHA-256 of these bytes, in hexadecimal digits.
+fn digest_of(bytes: &[u8]) -> [u8; 64] {
+    let mut digits = [0; 64];
+    hex::encode_to_slice(Sha256::digest(bytes).as_slice(), &mut digits).unwrap();
+    digits
 }
 
-/// The context of key 0 and number 0.
-fn context() -> Option<Context>
-    ensures { result ≡ Some (record { key = record { 0 = 0 }; dun = 0 }) }
-{
-    Some(Context {
-        key: KeyNo(0),
-        dun: Dun::from_words([0; 4]),
-    })
+/// The text of the report of a run with one shard.
+fn report_of(alloc: Global, text: &[u8]) -> Result<Vec<u8>, Fail> {
+    let finished = finished(alloc, text, 1)?;
+    Ok(print(alloc, &finished.report)?)
 }
 
-/// Writes one unit, of this byte throughout.
-fn write(sector: u32, byte: u8) -> Op
-    ensures { result ≡ Op.Write (Some (record { key = record { 0 = 0 }; dun = 0 })) sector 1 (Text.Fill byte) }
+/// The digests of the report's text, and of the image.
+fn digests_of(alloc: Global, text: &[u8], shards: u16) -> Result<([u8; 64], [u8; 64]), Fail>
+    requires { (1 ≤ shards) × (shards ≤ 64) }
 {
-    Op::Write {
-        context: context(),
-        sector,
-        units: 1,
-        text: Text::Fill(byte),
-    }
-}
-
-/// Reads one unit.
-fn read(sector: u32) -> Op
-    ensures { result ≡ Op.Read (Some (record { key = record { 0 = 0 }; dun = 0 })) sector 1 }
-{
-    Op::Read {
-        context: context(),
-        sector,
-        units: 1,
-    }
-}
-
-/// A script of one key and one section.
-fn script_of(alloc: Global, blocks: u32, named: NamedKey, section: Vec<Op>) -> Result<Script, Fail>
-    requires blocks { IsDiskSize blocks }
-    requires key { IsNamedKey named }
-    requires section { IsSection (named.key ∷ []) (8 * blocks) section.items }
-    ensures { IfOk result (λ script. script.blocks ≡ blocks) }
-{
-    let mut keys = Vec::new(alloc);
-    keys.push(named)?;
-    let mut threads = Vec::new(alloc);
-    threads.push(Items::from_vec(section))?;
-    Ok(Script::new(blocks, Items::from_vec(keys), Items::from_vec(threads)))
-}
-
-/// The entry of operation number op of thread 0.
-fn soft(op: u32) -> Line {
-    Line {
-        name: UnitName {
-            thread: 0,
-            op,
-            unit: 0,
-        },
-        via: Via::Soft,
-    }
+    let finished = finished(alloc, text, shards)?;
+    let printed = print(alloc, &finished.report)?;
+    Ok((
+        digest_of(printed.as_slice()),
+        digest_of(finished.image.as_slice()),
+    ))
 }
 
 #[test]
-fn a_write_and_a_read_of_one_unit(rt: HostRuntime) -> Result<(), Fail> {
-    let alloc = rt.alloc();
-    let section = vec![in alloc; write(0, 0), read(0)]?;
-    let script = script_of(alloc, 1, key_a(alloc)?, section)?;
-    let finished = serial(alloc, &script, vec![in alloc; 0; 4096]?, 1)?;
+fn a_unit_is_written_and_read_back(rt: HostRuntime) -> Result<(), Fail> {
+    let text = b"blkcrypt 1\ndisk 1\nfallback on\n\
+        key a aes-256-xts 512 8 000102030405060708090a0b0c0d0e0f101112131415161718191a1b1c1d1e1f202122232425262728292a2b2c2d2e2f303132333435363738393a3b3c3d3e3f\n\
+        thread\nwrite a 0 1 0 fill 00\nread a 0 1 0\nend\n";
+    let report = report_of(rt.alloc(), text)?;
+    let wanted = b"report 1\nthread 0\ndone\ndone fill 00\nshard 0 2\n0 0 0 soft\n0 1 0 soft\nend\n";
+    assert_eq!(rt; report.as_slice(), wanted.as_slice());
+    let left = finished(rt.alloc(), text, 1)?;
+    assert_eq!(rt; digest_of(left.image.as_slice()), *b"b74378dae6a97622eb67b3fb18a44ce94e3918dea610ae055f24aefb895bcce6");
+    Ok(())
+}
 
-    let answers = finished.report.threads();
-    assert_eq!(rt; answers.len(), 1);
-    assert_eq!(rt;
-        answers[0].as_slice(),
-        [Answer::Wrote, Answer::ReadFill(0)].as_slice()
-    );
-    let lines = finished.report.shards();
-    assert_eq!(rt; lines.len(), 1);
-    assert_eq!(rt; lines[0].as_slice(), [soft(0), soft(1)].as_slice());
+// Four number bytes: the numbers of all units must stay below 2^32.
+#[test]
+fn numbers_fit_the_number_bytes_of_the_key(rt: HostRuntime) -> Result<(), Fail> {
+    let report = report_of(rt.alloc(), b"blkcrypt 1\ndisk 1\nfallback on\n\
+        key a aes-256-xts 512 4 000102030405060708090a0b0c0d0e0f101112131415161718191a1b1c1d1e1f202122232425262728292a2b2c2d2e2f303132333435363738393a3b3c3d3e3f\n\
+        thread\nwrite a 0 2 ffffffff fill 00\nwrite a 0 1 ffffffff fill 00\nwrite a 0 2 fffffffe fill 00\nread a 0 1 100000000\nend\n")?;
+    let wanted = b"report 1\nthread 0\nrefused dun\ndone\ndone\nrefused dun\nshard 0 3\n0 1 0 soft\n0 2 0 soft\n0 2 1 soft\nend\n";
+    assert_eq!(rt; report.as_slice(), wanted.as_slice());
+    Ok(())
+}
 
-    // The image is what another implementation of AES-256-XTS makes of 512 zeros under number 0, and zeros behind them:
-    // SHA-256 of it.
-    let digest = [
-        0xb7, 0x43, 0x78, 0xda, 0xe6, 0xa9, 0x76, 0x22, 0xeb, 0x67, 0xb3, 0xfb, 0x18, 0xa4, 0x4c,
-        0xe9, 0x4e, 0x39, 0x18, 0xde, 0xa6, 0x10, 0xae, 0x05, 0x5f, 0x24, 0xae, 0xfb, 0x89, 0x5b,
-        0xcc, 0xe6,
-    ];
-    assert_eq!(rt; Sha256::digest(finished.image.as_slice()), digest);
+// The first test that fails gives the answer: no units, alignment, the disk's end, the numbers.
+#[test]
+fn bios_are_refused_by_the_first_test_that_fails(rt: HostRuntime) -> Result<(), Fail> {
+    let report = report_of(rt.alloc(), b"blkcrypt 1\ndisk 32\nfallback on\n\
+        key a aes-256-xts 4096 8 000102030405060708090a0b0c0d0e0f101112131415161718191a1b1c1d1e1f202122232425262728292a2b2c2d2e2f303132333435363738393a3b3c3d3e3f\n\
+        thread\nwrite - 1 256 - fill 00\nwrite - 0 0 - fill 00\nread a 257 1 0\nread a 256 1 0\nread a 257 0 0\n\
+        read - 4294967295 1 -\nread a 248 2 ffffffffffffffff\nread a 240 2 ffffffffffffffff\nwrite - 255 1 - fill 07\nread - 255 1 -\nend\n")?;
+    let wanted = b"report 1\nthread 0\nrefused outside\nrefused empty\nrefused misaligned\nrefused outside\nrefused empty\n\
+        refused outside\nrefused outside\nrefused dun\ndone\ndone fill 07\nshard 0 2\n0 8 0 plain\n0 9 0 plain\nend\n";
+    assert_eq!(rt; report.as_slice(), wanted.as_slice());
+    Ok(())
+}
+
+// Another key, another number, or none: only the own key and number give the bytes back.
+#[test]
+fn a_unit_is_read_under_the_key_that_is_asked_for(rt: HostRuntime) -> Result<(), Fail> {
+    let report = report_of(rt.alloc(), b"blkcrypt 1\ndisk 1\nfallback on\n\
+        key a aes-256-xts 512 8 000102030405060708090a0b0c0d0e0f101112131415161718191a1b1c1d1e1f202122232425262728292a2b2c2d2e2f303132333435363738393a3b3c3d3e3f\n\
+        key b aes-256-xts 512 8 404142434445464748494a4b4c4d4e4f505152535455565758595a5b5c5d5e5f606162636465666768696a6b6c6d6e6f707172737475767778797a7b7c7d7e7f\n\
+        thread\nwrite a 0 1 0 fill 11\nread b 0 1 0\nread a 0 1 1\nread - 0 1 -\nread a 0 1 0\nend\n")?;
+    let wanted = b"report 1\nthread 0\ndone\n\
+        done sha256 7b46aa5f40cd186b3fb152f00727d4d363c8c1aec364a2e441c21e0afd95fdda\n\
+        done sha256 266dbb0bc655df095779b4d840903e53556280ddfca25da3a97b90590657725d\n\
+        done sha256 f327fa609fd9b2a4fa018127d24863f156dc91633c59ab41e7b9481372e1607c\n\
+        done fill 11\nshard 0 5\n0 0 0 soft\n0 1 0 soft\n0 2 0 soft\n0 3 0 plain\n0 4 0 soft\nend\n";
+    assert_eq!(rt; report.as_slice(), wanted.as_slice());
+    Ok(())
+}
+
+// Each section reads what the one before it wrote; the first reads what was never written.
+#[test]
+fn sixteen_sections_follow_one_another(rt: HostRuntime) -> Result<(), Fail> {
+    let digests = digests_of(rt.alloc(), b"blkcrypt 1\ndisk 2\nfallback on\n\
+        key a aes-256-xts 512 8 000102030405060708090a0b0c0d0e0f101112131415161718191a1b1c1d1e1f202122232425262728292a2b2c2d2e2f303132333435363738393a3b3c3d3e3f\n\
+        thread\nwrite a 0 1 0 fill 00\nread a 15 1 f\nthread\nwrite a 1 1 1 fill 01\nread a 0 1 0\n\
+        thread\nwrite a 2 1 2 fill 02\nread a 1 1 1\nthread\nwrite a 3 1 3 fill 03\nread a 2 1 2\n\
+        thread\nwrite a 4 1 4 fill 04\nread a 3 1 3\nthread\nwrite a 5 1 5 fill 05\nread a 4 1 4\n\
+        thread\nwrite a 6 1 6 fill 06\nread a 5 1 5\nthread\nwrite a 7 1 7 fill 07\nread a 6 1 6\n\
+        thread\nwrite a 8 1 8 fill 08\nread a 7 1 7\nthread\nwrite a 9 1 9 fill 09\nread a 8 1 8\n\
+        thread\nwrite a 10 1 a fill 0a\nread a 9 1 9\nthread\nwrite a 11 1 b fill 0b\nread a 10 1 a\n\
+        thread\nwrite a 12 1 c fill 0c\nread a 11 1 b\nthread\nwrite a 13 1 d fill 0d\nread a 12 1 c\n\
+        thread\nwrite a 14 1 e fill 0e\nread a 13 1 d\nthread\nwrite a 15 1 f fill 0f\nread a 14 1 e\nend\n", 1)?;
+    let report = b"18ab396fff161c49e0d60a009c00d0b3222eb94fa666393c3bef7a593c07bbf5";
+    let image = b"a910a2b7b9ffa0d76eed9f1877e19dbd96c510779b560a3b416bf34118ebdbc7";
+    assert_eq!(rt; digests, (*report, *image));
+    Ok(())
+}
+
+// The whole disk in one bio, up to the highest number; then all of it but its first sector, each under its neighbour's
+// number.
+#[test]
+fn a_bio_has_256_units(rt: HostRuntime) -> Result<(), Fail> {
+    let digests = digests_of(rt.alloc(), b"blkcrypt 1\ndisk 32\nfallback on\n\
+        key a aes-256-xts 512 8 000102030405060708090a0b0c0d0e0f101112131415161718191a1b1c1d1e1f202122232425262728292a2b2c2d2e2f303132333435363738393a3b3c3d3e3f\n\
+        thread\nwrite a 0 256 fffffffffffffeff fill 5a\nread a 0 256 fffffffffffffeff\nread a 1 255 fffffffffffffeff\nend\n", 1)?;
+    let report = b"732fc9e416df458780037eeccab09caf0e6d4c20daf06b8ace1a6ef35e966b3d";
+    let image = b"1cfeefecddff1827f179f72d5abb275ba0f21abf567f647e9830a324d245aeb8";
+    assert_eq!(rt; digests, (*report, *image));
+    Ok(())
+}
+
+// Both modes and all four data unit sizes, two units each: written, read back, and the first read under the number of
+// the second. With two shards an entry stands in the list of its block.
+#[test]
+fn keys_of_each_mode_and_size(rt: HostRuntime) -> Result<(), Fail> {
+    let text = b"blkcrypt 1\ndisk 16\nfallback on\n\
+        key x512 aes-256-xts 512 16 000102030405060708090a0b0c0d0e0f101112131415161718191a1b1c1d1e1f202122232425262728292a2b2c2d2e2f303132333435363738393a3b3c3d3e3f\n\
+        key x1024 aes-256-xts 1024 16 000102030405060708090a0b0c0d0e0f101112131415161718191a1b1c1d1e1f202122232425262728292a2b2c2d2e2f303132333435363738393a3b3c3d3e3f\n\
+        key x2048 aes-256-xts 2048 16 000102030405060708090a0b0c0d0e0f101112131415161718191a1b1c1d1e1f202122232425262728292a2b2c2d2e2f303132333435363738393a3b3c3d3e3f\n\
+        key x4096 aes-256-xts 4096 16 000102030405060708090a0b0c0d0e0f101112131415161718191a1b1c1d1e1f202122232425262728292a2b2c2d2e2f303132333435363738393a3b3c3d3e3f\n\
+        key e512 aes-128-cbc-essiv 512 16 808182838485868788898a8b8c8d8e8f\n\
+        key e1024 aes-128-cbc-essiv 1024 16 808182838485868788898a8b8c8d8e8f\n\
+        key e2048 aes-128-cbc-essiv 2048 16 808182838485868788898a8b8c8d8e8f\n\
+        key e4096 aes-128-cbc-essiv 4096 16 808182838485868788898a8b8c8d8e8f\n\
+        thread\n\
+        write x512 0 2 1000000000000000000000000000000 fill 10\nwrite x1024 16 2 1000000000000000000000000000001 fill 11\n\
+        write x2048 32 2 1000000000000000000000000000002 fill 12\nwrite x4096 48 2 1000000000000000000000000000003 fill 13\n\
+        write e512 64 2 1000000000000000000000000000004 fill 14\nwrite e1024 80 2 1000000000000000000000000000005 fill 15\n\
+        write e2048 96 2 1000000000000000000000000000006 fill 16\nwrite e4096 112 2 1000000000000000000000000000007 fill 17\n\
+        read x512 0 2 1000000000000000000000000000000\nread x1024 16 2 1000000000000000000000000000001\n\
+        read x2048 32 2 1000000000000000000000000000002\nread x4096 48 2 1000000000000000000000000000003\n\
+        read e512 64 2 1000000000000000000000000000004\nread e1024 80 2 1000000000000000000000000000005\n\
+        read e2048 96 2 1000000000000000000000000000006\nread e4096 112 2 1000000000000000000000000000007\n\
+        read x512 0 1 1000000000000000000000000000001\nread x1024 16 1 1000000000000000000000000000002\n\
+        read x2048 32 1 1000000000000000000000000000003\nread x4096 48 1 1000000000000000000000000000004\n\
+        read e512 64 1 1000000000000000000000000000005\nread e1024 80 1 1000000000000000000000000000006\n\
+        read e2048 96 1 1000000000000000000000000000007\nread e4096 112 1 1000000000000000000000000000008\nend\n";
+    let image = b"92492a9a4ac0c3e188bea15401bc10fba5f4f5200c637679a1cf8ccc82b41e92";
+    let digests = digests_of(rt.alloc(), text, 1)?;
+    let report = b"992eee2b8e5a421199d481d439dd98db365c6926b6c81bb9b2d804b7ca3f3822";
+    assert_eq!(rt; digests, (*report, *image));
+    let digests = digests_of(rt.alloc(), text, 2)?;
+    let report = b"2dedd9fd9cf702de6bcef74b0dfcecb5a139584fc885340fbbe684d4eb672de9";
+    assert_eq!(rt; digests, (*report, *image));
+    Ok(())
+}
+
+/// A script with the operation `write a 0 2 7 hex ..`, whose bytes are 512 of each of 1, 2, 3 and 4.
+fn written_in_digits(alloc: Global) -> Result<Vec<u8>, Fail> {
+    let mut text = Vec::new(alloc);
+    text.extend_from_slice(b"blkcrypt 1\ndisk 1\nfallback on\n\
+        key a aes-256-xts 1024 16 000102030405060708090a0b0c0d0e0f101112131415161718191a1b1c1d1e1f202122232425262728292a2b2c2d2e2f303132333435363738393a3b3c3d3e3f\n\
+        thread\nwrite a 0 2 7 hex ")?;
+    for digit in [b'1', b'2', b'3', b'4'] {
+        for _ in 0..512 {
+            text.push(b'0')?;
+            text.push(digit)?;
+        }
+    }
+    text.extend_from_slice(b"\nread a 2 1 8\nread a 0 1 7\nread a 0 2 7\nend\n")?;
+    Ok(text)
+}
+
+#[test]
+fn a_text_gives_each_unit_its_own_bytes(rt: HostRuntime) -> Result<(), Fail> {
+    let text = written_in_digits(rt.alloc())?;
+    let report = report_of(rt.alloc(), text.as_slice())?;
+    let wanted = b"report 1\nthread 0\ndone\n\
+        done sha256 d87521b85b99102b48870f783fe627804321685dd29a17596ca1963f7cfeebae\n\
+        done sha256 2ddfe0faea440b60d8945f30cee07b2a1eae8d5cab910494889fbc263c524ffe\n\
+        done sha256 4c98d93fc6cd8e66f22a1440ab61c08f30d2ed24690c7260fc1bacacefdad9c9\n\
+        shard 0 6\n0 0 0 soft\n0 0 1 soft\n0 1 0 soft\n0 2 0 soft\n0 3 0 soft\n0 3 1 soft\nend\n";
+    assert_eq!(rt; report.as_slice(), wanted.as_slice());
+    let digests = digests_of(rt.alloc(), text.as_slice(), 1)?;
+    let report = b"7ee66688e678b929b743321fc1a97d936d88f0b750d52bd6539dac8629dc02c2";
+    let image = b"586e51fcc02abc8621014bd8d7c7e44f377feaa968f3feaf68aa1e7020a7b66d";
+    assert_eq!(rt; digests, (*report, *image));
     Ok(())
 }
 
 #[test]
-fn blocks_take_turns_among_the_shards(rt: HostRuntime) -> Result<(), Fail> {
-    let alloc = rt.alloc();
-    let section = vec![in alloc; write(0, 1), write(8, 2), write(16, 3), write(24, 4)]?;
-    let script = script_of(alloc, 4, key_a(alloc)?, section)?;
-    let finished = serial(alloc, &script, vec![in alloc; 0; 16384]?, 3)?;
-
-    let lines = finished.report.shards();
-    assert_eq!(rt; lines.len(), 3);
-    assert_eq!(rt; lines[0].as_slice(), [soft(0), soft(3)].as_slice());
-    assert_eq!(rt; lines[1].as_slice(), [soft(1)].as_slice());
-    assert_eq!(rt; lines[2].as_slice(), [soft(2)].as_slice());
-    Ok(())
-}
-
-// SHA-256 of the image that another implementation makes: zeros, and in sector 3 the data unit of 512 bytes 5a under the
-// key of CBC-ESSIV whose bytes are 80 to 8f, and number 255.
-#[test]
-fn a_write_under_cbc_essiv(rt: HostRuntime) -> Result<(), Fail> {
-    let alloc = rt.alloc();
-    let raw: Vec<u8> = (128..144u8).collect(alloc)?;
-    let named = key_of(Mode::Aes128CbcEssiv, raw.as_slice())?;
-    let context = Some(Context {
-        key: KeyNo(0),
-        dun: Dun::from_words([255, 0, 0, 0]),
-    });
-    let write = Op::Write {
-        context,
-        sector: 3,
-        units: 1,
-        text: Text::Fill(0x5a),
-    };
-    let script = script_of(alloc, 1, named, vec![in alloc; write]?)?;
-    let finished = serial(alloc, &script, vec![in alloc; 0; 4096]?, 1)?;
-    let digest = [
-        0x96, 0x05, 0x83, 0x23, 0x94, 0x88, 0xa8, 0x3f, 0x37, 0x14, 0x82, 0x59, 0x02, 0x93, 0xf2,
-        0x6c, 0x6d, 0x35, 0x01, 0x0f, 0x6b, 0x4a, 0x94, 0x50, 0x35, 0x7e, 0xe0, 0x01, 0xe2, 0xf0,
-        0xd6, 0xd8,
-    ];
-    assert_eq!(rt; Sha256::digest(finished.image.as_slice()), digest);
+fn what_submits_no_bio_is_answered_by_its_name(rt: HostRuntime) -> Result<(), Fail> {
+    let report = report_of(rt.alloc(), b"blkcrypt 1\ndisk 1\nfallback on\n\
+        key a aes-256-xts 512 8 000102030405060708090a0b0c0d0e0f101112131415161718191a1b1c1d1e1f202122232425262728292a2b2c2d2e2f303132333435363738393a3b3c3d3e3f\n\
+        thread\nplug\nwrite a 0 0 0 fill 00\nwrite a 1 1 0 fill 01\nunplug\nevict a\nread a 1 1 0\nend\n")?;
+    let wanted = b"report 1\nthread 0\nplug\nrefused empty\ndone\nunplug\nevicted\ndone fill 01\nshard 0 2\n0 2 0 soft\n0 5 0 soft\nend\n";
+    assert_eq!(rt; report.as_slice(), wanted.as_slice());
     Ok(())
 }
