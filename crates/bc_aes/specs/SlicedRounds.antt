@@ -2,7 +2,7 @@
 -- speak of these; no public one does.
 use Rattle.std.specs.Prelude.{◌≡◌, ℕ, ◌+◌, ◌%◌, ◌<◌, List, length, map, slice_index_or}
 use Rattle.bc_aes.specs.Field.{product}
-use Rattle.bc_aes.specs.State.{at, state_of, add_round_key}
+use Rattle.bc_aes.specs.State.{at, state_of}
 use Rattle.bc_aes.specs.KeyExpansion.{round_key}
 use Rattle.bc_aes.specs.Slices.{slices_of, block_of}
 use Rattle.bc_aes.specs.declared.slices.Slices.{Slices}
@@ -15,9 +15,9 @@ turned n state = state_of (λ r c. at state ((r + n) % 4) c)
 unfoldable pub doubled : List ℕ → List ℕ
 doubled state = map (product 2) state
 
--- each block of `sum` is that block of `old` plus that block of `key`
-pub record IsSlicedSum (old key sum : List (List ℕ)) : Type 0 where
-  pub each : (k : ℕ) → k < 8 → block_of sum k ≡ add_round_key (block_of old k) (block_of key k)
+-- each block of the new slices is `f` of that block of the old ones and that block of the key
+pub record EachSlicedByKey (f : List ℕ → List ℕ → List ℕ) (old key new : List (List ℕ)) : Type 0 where
+  pub each : (k : ℕ) → k < 8 → block_of new k ≡ f (block_of old k) (block_of key k)
 
 -- the round keys of a schedule, each of them in all eight blocks
 pub record AreRoundKeys (schedule : List ℕ) (keys : List Slices) : Type 0 where

@@ -4,9 +4,9 @@
 
 ghost use Rattle.std.specs.Prelude.{◌≡◌, [], ◌∷◌};
 ghost use Rattle.std.specs.Simd.Lanes.{pick_l};
-ghost use Rattle.bc_aes.specs.State.{shift_rows, inv_shift_rows, mix_columns, inv_mix_columns};
+ghost use Rattle.bc_aes.specs.State.{shift_rows, inv_shift_rows, mix_columns, inv_mix_columns, add_round_key};
 ghost use Rattle.bc_aes.specs.Slices.{slices_of, EachSlicedBlock};
-ghost use Rattle.bc_aes.specs.SlicedRounds.{turned, doubled, IsSlicedSum};
+ghost use Rattle.bc_aes.specs.SlicedRounds.{turned, doubled, EachSlicedByKey};
 
 use crate::slices::Slices;
 use std::simd::prelude::*;
@@ -131,7 +131,7 @@ fn doubled(q: Slices) -> Slices
 /// AddRoundKey of each block, with the same block of the key (FIPS 197, 5.1.4).
 #[inline(always)]
 pub fn add(q: Slices, key: Slices) -> Slices
-    ensures adds { IsSlicedSum (slices_of q) (slices_of key) (slices_of result) }
+    ensures adds { EachSlicedByKey add_round_key (slices_of q) (slices_of key) (slices_of result) }
 {
     Slices {
         s0: q.s0 ^ key.s0,

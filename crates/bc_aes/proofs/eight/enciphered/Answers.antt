@@ -1,0 +1,36 @@
+use Rattle.std.proofs.Common.{List, ℕ, ◌≡◌, ◌+◌, ◌-◌, length, ap, ap₂, sym, ◌∙◌, arith}
+use Rattle.bc_aes.specs.State.{add_round_key}
+use Rattle.bc_aes.specs.Cipher.{round, last_round, after_round, encipher_by}
+use Rattle.bc_aes.specs.Slices.{slices_of, block_of}
+use Rattle.bc_aes.proofs.RoundLemmas.{after_round-none, after_round-more}
+use Rattle.bc_aes.proofs.eight.enciphered.Goals as goal
+
+pub loop-before-init : goal.loop-before-init
+loop-before-init c = λ schedule keys. record {
+  each = λ k h.
+      let block : List ℕ = block_of (slices_of c.args.q) k in
+      c.add-state.ensures.adds.each k h ∙ ap (add_round_key block) (keys.each 0 k _ (omega arith) h) ∙ sym (after_round-none schedule block);
+}
+
+pub loop-before-preserved : goal.loop-before-preserved
+loop-before-preserved c = λ schedule keys. record {
+  each = λ k h.
+      c.round-next.ensures.goes_on.each k h
+      ∙ ap₂ (λ (s key : List ℕ). round s key) ((c.loop-before.invariant schedule keys).each k h) (keys.each (c.loop-before.before + 1) k _ (omega arith) h)
+      ∙ sym (after_round-more schedule (block_of (slices_of c.args.q) k) c.loop-before.before);
+}
+
+pub returns : goal.returns
+unfolding encipher_by
+returns c =
+    let last : ℕ = length c.args.keys.now - 1 in
+    let before : c.loop-before.before ≡ last - 1 = omega arith in
+    record {
+      enciphers = λ schedule keys. record {
+        each = λ k h.
+            c.last_round.ensures.ends.each k h
+            ∙ ap₂ (λ (s key : List ℕ). last_round s key)
+            ((c.loop-before.invariant schedule keys).each k h ∙ ap (λ (n : ℕ). after_round schedule (block_of (slices_of c.args.q) k) n) before)
+            (keys.each last k _ (omega arith) h);
+      };
+    }

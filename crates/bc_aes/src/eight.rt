@@ -1,0 +1,71 @@
+//! The cipher on eight blocks at a time, in bit slices.
+
+ghost use Rattle.std.specs.Prelude.{◌≡◌, ℕ, ◌-◌, ◌<◌, ◌≤◌, List, length};
+ghost use Rattle.bc_aes.specs.Cipher as cipher;
+ghost use Rattle.bc_aes.specs.Slices.{slices_of, EachSlicedBlock};
+ghost use Rattle.bc_aes.specs.SlicedRounds.{EachSlicedByKey, AreRoundKeys};
+
+use crate::circuit::{inv_sub_bytes, sub_bytes};
+use crate::layers::{add, inv_mix_columns, inv_shift_rows, mix_columns, shift_rows};
+use crate::slices::Slices;
+
+// SubBytes, ShiftRows, MixColumns and AddRoundKey.
+#[inline(always)]
+fn round(q: Slices, key: Slices) -> Slices
+    ensures goes_on { EachSlicedByKey cipher.round (slices_of q) (slices_of key) (slices_of result) }
+{
+    add(mix_columns(shift_rows(sub_bytes(q))), key)
+}
+
+// SubBytes, ShiftRows and AddRoundKey.
+#[inline(always)]
+fn last_round(q: Slices, key: Slices) -> Slices
+    ensures ends { EachSlicedByKey cipher.last_round (slices_of q) (slices_of key) (slices_of result) }
+{
+    add(shift_rows(sub_bytes(q)), key)
+}
+
+// InvShiftRows, InvSubBytes, AddRoundKey and InvMixColumns.
+#[inline(always)]
+fn inv_round(q: Slices, key: Slices) -> Slices
+    ensures goes_on { EachSlicedByKey cipher.inv_round (slices_of q) (slices_of key) (slices_of result) }
+{
+    inv_mix_columns(add(inv_sub_bytes(inv_shift_rows(q)), key))
+}
+
+// InvShiftRows, InvSubBytes and AddRoundKey.
+#[inline(always)]
+fn inv_last_round(q: Slices, key: Slices) -> Slices
+    ensures ends { EachSlicedByKey cipher.inv_last_round (slices_of q) (slices_of key) (slices_of result) }
+{
+    add(inv_sub_bytes(inv_shift_rows(q)), key)
+}
+
+// Eight blocks, enciphered (FIPS 197, 5.1).
+#[inline(always)]
+fn enciphered(keys: &[Slices], q: Slices) -> Slices
+    requires { 2 ≤ length keys.now }
+    ensures enciphers { (schedule : List ℕ) → AreRoundKeys schedule keys.now → EachSlicedBlock (cipher.encipher_by (length keys.now - 1) schedule) (slices_of q) (slices_of result) }
+{
+    let mut state = add(q, keys[0]);
+    for before in 0..keys.len() - 2 {
+        let next = round(state, keys[before + 1]);
+        state = next;
+    }
+    last_round(state, keys[keys.len() - 1])
+}
+
+// Eight blocks, deciphered (FIPS 197, 5.3).
+#[inline(always)]
+fn deciphered(keys: &[Slices], q: Slices) -> Slices
+    requires { 2 ≤ length keys.now }
+    ensures deciphers { (schedule : List ℕ) → AreRoundKeys schedule keys.now → EachSlicedBlock (cipher.decipher_by (length keys.now - 1) schedule) (slices_of q) (slices_of result) }
+{
+    let last = keys.len() - 1;
+    let mut state = add(q, keys[last]);
+    for before in 0..last - 1 {
+        let next = inv_round(state, keys[last - (before + 1)]);
+        state = next;
+    }
+    inv_last_round(state, keys[0])
+}
