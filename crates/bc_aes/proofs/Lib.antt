@@ -16,3 +16,4 @@ pub mod ExchangeLemmas
 pub mod TransposeLemmas
 pub mod SliceLemmas
 pub mod MixLemmas
+pub mod RoundKeyLemmas

@@ -23,7 +23,7 @@ same_below f g n same =
 
 -- ---- the bits of a byte
 
-byte_of_bits-lt : (bit : ℕ → ℕ) → ((i : ℕ) → bit i < 2) → byte_of_bits bit < 256
+pub byte_of_bits-lt : (bit : ℕ → ℕ) → ((i : ℕ) → bit i < 2) → byte_of_bits bit < 256
 byte_of_bits-lt bit below =
     omega (arith, below 0, below 1, below 2, below 3, below 4, below 5, below 6, below 7)
 
