@@ -1,13 +1,14 @@
 //! The cipher on eight blocks at a time, in bit slices.
 
 ghost use Rattle.std.specs.Prelude.{◌≡◌, ℕ, ◌-◌, ◌<◌, ◌≤◌, List, length};
+ghost use Rattle.bc_aes.specs.Blocks.{EachBlock};
 ghost use Rattle.bc_aes.specs.Cipher as cipher;
 ghost use Rattle.bc_aes.specs.Slices.{slices_of, EachSlicedBlock};
 ghost use Rattle.bc_aes.specs.SlicedRounds.{EachSlicedByKey, AreRoundKeys};
 
 use crate::circuit::{inv_sub_bytes, sub_bytes};
 use crate::layers::{add, inv_mix_columns, inv_shift_rows, mix_columns, shift_rows};
-use crate::slices::Slices;
+use crate::slices::{Slices, from_blocks, to_blocks};
 
 // SubBytes, ShiftRows, MixColumns and AddRoundKey.
 #[inline(always)]
@@ -68,4 +69,24 @@ fn deciphered(keys: &[Slices], q: Slices) -> Slices
         state = next;
     }
     inv_last_round(state, keys[0])
+}
+
+/// Enciphers eight blocks in place under the round keys of a schedule, in slices.
+#[inline(never)]
+pub fn encrypt_eight(keys: &[Slices], piece: &mut [u8; 128])
+    requires { 2 ≤ length keys.now }
+    ensures enciphers { (schedule : List ℕ) → AreRoundKeys schedule keys.now → EachBlock (cipher.encipher_by (length keys.now - 1) schedule) piece.old piece.new }
+{
+    let state = enciphered(keys, from_blocks(piece));
+    to_blocks(state, piece);
+}
+
+/// Deciphers eight blocks in place under the round keys of a schedule, in slices.
+#[inline(never)]
+pub fn decrypt_eight(keys: &[Slices], piece: &mut [u8; 128])
+    requires { 2 ≤ length keys.now }
+    ensures deciphers { (schedule : List ℕ) → AreRoundKeys schedule keys.now → EachBlock (cipher.decipher_by (length keys.now - 1) schedule) piece.old piece.new }
+{
+    let state = deciphered(keys, from_blocks(piece));
+    to_blocks(state, piece);
 }
