@@ -1,11 +1,10 @@
 -- The state and the schedule as words of 32 bits, one for each column, with row 0 in the lowest byte. The contracts of
 -- the private functions speak of these; no public one does.
-use Rattle.std.specs.Prelude.{◌≡◌, ℕ, ◌+◌, ◌<◌, ◌≤◌, List, [], ◌∷◌, ◌++◌, length, take, slice_index}
+use Rattle.std.specs.Prelude.{◌≡◌, ℕ, ◌+◌, ◌<◌, ◌≤◌, List, [], ◌∷◌, ◌++◌, length, slice_index}
 use Rattle.std.specs.List.{flat_map}
 use Rattle.std.specs.Int.{w32, to_le_bytes, from_le_bytes}
 use Rattle.bc_aes.specs.Field.{product}
 use Rattle.bc_aes.specs.State.{circulant, mixed, inv_mixing_row}
-use Rattle.bc_aes.specs.KeyExpansion.{key_expansion}
 
 -- the bytes of a word, row 0 first
 abbrev pub column : ℕ → List ℕ
@@ -45,8 +44,3 @@ pub record IsUnmixed (words unmixed : List ℕ) : Type 0 where
   pub same_length : length unmixed ≡ length words
   pub between : (i : ℕ) → 4 ≤ i → i + 4 < length words
       → column (slice_index unmixed i) ≡ unmixed_column (column (slice_index words i))
-
--- both schedules of a key of nk words, which are the first words of the schedule
-pub record IsExpanded (nk : ℕ) (words unmixed : List ℕ) : Type 0 where
-  pub schedule_is : schedule_bytes words ≡ key_expansion nk (schedule_bytes (take nk words))
-  pub unmixed_is : IsUnmixed words unmixed

@@ -5,8 +5,10 @@ ghost use Rattle.bc_aes.specs.Cipher.{encipher, decipher};
 ghost use Rattle.bc_aes.specs.Blocks.{EachBlock};
 
 use crate::blocks::{decrypt_each, encrypt_each};
+use crate::round_keys::{slice_keys, zeros};
 use crate::rounds::{decrypt, encrypt};
 use crate::schedule::{expand, unmix};
+use crate::slices::Slices;
 use std::marker::Model;
 
 /// AES-128 under one key (FIPS 197), expanded for both directions. A contract sees the key, 16 bytes.
@@ -14,17 +16,19 @@ use std::marker::Model;
 pub struct Aes128 {
     schedule: [u32; 44],
     unmixed: [u32; 44],
+    sliced: [Slices; 11],
 }
 
 impl Model for Aes128 {
     ghost use Rattle.std.specs.Prelude.{ℕ, List, take};
-    ghost use Rattle.bc_aes.specs.Columns.{schedule_bytes, IsExpanded};
+    ghost use Rattle.bc_aes.specs.Columns.{schedule_bytes};
+    ghost use Rattle.bc_aes.specs.SlicedRounds.{IsExpanded};
 
     ghost Value = { List ℕ };
 
     ghost view = { λ aes. schedule_bytes (take 4 aes.schedule) };
 
-    ghost invariant = { λ aes. IsExpanded 4 aes.schedule aes.unmixed };
+    ghost invariant = { λ aes. IsExpanded 4 aes.schedule aes.unmixed aes.sliced };
 }
 
 impl Aes128 {
@@ -36,7 +40,13 @@ impl Aes128 {
         expand(key, &mut schedule);
         let mut unmixed = [0; 44];
         unmix(&schedule, &mut unmixed);
-        Aes128 { schedule, unmixed }
+        let mut sliced = [zeros(); 11];
+        slice_keys(&schedule, &mut sliced);
+        Aes128 {
+            schedule,
+            unmixed,
+            sliced,
+        }
     }
 
     /// Enciphers one block of 16 bytes in place (FIPS 197, 5.1).
@@ -60,7 +70,7 @@ impl Aes128 {
         requires { length text.old % 16 ≡ 0 }
         ensures enciphers { EachBlock (encipher 4 self.now) text.old text.new }
     {
-        encrypt_each(&self.schedule, text);
+        encrypt_each(&self.schedule, &self.sliced, text);
     }
 
     /// Deciphers a text of whole blocks in place, each block by itself.
@@ -68,6 +78,6 @@ impl Aes128 {
         requires { length text.old % 16 ≡ 0 }
         ensures deciphers { EachBlock (decipher 4 self.now) text.old text.new }
     {
-        decrypt_each(&self.schedule, &self.unmixed, text);
+        decrypt_each(&self.schedule, &self.unmixed, &self.sliced, text);
     }
 }

@@ -5,8 +5,10 @@ ghost use Rattle.bc_aes.specs.Cipher.{encipher, decipher};
 ghost use Rattle.bc_aes.specs.Blocks.{EachBlock};
 
 use crate::blocks::{decrypt_each, encrypt_each};
+use crate::round_keys::{slice_keys, zeros};
 use crate::rounds::{decrypt, encrypt};
 use crate::schedule::{expand, unmix};
+use crate::slices::Slices;
 use std::marker::Model;
 
 /// AES-256 under one key (FIPS 197), expanded for both directions. A contract sees the key, 32 bytes.
@@ -14,17 +16,19 @@ use std::marker::Model;
 pub struct Aes256 {
     schedule: [u32; 60],
     unmixed: [u32; 60],
+    sliced: [Slices; 15],
 }
 
 impl Model for Aes256 {
     ghost use Rattle.std.specs.Prelude.{ℕ, List, take};
-    ghost use Rattle.bc_aes.specs.Columns.{schedule_bytes, IsExpanded};
+    ghost use Rattle.bc_aes.specs.Columns.{schedule_bytes};
+    ghost use Rattle.bc_aes.specs.SlicedRounds.{IsExpanded};
 
     ghost Value = { List ℕ };
 
     ghost view = { λ aes. schedule_bytes (take 8 aes.schedule) };
 
-    ghost invariant = { λ aes. IsExpanded 8 aes.schedule aes.unmixed };
+    ghost invariant = { λ aes. IsExpanded 8 aes.schedule aes.unmixed aes.sliced };
 }
 
 impl Aes256 {
@@ -36,7 +40,13 @@ impl Aes256 {
         expand(key, &mut schedule);
         let mut unmixed = [0; 60];
         unmix(&schedule, &mut unmixed);
-        Aes256 { schedule, unmixed }
+        let mut sliced = [zeros(); 15];
+        slice_keys(&schedule, &mut sliced);
+        Aes256 {
+            schedule,
+            unmixed,
+            sliced,
+        }
     }
 
     /// Enciphers one block of 16 bytes in place (FIPS 197, 5.1).
@@ -60,7 +70,7 @@ impl Aes256 {
         requires { length text.old % 16 ≡ 0 }
         ensures enciphers { EachBlock (encipher 8 self.now) text.old text.new }
     {
-        encrypt_each(&self.schedule, text);
+        encrypt_each(&self.schedule, &self.sliced, text);
     }
 
     /// Deciphers a text of whole blocks in place, each block by itself.
@@ -68,6 +78,6 @@ impl Aes256 {
         requires { length text.old % 16 ≡ 0 }
         ensures deciphers { EachBlock (decipher 8 self.now) text.old text.new }
     {
-        decrypt_each(&self.schedule, &self.unmixed, text);
+        decrypt_each(&self.schedule, &self.unmixed, &self.sliced, text);
     }
 }

@@ -14,6 +14,7 @@ invariant_of-result c =
     record {
       schedule_is = whole ∙ ap (λ (key : List ℕ). key_expansion 4 key) (sym begins);
       unmixed_is = c.unmix.ensures.unmixes;
+      sliced_is = c.slice_keys.ensures.slices;
     }
 
 pub returns : goal.returns

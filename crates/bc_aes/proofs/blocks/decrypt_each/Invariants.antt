@@ -1,8 +1,0 @@
-use Rattle.std.proofs.Common.{◌-◌, ◌/◌, length}
-use Rattle.bc_aes.specs.Cipher.{decipher_by}
-use Rattle.bc_aes.specs.Columns.{schedule_bytes}
-use Rattle.bc_aes.proofs.BlockLemmas.{Ciphered}
-use Rattle.bc_aes.proofs.blocks.decrypt_each.Given as goal
-
-abbrev pub invariant-loop-i : goal.invariant-loop-i
-invariant-loop-i l = Ciphered (decipher_by (length l.schedule / 4 - 1) (schedule_bytes l.schedule)) l.i l.fn.raw l.raw
