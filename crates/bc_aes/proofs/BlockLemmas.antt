@@ -1,10 +1,9 @@
 -- Texts whose blocks are ciphered, part by part.
-use Rattle.std.proofs.Common.{◌≡◌, ℕ, zero, suc, ◌+◌, ◌-◌, ◌*◌, ◌/◌, ◌%◌, ◌<◌, ◌≤◌, List, [], ◌++◌, length, take, drop, refl, sym, ap, ap₂, subst, ◌∙◌, arith, inl, inr}
+use Rattle.std.proofs.Common.{◌≡◌, ℕ, zero, suc, ◌+◌, ◌-◌, ◌*◌, ◌/◌, ◌%◌, ◌≤◌, List, [], ◌++◌, length, take, drop, refl, sym, ap, ap₂, subst, ◌∙◌, arith, inl, inr}
 use Rattle.std.specs.Prelude.{slice_range}
 use Rattle.std.proofs.lemmas.Bool.{cases_lt}
-use Rattle.std.proofs.lemmas.List.{take-take, drop-drop, drop_at, drop_all, take_at, take_all, append-nil, length-append, length-take-le, length-drop, take-append-drop}
-use Rattle.std.proofs.lemmas.Slice.{between_is, between_from_start}
-use Rattle.std.proofs.lemmas.List.Edits.{length-between}
+use Rattle.std.proofs.lemmas.List.{take-take, drop-drop, drop_at, drop_all, take_at, take_all, append-nil, length-append, length-take-le, take-append-drop}
+use Rattle.std.proofs.lemmas.Slice.{between_is}
 use borrow.Rule.Slice.PartMut.{put_mid}
 use Rattle.bc_aes.specs.Blocks.{block, EachBlock}
 
@@ -37,9 +36,9 @@ each_block-append cipher xs ys xs' ys' whole h k =
     record {
       same_length = omega (arith, length-append xs' ys', h.same_length, k.same_length);
       ciphered = λ i lt. elim (cases_lt i n) [
-          | inl below ↦ block-left xs' ys' i (omega arith) ∙ h.ciphered i (omega arith) ∙ ap cipher (sym (block-left xs ys i (omega arith)))
-          | inr above ↦ block-right xs' ys' n i left' above ∙ k.ciphered (i - n) (omega arith) ∙ ap cipher (sym (block-right xs ys n i left above))
-        ];
+        | inl below ↦ block-left xs' ys' i (omega arith) ∙ h.ciphered i (omega arith) ∙ ap cipher (sym (block-left xs ys i (omega arith)))
+        | inr above ↦ block-right xs' ys' n i left' above ∙ k.ciphered (i - n) (omega arith) ∙ ap cipher (sym (block-right xs ys n i left above))
+      ];
     }
 
 -- ---- a text whose first part is ciphered

@@ -1,12 +1,12 @@
 -- Functions of the four bytes of a column that take sums to sums: two of them agree where they agree on columns in which
 -- one byte stands alone, which is a check by computing.
-use Rattle.std.proofs.Common.{◌≡◌, ℕ, zero, suc, ◌+◌, ◌*◌, ◌%◌, ◌<◌, List, [], ◌∷◌, map, get_or, refl, sym, ap, ap₂, ◌∙◌, arith, bit_xor}
+use Rattle.std.proofs.Common.{◌≡◌, ℕ, zero, suc, ◌<◌, List, [], ◌∷◌, map, get_or, refl, sym, ap, ap₂, ◌∙◌, arith, bit_xor}
 use Rattle.std.specs.Prelude.{slice_index}
 use Rattle.std.specs.List.{range_with_len}
 use Rattle.std.specs.Int.Bits.{xor_zero_r}
 use Rattle.std.proofs.lemmas.List.FromFn.{get_or-map-range_with_len}
-use Rattle.bc_aes.specs.Field.{times_x, product_by, product}
-use Rattle.bc_aes.specs.State.{mixed, mixing_row, inv_mixing_row}
+use Rattle.bc_aes.specs.Field.{product}
+use Rattle.bc_aes.specs.State.{mixed}
 use Rattle.bc_aes.proofs.FieldLemmas.{xor_interchange, product-xor}
 use Rattle.bc_aes.proofs.RoundLemmas.{mixed-xor}
 

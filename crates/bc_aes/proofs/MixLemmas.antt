@@ -1,5 +1,5 @@
 -- MixColumns and its inverse by sums of rows, doubled.
-use Rattle.std.proofs.Common.{◌≡◌, ℕ, ◌+◌, ◌*◌, ◌%◌, ◌<◌, List, [], ◌∷◌, refl, sym, ap, ◌∙◌, arith, bit_xor}
+use Rattle.std.proofs.Common.{◌≡◌, ℕ, ◌+◌, ◌*◌, ◌%◌, ◌<◌, List, refl, arith, bit_xor}
 use Rattle.bc_aes.specs.Field.{times_x, product_by, product}
 use Rattle.bc_aes.specs.State.{at, mixed, mix_columns_by, mix_columns, inv_mix_columns, mixing_row, inv_mixing_row, add_round_key}
 use Rattle.bc_aes.specs.SlicedRounds.{turned, doubled}

@@ -1,7 +1,6 @@
 -- Round keys in slices: each bit of a byte in all bits of a byte.
-use Rattle.std.proofs.Common.{◌≡◌, ℕ, zero, suc, ◌+◌, ◌-◌, ◌/◌, ◌%◌, ◌^◌, ◌<◌, List, [], ◌∷◌, length, set, get_or, replicate, refl, sym, ap, ap₂, ◌∙◌, arith, bit_and, Fits, w8}
+use Rattle.std.proofs.Common.{◌≡◌, ℕ, zero, suc, ◌+◌, ◌-◌, ◌/◌, ◌%◌, ◌^◌, ◌<◌, List, length, set, replicate, sym, ap, ap₂, ◌∙◌, arith, bit_and, Fits, w8}
 use Rattle.std.specs.Prelude.{slice_index, slice_index_or}
-use Rattle.std.specs.List.{range_with_len}
 use Rattle.std.specs.Int.{bit_at}
 use Rattle.std.specs.Simd.Lanes.{zip2, Each1}
 use Rattle.std.proofs.lemmas.List.{get_or-set_same, get_or-set_other}
@@ -10,7 +9,6 @@ use Rattle.std.proofs.lemmas.Nat.Bits.{bit_at_ones, bit_at-zero, bit_at-lt, shr_
 use Rattle.std.proofs.lemmas.Simd.{get_or-zip2, length-zip2, get_or-replicate, Each1-get_or}
 use borrow.Author.Count.{below_more}
 use Rattle.bc_aes.specs.State.{byte_of_bits}
-use Rattle.bc_aes.specs.Columns.{schedule_bytes}
 use Rattle.bc_aes.specs.KeyExpansion.{round_key}
 use Rattle.bc_aes.specs.Slices.{slices_of, byte_of, block_of}
 use Rattle.bc_aes.specs.declared.slices.Slices.{Slices}

@@ -1,15 +1,15 @@
 -- Blocks in bit slices, by their bytes and bits.
-use Rattle.std.proofs.Common.{◌≡◌, ℕ, zero, suc, ◌+◌, ◌*◌, ◌/◌, ◌%◌, ◌^◌, ◌<◌, ◌≤◌, List, [], ◌∷◌, length, map, sum, get_or, refl, sym, ap, ap₂, ◌∙◌, arith, bit_xor}
+use Rattle.std.proofs.Common.{◌≡◌, ℕ, zero, suc, ◌+◌, ◌*◌, ◌/◌, ◌%◌, ◌<◌, List, [], ◌∷◌, length, map, sum, get_or, refl, sym, ap, ap₂, ◌∙◌, arith, bit_xor}
 use Rattle.std.specs.Prelude.{slice_index, slice_index_or}
 use Rattle.std.specs.List.{range_with_len}
 use Rattle.std.specs.Int.{bit_at}
 use Rattle.std.specs.Simd.Lanes.{zip2, pick_l, Each1}
 use Rattle.std.proofs.lemmas.List.FromFn.{fill_by_all, get_or-map-range_with_len, length-map-range_with_len}
-use Rattle.std.proofs.lemmas.Nat.Bits.{bit_at_xor, bit_at-lt, bit_at_above, same_from_bits_below}
+use Rattle.std.proofs.lemmas.Nat.Bits.{bit_at_xor, bit_at-lt, same_from_bits_below}
 use Rattle.std.proofs.lemmas.Nat.{xor_lt}
 use Rattle.std.proofs.lemmas.Simd.{get_or-zip2}
 use Rattle.bc_aes.specs.Field.{times_x, product_by, product}
-use Rattle.bc_aes.specs.State.{at, state_of, byte_of_bits, shift_rows, inv_shift_rows, add_round_key}
+use Rattle.bc_aes.specs.State.{at, byte_of_bits, shift_rows, inv_shift_rows, add_round_key}
 use Rattle.bc_aes.specs.Slices.{slices_of, byte_of, block_of}
 use Rattle.bc_aes.specs.declared.slices.Slices.{Slices}
 use Rattle.bc_aes.specs.SlicedRounds.{turned, doubled}

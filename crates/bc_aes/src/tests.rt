@@ -151,3 +151,96 @@ fn sub_bytes_in_slices(rt: HostRuntime) {
     to_blocks(inv_sub_bytes(from_blocks(&SUBSTITUTED)), &mut piece);
     assert_eq!(rt; piece, STARTS);
 }
+
+// Nine blocks with the example's bytes: eight that go together, and one that is left.
+#[test]
+fn nine_example_blocks(rt: HostRuntime) {
+    let short = Aes128::new(&0x000102030405060708090a0b0c0d0e0f_u128.to_be_bytes());
+    let long = Aes256::new(&COUNTED_KEY);
+    let mut text = [0; 144];
+    for i in 0..9usize {
+        text[16 * i..16 * i + 16].copy_from_slice(&PLAIN.to_be_bytes());
+    }
+    let plain = text;
+    short.encrypt_blocks(&mut text);
+    for i in 0..9usize {
+        assert_eq!(rt;
+            &text[16 * i..16 * i + 16],
+            &0x69c4e0d86a7b0430d8cdb78070b4c55a_u128.to_be_bytes()[..]
+        );
+    }
+    short.decrypt_blocks(&mut text);
+    assert_eq!(rt; text, plain);
+    long.encrypt_blocks(&mut text);
+    for i in 0..9usize {
+        assert_eq!(rt;
+            &text[16 * i..16 * i + 16],
+            &0x8ea2b7ca516745bfeafc49904b496089_u128.to_be_bytes()[..]
+        );
+    }
+    long.decrypt_blocks(&mut text);
+    assert_eq!(rt; text, plain);
+}
+
+// 25 blocks that differ.
+fn many_blocks() -> [u8; 400] {
+    let mut text = [0; 400];
+    for i in 0..400usize {
+        text[i] = (i * 3 % 251) as u8;
+    }
+    text
+}
+
+// Block i of 25.
+fn block_of(text: &[u8; 400], i: usize) -> [u8; 16]
+    requires { i < 25 }
+{
+    let mut block = [0; 16];
+    block.copy_from_slice(&text[16 * i..16 * i + 16]);
+    block
+}
+
+// Many blocks at once beside the same blocks one by one, for each rest and for no block at all.
+#[test]
+fn many_are_as_single_under_aes_128(rt: HostRuntime) {
+    let aes = Aes128::new(&0x2b7e151628aed2a6abf7158809cf4f3c_u128.to_be_bytes());
+    let text = many_blocks();
+    for blocks in 0..26usize {
+        let mut enciphered = text;
+        aes.encrypt_blocks(&mut enciphered[..16 * blocks]);
+        let mut deciphered = text;
+        aes.decrypt_blocks(&mut deciphered[..16 * blocks]);
+        for i in 0..25usize {
+            let mut there = block_of(&text, i);
+            let mut back = block_of(&text, i);
+            if i < blocks {
+                aes.encrypt_block(&mut there);
+                aes.decrypt_block(&mut back);
+            }
+            assert_eq!(rt; block_of(&enciphered, i), there);
+            assert_eq!(rt; block_of(&deciphered, i), back);
+        }
+    }
+}
+
+#[test]
+fn many_are_as_single_under_aes_256(rt: HostRuntime) {
+    let aes = Aes256::new(&BOOK_KEY);
+    let text = many_blocks();
+    for blocks in 0..26usize {
+        let mut enciphered = text;
+        aes.encrypt_blocks(&mut enciphered[..16 * blocks]);
+        let mut deciphered = text;
+        aes.decrypt_blocks(&mut deciphered[..16 * blocks]);
+        for i in 0..25usize {
+            let mut there = block_of(&text, i);
+            let mut back = block_of(&text, i);
+            if i < blocks {
+                aes.encrypt_block(&mut there);
+                aes.decrypt_block(&mut back);
+            }
+            assert_eq!(rt; block_of(&enciphered, i), there);
+            assert_eq!(rt; block_of(&deciphered, i), back);
+        }
+    }
+}

@@ -1,4 +1,4 @@
-use Rattle.std.proofs.Common.{List, ℕ, ◌+◌, ◌-◌, ◌*◌, length, arith}
+use Rattle.std.proofs.Common.{ℕ, ◌+◌, ◌-◌, ◌*◌, length, arith}
 use Rattle.bc_aes.specs.Cipher.{decipher_by}
 use Rattle.bc_aes.proofs.BlockLemmas.{ciphered-none, ciphered-put, ciphered-all}
 use Rattle.bc_aes.proofs.blocks.decrypt_pieces.Goals as goal

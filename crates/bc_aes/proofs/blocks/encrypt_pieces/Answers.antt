@@ -1,4 +1,4 @@
-use Rattle.std.proofs.Common.{List, ℕ, ◌+◌, ◌-◌, ◌*◌, length, arith}
+use Rattle.std.proofs.Common.{ℕ, ◌+◌, ◌-◌, ◌*◌, length, arith}
 use Rattle.bc_aes.specs.Cipher.{encipher_by}
 use Rattle.bc_aes.proofs.BlockLemmas.{ciphered-none, ciphered-put, ciphered-all}
 use Rattle.bc_aes.proofs.blocks.encrypt_pieces.Goals as goal

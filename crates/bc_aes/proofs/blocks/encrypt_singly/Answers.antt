@@ -1,4 +1,4 @@
-use Rattle.std.proofs.Common.{List, ℕ, ◌+◌, ◌-◌, ◌*◌, ◌/◌, length, ap, ◌∙◌, arith}
+use Rattle.std.proofs.Common.{List, ℕ, ◌+◌, ◌-◌, ◌*◌, ◌/◌, length, arith}
 use Rattle.bc_aes.specs.Cipher.{encipher_by}
 use Rattle.bc_aes.specs.Columns.{schedule_bytes}
 use Rattle.bc_aes.proofs.BlockLemmas.{ciphered-none, ciphered-put, ciphered-all, one_block}

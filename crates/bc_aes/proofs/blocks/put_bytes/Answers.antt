@@ -1,4 +1,4 @@
-use Rattle.std.proofs.Common.{◌+◌, length, arith, ◌∙◌}
+use Rattle.std.proofs.Common.{◌+◌, length, arith}
 use Rattle.std.proofs.lemmas.Slice.{drop-put_mid}
 use Rattle.bc_aes.proofs.blocks.put_bytes.Goals as goal
 

@@ -1,4 +1,4 @@
-use Rattle.std.proofs.Common.{List, ℕ, ◌≡◌, ◌<◌, ◌-◌, length, ap, ◌∙◌, arith}
+use Rattle.std.proofs.Common.{List, ℕ, ◌<◌, ◌-◌, length, ap, ◌∙◌, arith}
 use Rattle.bc_aes.specs.Cipher.{decipher_by}
 use Rattle.bc_aes.proofs.eight.decrypt_eight.Goals as goal
 

@@ -1,4 +1,4 @@
-use Rattle.std.proofs.Common.{List, ℕ, ◌≡◌, ◌<◌, ◌-◌, length, ap, ◌∙◌, arith}
+use Rattle.std.proofs.Common.{List, ℕ, ◌<◌, ◌-◌, length, ap, ◌∙◌, arith}
 use Rattle.bc_aes.specs.Cipher.{encipher_by}
 use Rattle.bc_aes.proofs.eight.encrypt_eight.Goals as goal
 
