@@ -36,17 +36,15 @@ impl Aes128 {
     pub fn new(key: &[u8; 16]) -> Aes128
         ensures expands { result ≡ key.now }
     {
-        let mut schedule = [0; 44];
-        expand(key, &mut schedule);
-        let mut unmixed = [0; 44];
-        unmix(&schedule, &mut unmixed);
-        let mut sliced = [zeros(); 11];
-        slice_keys(&schedule, &mut sliced);
-        Aes128 {
-            schedule,
-            unmixed,
-            sliced,
-        }
+        let mut aes = Aes128 {
+            schedule: [0; 44],
+            unmixed: [0; 44],
+            sliced: [zeros(); 11],
+        };
+        expand(key, &mut aes.schedule);
+        unmix(&aes.schedule, &mut aes.unmixed);
+        slice_keys(&aes.schedule, &mut aes.sliced);
+        aes
     }
 
     /// Enciphers one block of 16 bytes in place (FIPS 197, 5.1).

@@ -36,17 +36,15 @@ impl Aes256 {
     pub fn new(key: &[u8; 32]) -> Aes256
         ensures expands { result ≡ key.now }
     {
-        let mut schedule = [0; 60];
-        expand(key, &mut schedule);
-        let mut unmixed = [0; 60];
-        unmix(&schedule, &mut unmixed);
-        let mut sliced = [zeros(); 15];
-        slice_keys(&schedule, &mut sliced);
-        Aes256 {
-            schedule,
-            unmixed,
-            sliced,
-        }
+        let mut aes = Aes256 {
+            schedule: [0; 60],
+            unmixed: [0; 60],
+            sliced: [zeros(); 15],
+        };
+        expand(key, &mut aes.schedule);
+        unmix(&aes.schedule, &mut aes.unmixed);
+        slice_keys(&aes.schedule, &mut aes.sliced);
+        aes
     }
 
     /// Enciphers one block of 16 bytes in place (FIPS 197, 5.1).

@@ -6,7 +6,9 @@
 //! (`KeyExpansion`) and the cipher (`Cipher`). `cipher_laws` states that either direction undoes the other. `plain` is
 //! the slow program that computes as the definitions do. Nothing here allocates, waits or refuses.
 //!
-//! The rounds look up tables, whose entries a key and a text choose: time and caches tell of both.
+//! Many blocks go eight at a time through bit slices (`slices`, `circuit`, `layers`, `eight`), which look up no table.
+//! Single blocks, and what is left of a text below eight blocks, look up tables (`columns`, `rounds`), whose entries a key
+//! and a text choose: time and caches tell of both. So does the key expansion.
 #![tactic(auto)]
 
 mod aes128;

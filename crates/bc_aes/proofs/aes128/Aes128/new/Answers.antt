@@ -4,8 +4,8 @@ use Rattle.bc_aes.specs.Columns.{schedule_bytes}
 use Rattle.bc_aes.proofs.ScheduleLemmas.{key-of_schedule}
 use Rattle.bc_aes.proofs.aes128.Aes128.new.Goals as goal
 
-pub invariant_of-result : goal.invariant_of-result
-invariant_of-result c =
+pub invariant_of-aes : goal.invariant_of-aes
+invariant_of-aes c =
     let words : List ℕ = c.expand.new.schedule in
     let nk : length c.args.key.now / 4 ≡ 4 = omega arith in
     let whole : schedule_bytes words ≡ key_expansion 4 c.args.key.now =
