@@ -1,5 +1,7 @@
 //! The example vectors of FIPS 197 (appendix C) and of NIST SP 800-38A (F.1, electronic codebook).
 
+ghost use Rattle.std.specs.Prelude.{◌<◌};
+
 use crate::circuit::{inv_sub_bytes, sub_bytes};
 use crate::slices::{from_blocks, to_blocks};
 use crate::{Aes128, Aes256, plain};
