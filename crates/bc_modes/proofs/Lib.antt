@@ -1,4 +1,5 @@
 pub mod Doubling
+pub mod LaneBytes
 pub mod Blocks
 pub mod Along
 pub mod Pieces

@@ -13,7 +13,7 @@ loop-block-init c = record { size = refl; written = refl; next = sym (tweak_at-z
 pub loop-block-preserved : goal.loop-block-preserved
 loop-block-preserved c =
     let invariant = c.loop-block.invariant in
-    let bytes = c.copy_from_slice.ensures.after ∙ c.to_le_bytes.ensures ∙ ap (to_le_bytes w128) invariant.next in
+    let bytes = c.copy_from_slice.ensures.after ∙ c.bytes_of.ensures ∙ ap (to_le_bytes w128) invariant.next in
     record {
       size = search (places, rules);
       written = tweaks_more c.args.first c.loop-block.block c.loop-block.tweaks _ (omega arith) invariant.written bytes (omega arith);
