@@ -14,13 +14,15 @@ use std::test::Fail;
 const HEAD: &str = "blkcrypt 1\ndisk 1\nfallback on\n";
 
 /// The bytes 00 to 3f.
-const DIGITS: &str = "000102030405060708090a0b0c0d0e0f101112131415161718191a1b1c1d1e1f202122232425262728292a2b2c2d2e2f303132333435363738393a3b3c3d3e3f";
+const DIGITS: &str =
+    "000102030405060708090a0b0c0d0e0f101112131415161718191a1b1c1d1e1f202122232425262728292a2b2c2d2e2f303132333435363738393a3b3c3d3e3f";
 
 /// 16 bytes.
 const SHORT: &str = "808182838485868788898a8b8c8d8e8f";
 
 /// 64 times the byte 11.
-const ELEVENS: &str = "11111111111111111111111111111111111111111111111111111111111111111111111111111111111111111111111111111111111111111111111111111111";
+const ELEVENS: &str =
+    "11111111111111111111111111111111111111111111111111111111111111111111111111111111111111111111111111111111111111111111111111111111";
 
 /// A text, and the line and the test that fail.
 type Case<'a> = (&'a str, u32, ScriptWhy);
@@ -90,7 +92,11 @@ fn the_size_of_the_disk(rt: HostRuntime) -> Result<(), Fail> {
         ("disk +1\n", 2, ScriptWhy::Number),
         ("disk \n", 2, ScriptWhy::Number),
         ("disk 4294967297\n", 2, ScriptWhy::Number),
-        ("disk 340282366920938463463374607431768211457\n", 2, ScriptWhy::Number),
+        (
+            "disk 340282366920938463463374607431768211457\n",
+            2,
+            ScriptWhy::Number,
+        ),
         ("disk 1\r\n", 2, ScriptWhy::Number),
         ("disk 1\0\n", 2, ScriptWhy::Number),
         ("disk\n", 2, ScriptWhy::Word),
@@ -123,7 +129,12 @@ fn the_end(rt: HostRuntime) -> Result<(), Fail> {
         ("thread\ndisk 1\n", 5, ScriptWhy::Word),
     ];
     fail_behind(&rt, rt.alloc(), HEAD, &cases)?;
-    pass_behind(&rt, rt.alloc(), HEAD, &["end\n", "thread\nend\n", "thread\nthread\nend\n"])
+    pass_behind(
+        &rt,
+        rt.alloc(),
+        HEAD,
+        &["end\n", "thread\nend\n", "thread\nthread\nend\n"],
+    )
 }
 
 #[test]
@@ -155,12 +166,36 @@ fn the_lines_of_keys(rt: HostRuntime) -> Result<(), Fail> {
         ("a aes-256-xts 512 8 ", &DIGITS[..126], size(63)),
         ("a aes-256-xts 512 8 ", SHORT, size(16)),
         ("a aes-256-xts 513 8 ", SHORT, size(16)),
-        ("a aes-256-xts 513 8 ", DIGITS, ScriptWhy::Key(KeyError::Unit { got: 513 })),
-        ("a aes-256-xts 4294967295 8 ", DIGITS, ScriptWhy::Key(KeyError::Unit { got: 4294967295 })),
-        ("a aes-256-xts 512 0 ", DIGITS, ScriptWhy::Key(KeyError::DunBytes { got: 0 })),
-        ("a aes-256-xts 512 17 ", ELEVENS, ScriptWhy::Key(KeyError::DunBytes { got: 17 })),
-        ("a aes-256-xts 512 255 ", DIGITS, ScriptWhy::Key(KeyError::DunBytes { got: 255 })),
-        ("a aes-256-xts 512 8 ", ELEVENS, ScriptWhy::Key(KeyError::EqualHalves)),
+        (
+            "a aes-256-xts 513 8 ",
+            DIGITS,
+            ScriptWhy::Key(KeyError::Unit { got: 513 }),
+        ),
+        (
+            "a aes-256-xts 4294967295 8 ",
+            DIGITS,
+            ScriptWhy::Key(KeyError::Unit { got: 4294967295 }),
+        ),
+        (
+            "a aes-256-xts 512 0 ",
+            DIGITS,
+            ScriptWhy::Key(KeyError::DunBytes { got: 0 }),
+        ),
+        (
+            "a aes-256-xts 512 17 ",
+            ELEVENS,
+            ScriptWhy::Key(KeyError::DunBytes { got: 17 }),
+        ),
+        (
+            "a aes-256-xts 512 255 ",
+            DIGITS,
+            ScriptWhy::Key(KeyError::DunBytes { got: 255 }),
+        ),
+        (
+            "a aes-256-xts 512 8 ",
+            ELEVENS,
+            ScriptWhy::Key(KeyError::EqualHalves),
+        ),
         ("a aes-256-xts 512 256 ", DIGITS, ScriptWhy::Number),
         ("a aes-256-xts 512 08 ", DIGITS, ScriptWhy::Number),
         ("a aes-256-xts 0512 8 ", DIGITS, ScriptWhy::Number),
@@ -176,7 +211,11 @@ fn the_lines_of_keys(rt: HostRuntime) -> Result<(), Fail> {
         (" aes-256-xts 512 8 ", DIGITS, ScriptWhy::Name),
         ("- aes-256-xts 512 8 ", DIGITS, ScriptWhy::Name),
         ("a_b aes-256-xts 512 8 ", DIGITS, ScriptWhy::Name),
-        ("a234567890abcdefg aes-256-xts 512 8 ", DIGITS, ScriptWhy::Name),
+        (
+            "a234567890abcdefg aes-256-xts 512 8 ",
+            DIGITS,
+            ScriptWhy::Name,
+        ),
         ("a aes-256-cbc 512 8 ", DIGITS, ScriptWhy::Word),
         ("a AES-256-XTS 512 8 ", DIGITS, ScriptWhy::Word),
         ("a aes-256-xts 512 ", DIGITS, ScriptWhy::Word),
@@ -191,9 +230,13 @@ fn the_lines_of_keys(rt: HostRuntime) -> Result<(), Fail> {
     assert_eq!(rt; error_of(alloc, &text), bad(4, size(128)));
     let text = format!(in alloc; "{HEAD}key a aes-256-xts 512 8 {DIGITS}{DIGITS}00\n")?;
     assert_eq!(rt; error_of(alloc, &text), bad(4, ScriptWhy::Hex));
-    let text = format!(in alloc; "{HEAD}key a aes-256-xts 512 8 {DIGITS}\nkey a aes-128-cbc-essiv 512 8 x\n")?;
+    let text = format!(in alloc;
+        "{HEAD}key a aes-256-xts 512 8 {DIGITS}\nkey a aes-128-cbc-essiv 512 8 x\n"
+    )?;
     assert_eq!(rt; error_of(alloc, &text), bad(5, ScriptWhy::Name));
-    let text = format!(in alloc; "{HEAD}key a234567890abcdef aes-128-cbc-essiv 4096 16 {SHORT}\nkey a aes-256-xts 1024 1 {DIGITS}\nend\n")?;
+    let text = format!(in alloc;
+        "{HEAD}key a234567890abcdef aes-128-cbc-essiv 4096 16 {SHORT}\nkey a aes-256-xts 1024 1 {DIGITS}\nend\n"
+    )?;
     assert_eq!(rt; error_of(alloc, &text), None);
     Ok(())
 }

@@ -12,7 +12,9 @@ fn repeat(text: &mut String, part: &str, count: u32) -> Result<(), Fail> {
 
 /// A key `a` with data units of 512 bytes and one `b` with 4096, and a section.
 fn front(alloc: Global) -> Result<String, Fail> {
-    Ok(format!(in alloc; "{HEAD}key a aes-256-xts 512 8 {DIGITS}\nkey b aes-128-cbc-essiv 4096 16 {SHORT}\nthread\n")?)
+    Ok(format!(in alloc;
+        "{HEAD}key a aes-256-xts 512 8 {DIGITS}\nkey b aes-128-cbc-essiv 4096 16 {SHORT}\nthread\n"
+    )?)
 }
 
 #[test]
@@ -35,9 +37,11 @@ fn the_units_of_a_bio(rt: HostRuntime) -> Result<(), Fail> {
         "read b 0 0 0\nend\n",
     ];
     pass_behind(&rt, rt.alloc(), &front, &cases)?;
-    let cases = [
-        ("read b 0 1 10000000000000000000000000000000000000000000000000000000000000000\n", 7, ScriptWhy::Number),
-    ];
+    let cases = [(
+        "read b 0 1 10000000000000000000000000000000000000000000000000000000000000000\n",
+        7,
+        ScriptWhy::Number,
+    )];
     fail_behind(&rt, rt.alloc(), &front, &cases)
 }
 
@@ -115,11 +119,28 @@ fn the_keys(rt: HostRuntime) -> Result<(), Fail> {
         let line = format!(in alloc; "key k{number} aes-128-cbc-essiv 512 16 {SHORT}\n")?;
         text.push_str(&line)?;
     }
-    pass_behind(&rt, rt.alloc(), &text, &["end\n", "thread\nevict k4095\nread k0 0 1 0\nend\n"])?;
+    pass_behind(
+        &rt,
+        rt.alloc(),
+        &text,
+        &["end\n", "thread\nevict k4095\nread k0 0 1 0\nend\n"],
+    )?;
     let cases = [
-        ("key a aes-128-cbc-essiv 512 16 808182838485868788898a8b8c8d8e8f\n", 4100, ScriptWhy::Limit),
-        ("key k7 aes-128-cbc-essiv 512 16 808182838485868788898a8b8c8d8e8f\n", 4100, ScriptWhy::Name),
-        ("key a aes-128-cbc-essiv 512 0 808182838485868788898a8b8c8d8e8f\n", 4100, ScriptWhy::Key(KeyError::DunBytes { got: 0 })),
+        (
+            "key a aes-128-cbc-essiv 512 16 808182838485868788898a8b8c8d8e8f\n",
+            4100,
+            ScriptWhy::Limit,
+        ),
+        (
+            "key k7 aes-128-cbc-essiv 512 16 808182838485868788898a8b8c8d8e8f\n",
+            4100,
+            ScriptWhy::Name,
+        ),
+        (
+            "key a aes-128-cbc-essiv 512 0 808182838485868788898a8b8c8d8e8f\n",
+            4100,
+            ScriptWhy::Key(KeyError::DunBytes { got: 0 }),
+        ),
         ("thread\nevict k4096\n", 4101, ScriptWhy::Name),
     ];
     fail_behind(&rt, rt.alloc(), &text, &cases)
