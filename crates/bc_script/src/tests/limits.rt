@@ -12,21 +12,35 @@ fn repeat(text: &mut String, part: &str, count: u32) -> Result<(), Fail> {
 
 /// A key `a` with data units of 512 bytes and one `b` with 4096, and a section.
 fn front(alloc: Global) -> Result<String, Fail> {
-    Ok(format!(in alloc; "{HEAD}key a aes-256-xts 512 8 {DIGITS}\nkey b aes-128-cbc-essiv 4096 16 {SHORT}\nthread\n")?)
+    Ok(format!(in alloc;
+        "{HEAD}key a aes-256-xts 512 8 {DIGITS}\nkey b aes-128-cbc-essiv 4096 16 {SHORT}\nthread\n"
+    )?)
 }
 
 #[test]
 fn the_units_of_a_bio(rt: HostRuntime) -> Result<(), Fail> {
     let front = front(rt.alloc())?;
-    let cases = [
-        ("read - 0 257 -\n", 7, ScriptWhy::Number),
-        ("read b 0 33 0\n", 7, ScriptWhy::Limit),
-        ("write b 0 33 0 fill 00\n", 7, ScriptWhy::Limit),
-        ("write b 0 33 0 fill 0\n", 7, ScriptWhy::Hex),
-        ("write b 0 33 0 hex 00\n", 7, ScriptWhy::Hex),
-        ("write b 0 33 x hex 00\n", 7, ScriptWhy::Number),
-    ];
-    fail_behind(&rt, rt.alloc(), &front, &cases)?;
+    fail_behind(
+        &rt,
+        rt.alloc(),
+        &front,
+        bad(7, ScriptWhy::Number),
+        &["read - 0 257 -\n", "write b 0 33 x hex 00\n"],
+    )?;
+    fail_behind(
+        &rt,
+        rt.alloc(),
+        &front,
+        bad(7, ScriptWhy::Limit),
+        &["read b 0 33 0\n", "write b 0 33 0 fill 00\n"],
+    )?;
+    fail_behind(
+        &rt,
+        rt.alloc(),
+        &front,
+        bad(7, ScriptWhy::Hex),
+        &["write b 0 33 0 fill 0\n", "write b 0 33 0 hex 00\n"],
+    )?;
     let cases = [
         "read - 0 256 -\nend\n",
         "read a 4294967295 256 0\nend\n",
@@ -35,10 +49,13 @@ fn the_units_of_a_bio(rt: HostRuntime) -> Result<(), Fail> {
         "read b 0 0 0\nend\n",
     ];
     pass_behind(&rt, rt.alloc(), &front, &cases)?;
-    let cases = [
-        ("read b 0 1 10000000000000000000000000000000000000000000000000000000000000000\n", 7, ScriptWhy::Number),
-    ];
-    fail_behind(&rt, rt.alloc(), &front, &cases)
+    fail_behind(
+        &rt,
+        rt.alloc(),
+        &front,
+        bad(7, ScriptWhy::Number),
+        &["read b 0 1 10000000000000000000000000000000000000000000000000000000000000000\n"],
+    )
 }
 
 #[test]
@@ -70,12 +87,20 @@ fn the_units_of_a_script(rt: HostRuntime) -> Result<(), Fail> {
     repeat(&mut text, "read - 0 256 -\n", 255)?;
     repeat(&mut text, "thread\nread b 0 32 0\n", 8)?;
     pass_behind(&rt, rt.alloc(), &text, &["end\n", "read - 0 0 -\nend\n"])?;
-    let cases = [
-        ("read - 0 1 -\n", 278, ScriptWhy::Limit),
-        ("write - 0 1 - fill 00\n", 278, ScriptWhy::Limit),
-        ("write - 0 1 - fill 0\n", 278, ScriptWhy::Hex),
-    ];
-    fail_behind(&rt, rt.alloc(), &text, &cases)
+    fail_behind(
+        &rt,
+        rt.alloc(),
+        &text,
+        bad(278, ScriptWhy::Limit),
+        &["read - 0 1 -\n", "write - 0 1 - fill 00\n"],
+    )?;
+    fail_behind(
+        &rt,
+        rt.alloc(),
+        &text,
+        bad(278, ScriptWhy::Hex),
+        &["write - 0 1 - fill 0\n"],
+    )
 }
 
 #[test]
@@ -84,11 +109,20 @@ fn the_sections(rt: HostRuntime) -> Result<(), Fail> {
     let mut text = front(alloc)?;
     repeat(&mut text, "thread\n", 15)?;
     pass_behind(&rt, rt.alloc(), &text, &["end\n", "plug\nunplug\nend\n"])?;
-    let cases = [
-        ("thread\n", 22, ScriptWhy::Limit),
-        ("plug\nthread\n", 23, ScriptWhy::Order),
-    ];
-    fail_behind(&rt, rt.alloc(), &text, &cases)
+    fail_behind(
+        &rt,
+        rt.alloc(),
+        &text,
+        bad(22, ScriptWhy::Limit),
+        &["thread\n"],
+    )?;
+    fail_behind(
+        &rt,
+        rt.alloc(),
+        &text,
+        bad(23, ScriptWhy::Order),
+        &["plug\nthread\n"],
+    )
 }
 
 #[test]
@@ -98,13 +132,27 @@ fn the_operations(rt: HostRuntime) -> Result<(), Fail> {
     repeat(&mut text, "plug\nunplug\n", 32767)?;
     repeat(&mut text, "thread\nevict a\n", 1)?;
     pass_behind(&rt, rt.alloc(), &text, &["evict b\nend\n"])?;
-    let cases = [
-        ("plug\nplug\n", 65544, ScriptWhy::Order),
-        ("plug\nunplug\n", 65544, ScriptWhy::Limit),
-        ("evict b\nread - 0 0 -\n", 65544, ScriptWhy::Limit),
-        ("evict b\nevict c\n", 65544, ScriptWhy::Name),
-    ];
-    fail_behind(&rt, rt.alloc(), &text, &cases)
+    fail_behind(
+        &rt,
+        rt.alloc(),
+        &text,
+        bad(65544, ScriptWhy::Order),
+        &["plug\nplug\n"],
+    )?;
+    fail_behind(
+        &rt,
+        rt.alloc(),
+        &text,
+        bad(65544, ScriptWhy::Limit),
+        &["plug\nunplug\n", "evict b\nread - 0 0 -\n"],
+    )?;
+    fail_behind(
+        &rt,
+        rt.alloc(),
+        &text,
+        bad(65544, ScriptWhy::Name),
+        &["evict b\nevict c\n"],
+    )
 }
 
 #[test]
@@ -115,12 +163,38 @@ fn the_keys(rt: HostRuntime) -> Result<(), Fail> {
         let line = format!(in alloc; "key k{number} aes-128-cbc-essiv 512 16 {SHORT}\n")?;
         text.push_str(&line)?;
     }
-    pass_behind(&rt, rt.alloc(), &text, &["end\n", "thread\nevict k4095\nread k0 0 1 0\nend\n"])?;
-    let cases = [
-        ("key a aes-128-cbc-essiv 512 16 808182838485868788898a8b8c8d8e8f\n", 4100, ScriptWhy::Limit),
-        ("key k7 aes-128-cbc-essiv 512 16 808182838485868788898a8b8c8d8e8f\n", 4100, ScriptWhy::Name),
-        ("key a aes-128-cbc-essiv 512 0 808182838485868788898a8b8c8d8e8f\n", 4100, ScriptWhy::Key(KeyError::DunBytes { got: 0 })),
-        ("thread\nevict k4096\n", 4101, ScriptWhy::Name),
-    ];
-    fail_behind(&rt, rt.alloc(), &text, &cases)
+    pass_behind(
+        &rt,
+        rt.alloc(),
+        &text,
+        &["end\n", "thread\nevict k4095\nread k0 0 1 0\nend\n"],
+    )?;
+    fail_behind(
+        &rt,
+        rt.alloc(),
+        &text,
+        bad(4100, ScriptWhy::Limit),
+        &["key a aes-128-cbc-essiv 512 16 808182838485868788898a8b8c8d8e8f\n"],
+    )?;
+    fail_behind(
+        &rt,
+        rt.alloc(),
+        &text,
+        bad(4100, ScriptWhy::Name),
+        &["key k7 aes-128-cbc-essiv 512 16 808182838485868788898a8b8c8d8e8f\n"],
+    )?;
+    fail_behind(
+        &rt,
+        rt.alloc(),
+        &text,
+        bad(4100, ScriptWhy::Key(KeyError::DunBytes { got: 0 })),
+        &["key a aes-128-cbc-essiv 512 0 808182838485868788898a8b8c8d8e8f\n"],
+    )?;
+    fail_behind(
+        &rt,
+        rt.alloc(),
+        &text,
+        bad(4101, ScriptWhy::Name),
+        &["thread\nevict k4096\n"],
+    )
 }

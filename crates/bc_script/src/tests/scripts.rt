@@ -5,7 +5,9 @@ use super::*;
 #[test]
 fn each_line_is_kept(rt: HostRuntime) -> Result<(), Fail> {
     let alloc = rt.alloc();
-    let text = format!(in alloc; "blkcrypt 1\ndisk 16384\nfallback on\nkey a aes-256-xts 512 8 {DIGITS}\nkey b2 aes-128-cbc-essiv 4096 16 {SHORT}\nthread\nwrite b2 9 2 1f fill 5a\nread - 4294967295 256 -\nthread\nplug\nevict b2\nunplug\nend\n")?;
+    let text = format!(in alloc;
+        "blkcrypt 1\ndisk 16384\nfallback on\nkey a aes-256-xts 512 8 {DIGITS}\nkey b2 aes-128-cbc-essiv 4096 16 {SHORT}\nthread\nwrite b2 9 2 1f fill 5a\nread - 4294967295 256 -\nthread\nplug\nevict b2\nunplug\nend\n"
+    )?;
     let script = parse(alloc, text.as_bytes())?;
     assert_eq!(rt; script.blocks(), 16384);
     assert!(rt; script.fallback());
@@ -50,7 +52,9 @@ fn each_line_is_kept(rt: HostRuntime) -> Result<(), Fail> {
 #[test]
 fn the_bytes_of_a_text_are_kept(rt: HostRuntime) -> Result<(), Fail> {
     let alloc = rt.alloc();
-    let text = format!(in alloc; "{HEAD}thread\nwrite - 7 1 - hex {DIGITS}{DIGITS}{DIGITS}{DIGITS}{DIGITS}{DIGITS}{DIGITS}{DIGITS}\nend\n")?;
+    let text = format!(in alloc;
+        "{HEAD}thread\nwrite - 7 1 - hex {DIGITS}{DIGITS}{DIGITS}{DIGITS}{DIGITS}{DIGITS}{DIGITS}{DIGITS}\nend\n"
+    )?;
     let script = parse(alloc, text.as_bytes())?;
     let [section] = script.threads() else {
         return Err("a section".into());

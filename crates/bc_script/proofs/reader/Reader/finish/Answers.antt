@@ -9,9 +9,9 @@ pub returns-then-not-is_end-clause-bad : goal.returns-then-not-is_end-clause-bad
 returns-then-not-is_end-clause-bad c =
     let early : (is_end c.last_sort.result && is_nothing c.args.rest) ≡ false =
     elim c.then-not-is_end.branch [
-      then-not-is_end-via-then-not-is_end w ↦ ap (λ (b : Bool). b && is_nothing c.args.rest) (sym c.is_end.ensures ∙ w.if-not-is_end.true)
+      | then-not-is_end-via-then-not-is_end w ↦ ap (λ (b : Bool). b && is_nothing c.args.rest) (sym c.is_end.ensures ∙ w.if-not-is_end.true)
       | then-not-is_end-via-else-not-is_end+then-not-is_nothing w ↦
-      ap (λ (b : Bool). is_end c.last_sort.result && b) (sym w.is_nothing.ensures ∙ w.if-not-is_nothing.true) ∙ and_no (is_end c.last_sort.result)
+          ap (λ (b : Bool). is_end c.last_sort.result && b) (sym w.is_nothing.ensures ∙ w.if-not-is_nothing.true) ∙ and_no (is_end c.last_sort.result)
     ] in
     (c.next_line.ensures, fails_at_end c.args.self c.last_sort.ensures.rules c.args.rest c.last_sort.result c.last_sort.ensures.value early)
 
