@@ -1,5 +1,5 @@
 -- The lists of a run's report are as long as its text allows.
-use Rattle.std.proofs.Common.{◌≡◌, ℕ, suc, ◌+◌, ◌*◌, ◌^◌, ◌<◌, ◌≤◌, Bool, true, false, cond, List, [], ◌∷◌, length, map, refl, sym, ap, subst, ◌∙◌, arith, Some, length-append}
+use Rattle.std.proofs.Common.{◌≡◌, ℕ, suc, ◌+◌, ◌^◌, ◌<◌, ◌≤◌, Bool, true, false, cond, List, [], ◌∷◌, length, map, refl, sym, ap, subst, arith, Some, length-append}
 use Rattle.std.specs.Prelude.{◌==◌, filter, flat_map, sum_by}
 use Rattle.std.specs.List.{range_with_len, enumerate_from, AllByRecursion}
 use Rattle.std.proofs.lemmas.List.{length-map}

@@ -1,7 +1,7 @@
 -- Each data unit of a script lies in one shard, and what a write writes fills its sectors.
 use Rattle.std.proofs.Common.{◌≡◌, ℕ, zero, suc, ◌+◌, ◌*◌, ◌/◌, ◌%◌, ◌<◌, ◌≤◌, ◌⊎◌, inl, inr, Bool, true, false, not, cond, List, [], ◌∷◌, length, map, refl, sym, ap, subst, ◌∙◌, arith, Option, Some, None}
 use Rattle.std.specs.Prelude.{◌==◌, flat_map, slice_get, replicate}
-use Rattle.std.specs.List.{range_with_len, enumerate_from, AllByRecursion}
+use Rattle.std.specs.List.{enumerate_from, AllByRecursion}
 use Rattle.std.specs.Option.{option_map, option_map_or}
 use Rattle.std.proofs.Math.Logic.{⊎_elim}
 use Rattle.std.proofs.lemmas.Bool.{eqb-true, not-false}

@@ -12,7 +12,6 @@ use Rattle.bc_bio.specs.declared.bio.Context.{Context}
 use Rattle.bc_bio.specs.declared.extent.Extent.{Extent}
 use Rattle.bc_bio.specs.Extent.{unit_sectors, context_after}
 use Rattle.bc_bio.specs.Conditions.{HasKey}
-use Rattle.bc_bio.specs.BioUnits.{context_on}
 use Rattle.bc_bio.specs.PlannedUnit.{PlannedUnit}
 use Rattle.bc_script.specs.declared.op.Op.{Op}
 use Rattle.bc_run.specs.declared.entries.Entry.{Entry}

@@ -49,20 +49,28 @@ fn a_unit_is_written_and_read_back(rt: HostRuntime) -> Result<(), Fail> {
         key a aes-256-xts 512 8 000102030405060708090a0b0c0d0e0f101112131415161718191a1b1c1d1e1f202122232425262728292a2b2c2d2e2f303132333435363738393a3b3c3d3e3f\n\
         thread\nwrite a 0 1 0 fill 00\nread a 0 1 0\nend\n";
     let report = report_of(rt.alloc(), text)?;
-    let wanted = b"report 1\nthread 0\ndone\ndone fill 00\nshard 0 2\n0 0 0 soft\n0 1 0 soft\nend\n";
+    let wanted =
+        b"report 1\nthread 0\ndone\ndone fill 00\nshard 0 2\n0 0 0 soft\n0 1 0 soft\nend\n";
     assert_eq!(rt; report.as_slice(), wanted.as_slice());
     let left = finished(rt.alloc(), text, 1)?;
-    assert_eq!(rt; digest_of(left.image.as_slice()), *b"b74378dae6a97622eb67b3fb18a44ce94e3918dea610ae055f24aefb895bcce6");
+    assert_eq!(rt;
+        digest_of(left.image.as_slice()),
+        *b"b74378dae6a97622eb67b3fb18a44ce94e3918dea610ae055f24aefb895bcce6"
+    );
     Ok(())
 }
 
 // Four number bytes: the numbers of all units must stay below 2^32.
 #[test]
 fn numbers_fit_the_number_bytes_of_the_key(rt: HostRuntime) -> Result<(), Fail> {
-    let report = report_of(rt.alloc(), b"blkcrypt 1\ndisk 1\nfallback on\n\
+    let report = report_of(
+        rt.alloc(),
+        b"blkcrypt 1\ndisk 1\nfallback on\n\
         key a aes-256-xts 512 4 000102030405060708090a0b0c0d0e0f101112131415161718191a1b1c1d1e1f202122232425262728292a2b2c2d2e2f303132333435363738393a3b3c3d3e3f\n\
-        thread\nwrite a 0 2 ffffffff fill 00\nwrite a 0 1 ffffffff fill 00\nwrite a 0 2 fffffffe fill 00\nread a 0 1 100000000\nend\n")?;
-    let wanted = b"report 1\nthread 0\nrefused dun\ndone\ndone\nrefused dun\nshard 0 3\n0 1 0 soft\n0 2 0 soft\n0 2 1 soft\nend\n";
+        thread\nwrite a 0 2 ffffffff fill 00\nwrite a 0 1 ffffffff fill 00\nwrite a 0 2 fffffffe fill 00\nread a 0 1 100000000\nend\n",
+    )?;
+    let wanted =
+        b"report 1\nthread 0\nrefused dun\ndone\ndone\nrefused dun\nshard 0 3\n0 1 0 soft\n0 2 0 soft\n0 2 1 soft\nend\n";
     assert_eq!(rt; report.as_slice(), wanted.as_slice());
     Ok(())
 }
@@ -70,11 +78,15 @@ fn numbers_fit_the_number_bytes_of_the_key(rt: HostRuntime) -> Result<(), Fail> 
 // The first test that fails gives the answer: no units, alignment, the disk's end, the numbers.
 #[test]
 fn bios_are_refused_by_the_first_test_that_fails(rt: HostRuntime) -> Result<(), Fail> {
-    let report = report_of(rt.alloc(), b"blkcrypt 1\ndisk 32\nfallback on\n\
+    let report = report_of(
+        rt.alloc(),
+        b"blkcrypt 1\ndisk 32\nfallback on\n\
         key a aes-256-xts 4096 8 000102030405060708090a0b0c0d0e0f101112131415161718191a1b1c1d1e1f202122232425262728292a2b2c2d2e2f303132333435363738393a3b3c3d3e3f\n\
         thread\nwrite - 1 256 - fill 00\nwrite - 0 0 - fill 00\nread a 257 1 0\nread a 256 1 0\nread a 257 0 0\n\
-        read - 4294967295 1 -\nread a 248 2 ffffffffffffffff\nread a 240 2 ffffffffffffffff\nwrite - 255 1 - fill 07\nread - 255 1 -\nend\n")?;
-    let wanted = b"report 1\nthread 0\nrefused outside\nrefused empty\nrefused misaligned\nrefused outside\nrefused empty\n\
+        read - 4294967295 1 -\nread a 248 2 ffffffffffffffff\nread a 240 2 ffffffffffffffff\nwrite - 255 1 - fill 07\nread - 255 1 -\nend\n",
+    )?;
+    let wanted =
+        b"report 1\nthread 0\nrefused outside\nrefused empty\nrefused misaligned\nrefused outside\nrefused empty\n\
         refused outside\nrefused outside\nrefused dun\ndone\ndone fill 07\nshard 0 2\n0 8 0 plain\n0 9 0 plain\nend\n";
     assert_eq!(rt; report.as_slice(), wanted.as_slice());
     Ok(())
@@ -83,10 +95,13 @@ fn bios_are_refused_by_the_first_test_that_fails(rt: HostRuntime) -> Result<(), 
 // Another key, another number, or none: only the own key and number give the bytes back.
 #[test]
 fn a_unit_is_read_under_the_key_that_is_asked_for(rt: HostRuntime) -> Result<(), Fail> {
-    let report = report_of(rt.alloc(), b"blkcrypt 1\ndisk 1\nfallback on\n\
+    let report = report_of(
+        rt.alloc(),
+        b"blkcrypt 1\ndisk 1\nfallback on\n\
         key a aes-256-xts 512 8 000102030405060708090a0b0c0d0e0f101112131415161718191a1b1c1d1e1f202122232425262728292a2b2c2d2e2f303132333435363738393a3b3c3d3e3f\n\
         key b aes-256-xts 512 8 404142434445464748494a4b4c4d4e4f505152535455565758595a5b5c5d5e5f606162636465666768696a6b6c6d6e6f707172737475767778797a7b7c7d7e7f\n\
-        thread\nwrite a 0 1 0 fill 11\nread b 0 1 0\nread a 0 1 1\nread - 0 1 -\nread a 0 1 0\nend\n")?;
+        thread\nwrite a 0 1 0 fill 11\nread b 0 1 0\nread a 0 1 1\nread - 0 1 -\nread a 0 1 0\nend\n",
+    )?;
     let wanted = b"report 1\nthread 0\ndone\n\
         done sha256 7b46aa5f40cd186b3fb152f00727d4d363c8c1aec364a2e441c21e0afd95fdda\n\
         done sha256 266dbb0bc655df095779b4d840903e53556280ddfca25da3a97b90590657725d\n\
@@ -99,7 +114,9 @@ fn a_unit_is_read_under_the_key_that_is_asked_for(rt: HostRuntime) -> Result<(),
 // Each section reads what the one before it wrote; the first reads what was never written.
 #[test]
 fn sixteen_sections_follow_one_another(rt: HostRuntime) -> Result<(), Fail> {
-    let digests = digests_of(rt.alloc(), b"blkcrypt 1\ndisk 2\nfallback on\n\
+    let digests = digests_of(
+        rt.alloc(),
+        b"blkcrypt 1\ndisk 2\nfallback on\n\
         key a aes-256-xts 512 8 000102030405060708090a0b0c0d0e0f101112131415161718191a1b1c1d1e1f202122232425262728292a2b2c2d2e2f303132333435363738393a3b3c3d3e3f\n\
         thread\nwrite a 0 1 0 fill 00\nread a 15 1 f\nthread\nwrite a 1 1 1 fill 01\nread a 0 1 0\n\
         thread\nwrite a 2 1 2 fill 02\nread a 1 1 1\nthread\nwrite a 3 1 3 fill 03\nread a 2 1 2\n\
@@ -108,7 +125,9 @@ fn sixteen_sections_follow_one_another(rt: HostRuntime) -> Result<(), Fail> {
         thread\nwrite a 8 1 8 fill 08\nread a 7 1 7\nthread\nwrite a 9 1 9 fill 09\nread a 8 1 8\n\
         thread\nwrite a 10 1 a fill 0a\nread a 9 1 9\nthread\nwrite a 11 1 b fill 0b\nread a 10 1 a\n\
         thread\nwrite a 12 1 c fill 0c\nread a 11 1 b\nthread\nwrite a 13 1 d fill 0d\nread a 12 1 c\n\
-        thread\nwrite a 14 1 e fill 0e\nread a 13 1 d\nthread\nwrite a 15 1 f fill 0f\nread a 14 1 e\nend\n", 1)?;
+        thread\nwrite a 14 1 e fill 0e\nread a 13 1 d\nthread\nwrite a 15 1 f fill 0f\nread a 14 1 e\nend\n",
+        1,
+    )?;
     let report = b"18ab396fff161c49e0d60a009c00d0b3222eb94fa666393c3bef7a593c07bbf5";
     let image = b"a910a2b7b9ffa0d76eed9f1877e19dbd96c510779b560a3b416bf34118ebdbc7";
     assert_eq!(rt; digests, (*report, *image));
@@ -119,9 +138,13 @@ fn sixteen_sections_follow_one_another(rt: HostRuntime) -> Result<(), Fail> {
 // number.
 #[test]
 fn a_bio_has_256_units(rt: HostRuntime) -> Result<(), Fail> {
-    let digests = digests_of(rt.alloc(), b"blkcrypt 1\ndisk 32\nfallback on\n\
+    let digests = digests_of(
+        rt.alloc(),
+        b"blkcrypt 1\ndisk 32\nfallback on\n\
         key a aes-256-xts 512 8 000102030405060708090a0b0c0d0e0f101112131415161718191a1b1c1d1e1f202122232425262728292a2b2c2d2e2f303132333435363738393a3b3c3d3e3f\n\
-        thread\nwrite a 0 256 fffffffffffffeff fill 5a\nread a 0 256 fffffffffffffeff\nread a 1 255 fffffffffffffeff\nend\n", 1)?;
+        thread\nwrite a 0 256 fffffffffffffeff fill 5a\nread a 0 256 fffffffffffffeff\nread a 1 255 fffffffffffffeff\nend\n",
+        1,
+    )?;
     let report = b"732fc9e416df458780037eeccab09caf0e6d4c20daf06b8ace1a6ef35e966b3d";
     let image = b"1cfeefecddff1827f179f72d5abb275ba0f21abf567f647e9830a324d245aeb8";
     assert_eq!(rt; digests, (*report, *image));
@@ -167,9 +190,11 @@ fn keys_of_each_mode_and_size(rt: HostRuntime) -> Result<(), Fail> {
 /// A script with the operation `write a 0 2 7 hex ..`, whose bytes are 512 of each of 1, 2, 3 and 4.
 fn written_in_digits(alloc: Global) -> Result<Vec<u8>, Fail> {
     let mut text = Vec::new(alloc);
-    text.extend_from_slice(b"blkcrypt 1\ndisk 1\nfallback on\n\
+    text.extend_from_slice(
+        b"blkcrypt 1\ndisk 1\nfallback on\n\
         key a aes-256-xts 1024 16 000102030405060708090a0b0c0d0e0f101112131415161718191a1b1c1d1e1f202122232425262728292a2b2c2d2e2f303132333435363738393a3b3c3d3e3f\n\
-        thread\nwrite a 0 2 7 hex ")?;
+        thread\nwrite a 0 2 7 hex ",
+    )?;
     for digit in [b'1', b'2', b'3', b'4'] {
         for _ in 0..512 {
             text.push(b'0')?;
@@ -199,10 +224,14 @@ fn a_text_gives_each_unit_its_own_bytes(rt: HostRuntime) -> Result<(), Fail> {
 
 #[test]
 fn what_submits_no_bio_is_answered_by_its_name(rt: HostRuntime) -> Result<(), Fail> {
-    let report = report_of(rt.alloc(), b"blkcrypt 1\ndisk 1\nfallback on\n\
+    let report = report_of(
+        rt.alloc(),
+        b"blkcrypt 1\ndisk 1\nfallback on\n\
         key a aes-256-xts 512 8 000102030405060708090a0b0c0d0e0f101112131415161718191a1b1c1d1e1f202122232425262728292a2b2c2d2e2f303132333435363738393a3b3c3d3e3f\n\
-        thread\nplug\nwrite a 0 0 0 fill 00\nwrite a 1 1 0 fill 01\nunplug\nevict a\nread a 1 1 0\nend\n")?;
-    let wanted = b"report 1\nthread 0\nplug\nrefused empty\ndone\nunplug\nevicted\ndone fill 01\nshard 0 2\n0 2 0 soft\n0 5 0 soft\nend\n";
+        thread\nplug\nwrite a 0 0 0 fill 00\nwrite a 1 1 0 fill 01\nunplug\nevict a\nread a 1 1 0\nend\n",
+    )?;
+    let wanted =
+        b"report 1\nthread 0\nplug\nrefused empty\ndone\nunplug\nevicted\ndone fill 01\nshard 0 2\n0 2 0 soft\n0 5 0 soft\nend\n";
     assert_eq!(rt; report.as_slice(), wanted.as_slice());
     Ok(())
 }

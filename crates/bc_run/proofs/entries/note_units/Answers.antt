@@ -1,4 +1,3 @@
-use Rattle.std.proofs.Common.{◌≡◌, ◌+◌, ◌*◌, ◌++◌, [], ◌∷◌, List, map, sym, ap, ◌∙◌, arith}
 use Rattle.bc_run.proofs.Units.{entries_more}
 use Rattle.bc_run.proofs.entries.note_units.Goals as goal
 

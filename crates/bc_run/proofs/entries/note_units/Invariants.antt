@@ -1,4 +1,4 @@
-use Rattle.std.proofs.Common.{◌≡◌, ℕ, ◌++◌, map}
+use Rattle.std.proofs.Common.{◌≡◌, ◌++◌, map}
 use Rattle.bc_script.specs.declared.op.Op.{Op}
 use Rattle.bc_run.specs.Serial.{entry_of, first_units}
 use Rattle.bc_run.proofs.entries.note_units.Given as goal

@@ -1,6 +1,5 @@
-use Rattle.std.proofs.Common.{◌≡◌, ◌+◌, ◌-◌, ◌*◌, ◌≤◌, ◌++◌, List, ℕ, length, sym, ap, ◌∙◌, arith, rules}
+use Rattle.std.proofs.Common.{◌≡◌, ◌+◌, ◌-◌, ◌*◌, ◌++◌, List, ℕ, length, sym, ap, ◌∙◌, arith, rules}
 use Rattle.std.proofs.lemmas.Slice.{take-put_mid}
-use Rattle.bc_bio.specs.Extent.{unit_sectors}
 use Rattle.bc_script.specs.declared.op.Op.TheVariants as ops
 use Rattle.std.specs.Prelude.{flat_map}
 use Rattle.bc_run.specs.KeyedDisk.{sectors_of}

@@ -1,4 +1,4 @@
-use Rattle.std.proofs.Common.{◌≡◌, ◌+◌, ◌*◌, sym, ap, ◌∙◌}
+use Rattle.std.proofs.Common.{◌+◌, ◌*◌, sym, ap, ◌∙◌}
 use Rattle.bc_bio.specs.declared.bio.Access.{Access}
 use Rattle.bc_bio.specs.Extent.{unit_sectors, context_after}
 use Rattle.bc_script.specs.declared.op.Op.TheVariants as ops

@@ -1,4 +1,4 @@
-use Rattle.std.proofs.Common.{◌≡◌, ◌<◌, length, ◌∙◌, arith}
+use Rattle.std.proofs.Common.{◌∙◌}
 use Rattle.bc_run.specs.KeyedDisk.{sectors_of}
 use Rattle.bc_run.proofs.Sections.{going_on_more}
 use Rattle.bc_run.proofs.course.Course.carry_out_all.Goals as goal

@@ -1,4 +1,4 @@
-use Rattle.std.proofs.Common.{◌≡◌, ◌<◌, length, ap, ◌∙◌, arith}
+use Rattle.std.proofs.Common.{ap, ◌∙◌, arith}
 use Rattle.bc_script.specs.Script.{Script}
 use Rattle.bc_run.specs.KeyedDisk.{sectors_of}
 use Rattle.bc_run.specs.Serial.{answer_over}

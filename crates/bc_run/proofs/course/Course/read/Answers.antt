@@ -1,6 +1,5 @@
 use Rattle.std.proofs.Common.{sym}
 use Rattle.bc_script.specs.declared.op.Op.TheVariants as ops
-use Rattle.bc_script.specs.Script.{keys_of}
 use Rattle.bc_run.specs.KeyedDisk.{sectors_of}
 use Rattle.bc_run.proofs.Units.{read_bio_leaves}
 use Rattle.bc_run.proofs.course.Course.read.Goals as goal
