@@ -1,5 +1,7 @@
-"""Texts whose answer is worked out by hand from the rules of docs/SCRIPT.md: the model is held against them first, and the
-program with all the others."""
+"""Texts whose answer is worked out by hand from the rules of docs/SCRIPT.md, among them the examples of errors that stand
+there: the model is held against them first, and the program with all the others."""
+import pathlib
+import re
 
 K1 = bytes(range(64)).hex()
 K2 = bytes(range(64, 128)).hex()
@@ -183,6 +185,19 @@ REPORTED = [
 ]
 
 
+def documented():
+    """The examples of errors of docs/SCRIPT.md: the script there with another line in place of one of its lines."""
+    document = (pathlib.Path(__file__).parent.parent / "docs" / "SCRIPT.md").read_text()
+    rows = re.findall(r"^\| `([^`]*)` as line (\d) \| `blkcrypt: script line (\d): ([a-z ]+)` \|", document, re.MULTILINE)
+    for written, place, line, kind in rows:
+        lines = [*HEAD, H4096, "thread", "write a 0 1 0 fill 00", "end"]
+        lines[int(place) - 1] = re.sub(r" K$", f" {K1}", written)
+        yield f"{written!r} of the document", text_of(lines), int(line), kind
+
+
+REFUSED += documented()
+
+
 def agrees(wanted, found):
     """Whether a report has these lines; None stands for any digest."""
     lines = found.decode().split("\n")
@@ -191,7 +206,9 @@ def agrees(wanted, found):
 
 
 def wrong(modelled):
-    """The names of the cases that a model answers otherwise."""
+    """The names of the cases that a model answers otherwise, and what it answers."""
+    if len({kind for *_, kind in documented()}) != 9:
+        yield "the examples of errors of docs/SCRIPT.md, of which there is one at least of each kind", ()
     for name, text, line, kind in REFUSED:
         if modelled(text) != (2, b"", f"blkcrypt: script line {line}: {kind}\n".encode()):
             yield name, modelled(text)

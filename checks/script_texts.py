@@ -160,11 +160,25 @@ def every_configuration(dice):
                 ], 4, mode=mode, unit=unit, number_bytes=size)
 
 
+def longest(dice, size):
+    """A valid text of so many bytes, about 16 MiB: many long writes, and reads of no units to fill it up."""
+    lines = [*head(32), "thread", *[f"write - 0 256 - hex {dice.randbytes(131072).hex()}"] * 63, "read - 0 256 -"]
+    left = size - len(text_of([*lines, "end"]))
+    reads = left // 13 - 2
+    left -= 13 * reads
+    first = min(left - 13, 22)
+    lines += ["read - 0 0 -"] * reads + [f"read - {'1' * (length - 12)} 0 -" for length in [first, left - first]]
+    return text_of([*lines, "end"])
+
+
 def shapes(dice):
     """A valid script of each shape, by name."""
     long = "z123456789abcdef"
     yield "no key", text_of(head(1) + ["end"])
     yield "the largest disk and no key", text_of(head(16384) + ["end"])
+    yield "the end of the largest disk", script(
+        dice, ["write a 131064 4 7 fill 10", "read a 131070 1 a", "read a 131070 1 9", "read a 131070 2 a", "read - 131071 2 -",
+               "read - 131071 1 -", "read - 131072 0 -", "read - 131072 1 -"], 16384, unit=1024)
     yield "a key without a section", text_of(head(1) + [key_line(dice), "end"])
     yield "a section and no key", text_of(head(1) + ["thread", "end"])
     yield "sixteen sections", text_of(head(1) + ["thread"] * 16 + ["end"])
@@ -224,6 +238,7 @@ def shapes(dice):
     yield "a plug that holds every operation", script(
         dice, ["plug", "write a 0 2 0 fill 01", "read a 0 2 0", "read a 7 2 0", "evict a", "write a 2 1 2 fill 02", "unplug",
                "plug", "unplug", "read a 0 3 0"])
+    yield "the longest text", longest(dice, 16777216)
     yield "as many operations as there may be", script(dice, ["evict a"] * 65535 + ["read - 0 1 -"])
     yield "as many units as there may be", text_of(head(1) + ["thread"] + ["read - 0 256 -"] * 256 + ["plug", "unplug", "end"])
     yield "as many units as there may be, carried out", script(
@@ -396,6 +411,7 @@ def broken(dice):
     yield "NUL bytes", bytes(100)
     yield "every byte once", bytes(range(256))
     yield "UTF-16", text_of(base(dice)).decode().encode("utf-16-le")
+    yield "a text too long", longest(dice, 16777217)
     yield "a key too many", text_of(head(1) + many_keys(dice, 4096) + [key_line(dice, "z"), "end"])
     for place in [0, 1, 2047, 4094]:
         yield f"the name of key {place} of 4096 once more", text_of(
