@@ -2,8 +2,8 @@
 # Runs the program as a user does. Each examples/NAME.txt must print exactly examples/NAME.out. Then each way in which a
 # run ends without a report must have its status and its one line on standard error, and nothing on standard output.
 #
-# The .out files are written by hand from the rules of docs/SCRIPT.md, and the digests in them were computed with
-# Python's `cryptography`. The program made none of them.
+# The .out files follow from the rules of docs/SCRIPT.md: checks/script_model.py, which has nothing of the program in it,
+# gives them. The program made none of them.
 set -u
 cd "$(dirname "$0")/.." || exit 1
 
@@ -54,11 +54,38 @@ ends "a word with a blank" $? 1 "bad command line"
 ./blkcrypt "$(printf '\377')" <examples/first.txt >"$found" 2>"$said"
 ends "a word that isn't UTF-8" $? 1 "bad command line"
 
-# a text that is no script
-printf 'blkcrypt 2\n' | ./blkcrypt serial >"$found" 2>"$said"
-ends "a broken text" $? 2 "script line 1: not built"
-./blkcrypt serial </dev/null >"$found" 2>"$said"
-ends "an empty text" $? 2 "script line 1: not built"
+# broken NAME LINE KIND: the text in $broken is no script, as its line LINE fails the test KIND
+broken=$scratch/broken
+broken() {
+    ./blkcrypt serial <"$broken" >"$found" 2>"$said"
+    ends "$1" $? 2 "script line $2: $3"
+}
+
+# mistake NAME LINE KIND EDIT: the script plug.txt with an edit of sed
+mistake() {
+    sed "$4" examples/plug.txt >"$broken"
+    broken "$1" "$2" "$3"
+}
+
+mistake "another version" 1 word '1s/1/2/'
+mistake "a leading zero" 2 number '2s/1/01/'
+mistake "fallback off" 3 "not built" '3s/on/off/'
+mistake "a key of 63 bytes" 4 key '4s/..$//'
+mistake "a key of half a byte more" 4 hex '4s/$/0/'
+mistake "line ends of another system" 1 word 's/$/\r/'
+mistake "a number without a key" 7 word '7s/ a / - /'
+mistake "a name that isn't declared" 7 name '7s/ a / b /'
+mistake "257 units" 8 number '8s/ 2 2 2 / 2 257 2 /'
+mistake "a byte in upper case" 8 hex '8s/22$/2F/'
+mistake "a plug that stays open" 12 order '10d'
+{ cat examples/plug.txt; echo end; } >"$broken"
+broken "a line behind the end" 14 end
+{ sed '$d' examples/sections.txt; yes thread | head -n 13; echo end; } >"$broken"
+broken "section 17" 27 limit
+printf '%s' "$(cat examples/empty.txt)" >"$broken"
+broken "an end line without a line feed" 4 end
+: >"$broken"
+broken "an empty text" 1 end
 
 # standard input that can't be read
 ./blkcrypt serial <. >"$found" 2>"$said"
@@ -77,7 +104,7 @@ fi
 
 # the longest text that is read, and one byte more
 head -c 16777216 /dev/zero | ./blkcrypt serial >"$found" 2>"$said"
-ends "a text of 16777216 bytes" $? 2 "script line 1: not built"
+ends "a text of 16777216 bytes" $? 2 "script line 1: end"
 head -c 16777217 /dev/zero | ./blkcrypt serial >"$found" 2>"$said"
 ends "a text of 16777217 bytes" $? 7 "input longer than 16777216 bytes"
 

@@ -1,0 +1,223 @@
+"""Texts whose answer is worked out by hand from the rules of docs/SCRIPT.md, among them the examples of errors that stand
+there: the model is held against them first, and the program with all the others."""
+import pathlib
+import re
+
+K1 = bytes(range(64)).hex()
+K2 = bytes(range(64, 128)).hex()
+E1 = bytes(range(128, 144)).hex()
+H512 = f"key a aes-256-xts 512 8 {K1}"
+H4096 = f"key a aes-256-xts 4096 8 {K1}"
+B512 = f"key b aes-256-xts 512 8 {K2}"
+ESSIV = f"key e aes-128-cbc-essiv 512 16 {E1}"
+HEAD = ["blkcrypt 1", "disk 1", "fallback on"]
+SECTION = [*HEAD, H512, "thread"]
+
+
+def text_of(lines):
+    return "".join(line + "\n" for line in lines).encode()
+
+
+def ended(*lines):
+    """The lines behind a section's beginning, and the end."""
+    return text_of([*SECTION, *lines, "end"])
+
+
+def headed(*lines):
+    """The lines behind the first three ones, and the end."""
+    return text_of([*HEAD, *lines, "end"])
+
+
+def many_names(count):
+    return [H512.replace(" a ", f" k{place} ") for place in range(count)]
+
+
+# name, text, line and kind
+REFUSED = [
+    # where the text ends
+    ("an empty text", b"", 1, "end"),
+    ("a line without a line feed", b"blkcrypt 1", 1, "end"),
+    ("one line", b"blkcrypt 1\n", 2, "end"),
+    ("no end line", text_of(SECTION), 6, "end"),
+    ("an end line without a line feed", headed()[:-1], 4, "end"),
+    ("a wrong line without a line feed", text_of(SECTION) + b"nothing", 6, "end"),
+    ("a line feed behind the end", headed() + b"\n", 5, "end"),
+    ("a byte behind the end", headed() + b"x", 5, "end"),
+    ("a second end", headed() + b"end\n", 5, "end"),
+    ("a second script", headed() + headed(), 5, "end"),
+    # the first three lines
+    ("another version", b"blkcrypt 2\n", 1, "word"),
+    ("no version", b"blkcrypt\n", 1, "word"),
+    ("a line feed alone", b"\n", 1, "word"),
+    ("a disk of no blocks", text_of(["blkcrypt 1", "disk 0", "fallback on", "end"]), 2, "number"),
+    ("a leading zero", text_of(["blkcrypt 1", "disk 01", "fallback on", "end"]), 2, "number"),
+    ("an empty field", text_of(["blkcrypt 1", "disk ", "fallback on", "end"]), 2, "number"),
+    ("a blank at the end", text_of(["blkcrypt 1", "disk 1 ", "fallback on", "end"]), 2, "word"),
+    ("a blank at the beginning", text_of(["blkcrypt 1", " disk 1", "fallback on", "end"]), 2, "word"),
+    ("a disk too large", text_of(["blkcrypt 1", "disk 16385", "fallback on", "end"]), 2, "number"),
+    ("a carriage return", headed().replace(b"\n", b"\r\n"), 1, "word"),
+    ("a carriage return behind a number", text_of(["blkcrypt 1", "disk 1\r", "fallback on", "end"]), 2, "number"),
+    ("fallback off", text_of(["blkcrypt 1", "disk 1", "fallback off", "end"]), 3, "not built"),
+    ("fallback of another word", text_of(["blkcrypt 1", "disk 1", "fallback no", "end"]), 3, "word"),
+    ("fallback off as line 2", text_of(["blkcrypt 1", "fallback off", "disk 1", "end"]), 2, "word"),
+    ("a second version line", headed("blkcrypt 1"), 4, "word"),
+    ("a second disk line", headed("disk 1"), 4, "word"),
+    ("a second fallback line", headed("fallback on"), 4, "word"),
+    ("a late fallback off", headed("fallback off"), 4, "word"),
+    ("no fallback line", text_of(["blkcrypt 1", "disk 1", "end"]), 3, "word"),
+    # what isn't built
+    ("a device", headed("device 0 1 1 1 0 8", H512), 4, "not built"),
+    ("a device with other fields", headed("device x"), 4, "not built"),
+    ("a device without fields", headed("device"), 4, "not built"),
+    ("a device behind a key", headed(H512, "device 0 1 1 1 0 8"), 5, "word"),
+    ("a device in a section", ended("device 0 1 1 1 0 8"), 6, "word"),
+    ("a device before the fallback line", text_of(["blkcrypt 1", "disk 1", "device 0 1 1 1 0 8"]), 3, "word"),
+    ("a planned fault", headed("fault 0 0"), 4, "not built"),
+    ("a planned fault behind a key", headed(H512, "fault 0 0"), 5, "not built"),
+    ("a planned fault in a section", ended("fault 0 0"), 6, "word"),
+    ("words that only begin so", headed("devices 0"), 4, "word"),
+    ("lines of other versions", ended("mmc 0 1 1 1 0 4"), 6, "word"),
+    ("a seq line", ended("seq"), 6, "word"),
+    ("a discard line", ended("discard a 0 1 0"), 6, "word"),
+    # key lines
+    ("a key of 63 bytes", headed(H512[:-2]), 4, "key"),
+    ("a key of equal halves", headed("key a aes-256-xts 512 8 " + "11" * 64), 4, "key"),
+    ("a key of the other mode's size", headed(f"key a aes-128-cbc-essiv 512 8 {K1}"), 4, "key"),
+    ("a data unit of 513 bytes", headed(f"key a aes-256-xts 513 8 {K1}"), 4, "key"),
+    ("17 number bytes", headed(f"key a aes-256-xts 512 17 {K1}"), 4, "key"),
+    ("256 number bytes", headed(f"key a aes-256-xts 512 256 {K1}"), 4, "number"),
+    ("a data unit of 2^32 bytes", headed(f"key a aes-256-xts 4294967296 8 {K1}"), 4, "number"),
+    ("a mode that isn't one", headed(f"key a aes-128-xts 512 8 {K1}"), 4, "word"),
+    ("a key without its bytes", headed("key a aes-256-xts 512 8"), 4, "word"),
+    ("a key whose bytes are empty", headed("key a aes-256-xts 512 8 "), 4, "hex"),
+    ("a key of half a byte", headed("key a aes-256-xts 512 8 0"), 4, "hex"),
+    ("a key of 129 bytes", headed("key a aes-256-xts 512 8 " + "00" * 129), 4, "hex"),
+    ("a key of 128 bytes", headed("key a aes-256-xts 512 8 " + "00" * 128), 4, "key"),
+    ("a key in upper case", headed(f"key a aes-256-xts 512 8 {K1.upper()}"), 4, "hex"),
+    ("a name twice", headed(H512, H512), 5, "name"),
+    ("a name that begins with a digit", headed(H512.replace(" a ", " 1a ")), 4, "name"),
+    ("a name of 17 characters", headed(H512.replace(" a ", f" {'a' * 17} ")), 4, "name"),
+    ("an empty name", headed(H512.replace(" a ", "  ")), 4, "name"),
+    ("a key behind a section", text_of([*SECTION, B512, "end"]), 6, "word"),
+    ("key 4097", headed(*many_names(4096), B512), 4100, "limit"),
+    ("key 4097 with a name of before", headed(*many_names(4096), H512.replace(" a ", " k7 ")), 4100, "name"),
+    ("key 4097 with equal halves", headed(*many_names(4096), "key b aes-256-xts 512 8 " + "11" * 64), 4100, "key"),
+    # operations
+    ("half a byte", ended("write a 0 1 0 fill 0"), 6, "hex"),
+    ("a number with a leading zero", ended("write a 0 1 00 fill 00"), 6, "number"),
+    ("257 units", ended("write a 0 257 0 fill 00"), 6, "number"),
+    ("a name that isn't declared", ended("write b 0 1 0 fill 00"), 6, "name"),
+    ("a key without a number", ended("write a 0 1 - fill 00"), 6, "word"),
+    ("a number without a key", ended("write - 0 1 0 fill 00"), 6, "word"),
+    ("a key without a number, to read", ended("read a 0 1 -"), 6, "word"),
+    ("33 units of 4096 bytes", text_of([*HEAD, H4096, "thread", "write a 0 33 0 fill 00", "end"]), 6, "limit"),
+    ("33 units of 4096 bytes, to read", text_of([*HEAD, H4096, "thread", "read a 0 33 0", "end"]), 6, "limit"),
+    ("33 units with too few digits", text_of([*HEAD, H4096, "thread", "write a 0 33 0 hex 00", "end"]), 6, "hex"),
+    ("33 units with their digits",
+        text_of([*HEAD, H4096, "thread", "write a 0 33 0 hex " + "00" * (33 * 4096), "end"]), 6, "limit"),
+    ("a number of 65 digits", ended("read a 0 1 1" + "0" * 64), 6, "number"),
+    ("a sector of 2^32", ended("read a 4294967296 1 0"), 6, "number"),
+    ("an evicted `-`", ended("evict -"), 6, "name"),
+    ("an evicted name that isn't declared", ended("evict b"), 6, "name"),
+    ("evict without a name", ended("evict"), 6, "word"),
+    ("a reset", ended("reset 0"), 6, "number"),
+    ("a reset of no number", ended("reset x"), 6, "number"),
+    ("a reset of all", ended("reset"), 6, "word"),
+    ("no units and an empty text", ended("write a 0 0 0 hex "), 6, "hex"),
+    ("no units and a text", ended("write a 0 0 0 hex 00"), 6, "hex"),
+    ("hex of a byte too few", ended("write a 0 1 0 hex " + "00" * 511), 6, "hex"),
+    ("hex of a byte too many", ended("write a 0 1 0 hex " + "00" * 513), 6, "hex"),
+    ("fill of two bytes", ended("write a 0 1 0 fill 0000"), 6, "hex"),
+    ("another text", ended("write a 0 1 0 zero 00"), 6, "word"),
+    ("an operation without a section", headed(H512, "read a 0 1 0"), 5, "word"),
+    # plugs
+    ("unplug outside a plug", ended("unplug"), 6, "order"),
+    ("a plug inside a plug", ended("plug", "plug"), 7, "order"),
+    ("a plug that the end finds open", ended("plug"), 7, "order"),
+    ("a plug that a section finds open", ended("plug", "thread"), 7, "order"),
+    ("a plug of a section before", ended("plug", "unplug", "thread", "unplug"), 9, "order"),
+    # limits
+    ("section 17", headed(*["thread"] * 17), 20, "limit"),
+    ("section 17 behind an open plug", headed(*["thread"] * 16, "plug", "thread"), 21, "order"),
+    ("operation 65537", ended(*["evict a"] * 65537), 65542, "limit"),
+    ("operation 65537 out of order", ended(*["evict a"] * 65536, "unplug"), 65542, "order"),
+    ("operation 65537 of another section", ended(*["evict a"] * 65536, "thread", "evict a"), 65543, "limit"),
+    ("unit 65537", ended(*["read - 0 256 -"] * 256, "read - 0 1 -"), 262, "limit"),
+    # the order of the tests at a line
+    ("name before number", headed("key A aes-256-xts x x x"), 4, "name"),
+    ("number before hex", headed("key a aes-256-xts x 8 x"), 4, "number"),
+    ("hex before key", headed("key a aes-256-xts 513 8 x"), 4, "hex"),
+    ("word before name", ended("write b 0 1 - fill 00"), 6, "word"),
+    ("name before sector", ended("write b x x x fill x"), 6, "name"),
+    ("sector before hex", ended("write a x 1 0 fill x"), 6, "number"),
+    ("data unit number before hex", ended("write a 0 1 x fill x"), 6, "number"),
+    ("the first of two wrong lines", ended("reset 0", "unplug"), 6, "number"),
+]
+
+# name, text, the report's lines
+REPORTED = [
+    ("nothing", headed(), ["report 1", "shard 0 0", "end"]),
+    ("a write and a read", ended("write a 0 1 0 fill 00", "read a 0 1 0"),
+        ["report 1", "thread 0", "done", "done fill 00", "shard 0 2", "0 0 0 soft", "0 1 0 soft", "end"]),
+    ("numbers of 4 bytes",
+        headed(f"key a aes-256-xts 512 4 {K1}", "thread", "write a 0 2 ffffffff fill 00", "write a 0 1 ffffffff fill 00"),
+        ["report 1", "thread 0", "refused dun", "done", "shard 0 1", "0 1 0 soft", "end"]),
+    ("refusals, of which the first that applies is answered",
+        text_of(["blkcrypt 1", "disk 32", "fallback on", H4096, "thread", "write - 0 256 - fill 00", "write - 1 256 - fill 00",
+                 "write - 0 0 - fill 00", "read a 257 1 0", "read a 257 0 0", "end"]),
+        ["report 1", "thread 0", "done", "refused outside", "refused empty", "refused misaligned", "refused empty",
+         "shard 0 256", *(f"0 0 {unit} plain" for unit in range(256)), "end"]),
+    ("outside before the number",
+        headed(f"key a aes-256-xts 512 1 {K1}", "thread", "read a 7 2 ff", "read a 6 2 ff", "read a 6 2 fe"),
+        ["report 1", "thread 0", "refused outside", "refused dun",
+         # of the sectors' zeros under the numbers fe and ff
+         None, "shard 0 2", "0 2 0 soft", "0 2 1 soft", "end"]),
+    ("CBC-ESSIV", headed(ESSIV, "thread", "write e 3 1 ff fill 5a", "read e 3 1 ff"),
+        ["report 1", "thread 0", "done", "done fill 5a", "shard 0 2", "0 0 0 soft", "0 1 0 soft", "end"]),
+    ("every operation, over two sections",
+        ended("evict a", "plug", "write a 0 2 5 fill 41", "evict a", "unplug", "thread", "read a 1 1 6", "read - 2 1 -"),
+        ["report 1", "thread 0", "evicted", "plug", "done", "evicted", "unplug", "thread 1", "done fill 41", "done fill 00",
+         "shard 0 4", "0 2 0 soft", "0 2 1 soft", "1 0 0 soft", "1 1 0 plain", "end"]),
+    ("sections without operations", headed("thread", "thread"),
+        ["report 1", "thread 0", "thread 1", "shard 0 0", "end"]),
+    ("bytes as they were written", headed("thread", "write - 7 1 - hex " + "5a" * 512, "read - 7 1 -"),
+        ["report 1", "thread 0", "done", "done fill 5a", "shard 0 2", "0 0 0 plain", "0 1 0 plain", "end"]),
+]
+
+
+def documented():
+    """The examples of errors of docs/SCRIPT.md: the script there with another line in place of one of its lines."""
+    document = (pathlib.Path(__file__).parent.parent / "docs" / "SCRIPT.md").read_text()
+    rows = re.findall(r"^\| `([^`]*)` as line (\d) \| `blkcrypt: script line (\d): ([a-z ]+)` \|", document, re.MULTILINE)
+    for written, place, line, kind in rows:
+        lines = [*HEAD, H4096, "thread", "write a 0 1 0 fill 00", "end"]
+        lines[int(place) - 1] = re.sub(r" K$", f" {K1}", written)
+        yield f"{written!r} of the document", text_of(lines), int(line), kind
+
+
+REFUSED += documented()
+
+
+def agrees(wanted, found):
+    """Whether a report has these lines; None stands for any digest."""
+    lines = found.decode().split("\n")
+    return len(lines) == len(wanted) + 1 and not lines[-1] and all(
+        one.startswith("done sha256 ") if other is None else one == other for one, other in zip(lines, wanted))
+
+
+def wrong(modelled):
+    """The names of the cases that a model answers otherwise, and what it answers."""
+    if len({kind for *_, kind in documented()}) != 9:
+        yield "the examples of errors of docs/SCRIPT.md, of which there is one at least of each kind", ()
+    for name, text, line, kind in REFUSED:
+        if modelled(text) != (2, b"", f"blkcrypt: script line {line}: {kind}\n".encode()):
+            yield name, modelled(text)
+    for name, text, lines in REPORTED:
+        status, output, error = modelled(text)
+        if status or error or not agrees(lines, output):
+            yield name, (status, output, error)
+
+
+def texts():
+    yield from ((name, text) for name, text, *_ in REFUSED)
+    yield from ((name, text) for name, text, _ in REPORTED)

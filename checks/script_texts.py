@@ -1,0 +1,441 @@
+"""Generates scripts, the same ones for the same seed: valid ones of every shape, and ones in which a few words or lines are
+wrong."""
+
+LETTERS = "abcdefghijklmnopqrstuvwxyz"
+XTS = "aes-256-xts"
+ESSIV = "aes-128-cbc-essiv"
+UNIT_SIZES = [512, 1024, 2048, 4096]
+
+
+def text_of(lines):
+    return "".join(line + "\n" for line in lines).encode()
+
+
+def head(blocks):
+    return ["blkcrypt 1", f"disk {blocks}", "fallback on"]
+
+
+def key_line(dice, name="a", mode=XTS, unit=512, number_bytes=8):
+    return f"key {name} {mode} {unit} {number_bytes} {dice.randbytes(64 if mode == XTS else 16).hex()}"
+
+
+def with_keys(keys, operations, blocks=1):
+    return text_of(head(blocks) + keys + ["thread", *operations, "end"])
+
+
+def script(dice, operations, blocks=1, **key):
+    return with_keys([key_line(dice, **key)], operations, blocks)
+
+
+# ---- valid scripts, at random
+
+
+def a_name(dice):
+    return dice.choice(LETTERS) + "".join(dice.choices(LETTERS + "0123456789", k=dice.randrange(16)))
+
+
+class Key:
+    def __init__(self, dice, name):
+        self.name = name
+        self.mode = dice.choice([XTS, ESSIV])
+        self.unit = dice.choice(UNIT_SIZES)
+        self.number_bytes = dice.choice([1, 1, 2, 4, 7, 8, 8, 15, 16, dice.randrange(1, 17)])
+
+    def line(self, dice):
+        return key_line(dice, self.name, self.mode, self.unit, self.number_bytes)
+
+
+def a_number(dice, number_bytes):
+    """A number, mostly one that fits, and often close to the last one."""
+    end = 256 ** number_bytes
+    return dice.choice([
+        dice.randrange(10), dice.randrange(256), dice.randrange(end), end - dice.randrange(1, 9), end // 2,
+        end - 1, end, dice.choice([end, 2 ** 256 - 1, 2 ** 255, dice.randrange(2 ** 256)])])
+
+
+class Bio:
+    """A place that some operations meet on: they write it, read it, read a part of it, or read it otherwise."""
+
+    def __init__(self, dice, keys, blocks):
+        self.key = dice.choice([*keys, dice.choice([*keys, None])]) if keys else None
+        self.unit = self.key.unit if self.key else 512
+        self.step = self.unit // 512
+        most = min(256 // self.step, 12)
+        self.units = dice.choice([0, 1, 1, 1, 2, 2, 3, dice.randrange(1, most + 1), dice.choice([most, 256 // self.step])])
+        room = 8 * blocks - self.units * self.step
+        sector = dice.randrange(max(room, 0) + 1)
+        if dice.random() < 0.85:
+            sector -= sector % self.step
+        self.sector = dice.choice([sector, sector, sector, 0, max(room, 0), max(room, 0) + self.step, 8 * blocks])
+        if dice.random() < 0.02:
+            self.sector = dice.choice([4294967295, 4294967288, 8 * blocks - 1, 8 * blocks + 1])
+        self.number = a_number(dice, self.key.number_bytes) if self.key else None
+
+    def fields(self, key=None, ahead=0, units=None, number=0):
+        key = key or self.key
+        shown = "-" if self.number is None or key is None else f"{(self.number + ahead + number) % 2 ** 256:x}"
+        sector = min(self.sector + ahead * self.step, 4294967295)
+        return f"{'-' if shown == '-' else key.name} {sector} {self.units if units is None else units} {shown}"
+
+    def write(self, dice):
+        size = self.units * self.unit
+        if size and size <= 16384 and dice.random() < 0.4:
+            data = dice.choice([dice.randbytes(size), dice.randbytes(1) * size, bytes(size - 1) + b"\x01"])
+            return f"write {self.fields()} hex {data.hex()}"
+        return f"write {self.fields()} fill {dice.randrange(256):02x}"
+
+    def read(self, dice, keys):
+        turn = dice.random()
+        if turn < 0.1 and self.units > 1:
+            ahead = dice.randrange(self.units)
+            return f"read {self.fields(ahead=ahead, units=dice.randrange(1, self.units - ahead + 1))}"
+        if turn < 0.2:
+            return f"read {self.fields(number=1)}"
+        if turn < 0.3 and self.key:
+            other = dice.choice(keys)
+            return f"read {self.fields(key=other, units=min(self.units, 256 // (other.unit // 512)))}"
+        if turn < 0.35:
+            return f"read - {self.sector} {self.units} -"
+        return f"read {self.fields()}"
+
+
+def a_section(dice, keys, bios):
+    lines = ["thread"]
+    plugged = False
+    for _ in range(dice.choice([0, 1, 2, 4, 8, 12])):
+        turn = dice.random()
+        if turn < 0.1:
+            lines.append("unplug" if plugged else "plug")
+            plugged = not plugged
+        elif turn < 0.2 and keys:
+            lines.append(f"evict {dice.choice(keys).name}")
+        elif turn < 0.6:
+            lines.append(dice.choice(bios).write(dice))
+        else:
+            lines.append(dice.choice(bios).read(dice, keys))
+    return lines + ["unplug"] * plugged
+
+
+def a_script(dice):
+    """A valid script of a few keys and sections, whose operations meet on a few places."""
+    blocks = dice.choice([1, 1, 2, 4, 10, 32, dice.randrange(1, 40)])
+    names = list(dict.fromkeys(a_name(dice) for _ in range(dice.choice([0, 1, 1, 2, 3, 3, 6]))))
+    keys = [Key(dice, name) for name in names]
+    key_lines = [key.line(dice) for key in keys]
+    bios = [Bio(dice, keys, blocks) for _ in range(dice.choice([1, 2, 3, 5]))]
+    sections = [a_section(dice, keys, bios) for _ in range(dice.choice([0, 1, 1, 1, 2, 3, 16, dice.randrange(17)]))]
+    return text_of([*head(blocks), *key_lines, *(line for section in sections for line in section), "end"])
+
+
+# ---- valid scripts, by shape
+
+
+def key_name(place):
+    """Names of which no two are equal, and whose order isn't that of their places."""
+    return f"k{place * 2731 % 4096}"
+
+
+def many_keys(dice, count):
+    return [
+        key_line(dice, key_name(place), XTS if place % 3 else ESSIV, UNIT_SIZES[place % 4], 1 + place % 16)
+        for place in range(count)]
+
+
+def every_configuration(dice):
+    """Each mode, data unit size and count of number bytes: the last bio that fits, read back whole and by its last unit,
+    and the first one that doesn't fit."""
+    for mode in [XTS, ESSIV]:
+        for unit in UNIT_SIZES:
+            for size in range(1, 17):
+                last = 256 ** size - 3
+                step = unit // 512
+                yield f"{mode}, units of {unit} bytes, {size} number bytes", script(dice, [
+                    f"write a {step} 3 {last:x} hex {dice.randbytes(3 * unit).hex()}",
+                    f"read a {step} 3 {last:x}",
+                    f"read a {3 * step} 1 {last + 2:x}",
+                    f"read a {step} 3 {last + 1:x}",
+                    f"write a {step} 1 {last + 2:x} fill 00",
+                    f"read a {step} 3 {last:x}",
+                    f"read a {step} 1 {last + 3:x}",
+                ], 4, mode=mode, unit=unit, number_bytes=size)
+
+
+def longest(dice, size):
+    """A valid text of so many bytes, about 16 MiB: many long writes, and reads of no units to fill it up."""
+    lines = [*head(32), "thread", *[f"write - 0 256 - hex {dice.randbytes(131072).hex()}"] * 63, "read - 0 256 -"]
+    left = size - len(text_of([*lines, "end"]))
+    reads = left // 13 - 2
+    left -= 13 * reads
+    first = min(left - 13, 22)
+    lines += ["read - 0 0 -"] * reads + [f"read - {'1' * (length - 12)} 0 -" for length in [first, left - first]]
+    return text_of([*lines, "end"])
+
+
+def shapes(dice):
+    """A valid script of each shape, by name."""
+    long = "z123456789abcdef"
+    yield "no key", text_of(head(1) + ["end"])
+    yield "the largest disk and no key", text_of(head(16384) + ["end"])
+    yield "the end of the largest disk", script(
+        dice, ["write a 131064 4 7 fill 10", "read a 131070 1 a", "read a 131070 1 9", "read a 131070 2 a", "read - 131071 2 -",
+               "read - 131071 1 -", "read - 131072 0 -", "read - 131072 1 -"], 16384, unit=1024)
+    yield "a key without a section", text_of(head(1) + [key_line(dice), "end"])
+    yield "a section and no key", text_of(head(1) + ["thread", "end"])
+    yield "sixteen sections", text_of(head(1) + ["thread"] * 16 + ["end"])
+    yield "sixteen sections that see each other's writes", text_of(head(2) + [key_line(dice)] + [
+        line for thread in range(16) for line in (
+            "thread", f"write a {thread} 1 {thread:x} fill {thread:02x}", f"read a {15 - thread} 1 {15 - thread:x}",
+            f"read a 0 {thread + 1} 0")] + ["end"])
+    yield from every_configuration(dice)
+    yield "halves that differ in one bit", with_keys(
+        ["key a aes-256-xts 512 8 " + "00" * 63 + "01"], ["write a 0 1 0 fill 00", "read a 0 1 0"])
+    yield "a CBC-ESSIV key with equal halves", with_keys(
+        ["key e aes-128-cbc-essiv 512 1 " + "5a" * 16], ["write e 0 1 ff fill 00", "read e 0 1 ff"])
+    same = dice.randbytes(64).hex()
+    yield "one key's bytes under two names", with_keys(
+        [f"key a aes-256-xts 512 8 {same}", f"key b aes-256-xts 512 4 {same}", f"key c aes-256-xts 1024 8 {same}"],
+        ["write a 0 1 ffffffff fill 7e", "read b 0 1 ffffffff", "read a 0 1 1ffffffff", "read b 0 1 1ffffffff",
+         "write c 0 1 5 fill 11", "read a 0 2 5", "write a 0 2 5 fill 11", "read c 0 1 5"])
+    alike = ["a", "aa", "ab", "a0", "b", "a123456789abcdef", "a123456789abcdee"]
+    yield "names that begin alike", with_keys(
+        [key_line(dice, name) for name in alike],
+        [line for byte, name in enumerate(alike) for line in (
+            f"write {name} {byte} 1 0 fill 0{byte}", f"read {name} {byte} 1 0", f"evict {name}")])
+    for word in ["key", "thread", "end", "write", "read", "fill", "hex", "disk", "plug", "evict", "device", "fault", long]:
+        yield f"a key that is named {word}", script(
+            dice, [f"write {word} 0 1 0 fill 00", f"read {word} 0 1 0", f"evict {word}"], name=word)
+    yield "as many keys as there may be", with_keys(
+        many_keys(dice, 4096),
+        [line for place in range(4096) for line in (
+            f"write {key_name(place)} {place % 64 * 8} 1 {place % 256:x} fill {place % 256:02x}",
+            f"read {key_name(place)} {place % 64 * 8} 1 {place % 256:x}")], 64)
+    yield "every sector of two blocks", script(
+        dice, [f"write a {s} 1 {s:x} fill {s:02x}" for s in range(16)] + [f"read a {s} 1 {s:x}" for s in range(16)], 2)
+    yield "every byte", script(
+        dice, [line for b in range(256) for line in (f"write a 0 1 {b:x} fill {b:02x}", f"read a 0 1 {b:x}")])
+    yield "each bit of one byte", script(
+        dice, [line for bit in range(8) for line in (
+            f"write a 0 1 0 hex {'00' * (511 - 64 * bit)}{1 << bit:02x}{'00' * (64 * bit)}", "read a 0 1 0")])
+    for unit, units in [(512, 256), (1024, 128), (2048, 64), (4096, 32)]:
+        for mode in [XTS, ESSIV]:
+            yield f"the longest bio of units of {unit} bytes, {mode}", script(
+                dice, [f"write a 0 {units} 0 hex {dice.randbytes(131072).hex()}", f"read a 0 {units} 0",
+                       f"write a 8 {units} 0 fill 00", f"write a 0 {units} 0 fill 77", f"read a 0 {units} 0"],
+                32, mode=mode, unit=unit)
+    yield "the longest bio without a key", text_of(head(32) + [
+        "thread", f"write - 0 256 - hex {dice.randbytes(131072).hex()}", "read - 0 256 -", "read - 255 1 -", "read - 1 256 -",
+        "end"])
+    yield "raw bytes under a key", script(
+        dice, ["write - 0 8 - fill 00", "read a 0 8 0", "write a 0 8 0 fill 00", "read - 0 8 -", "read - 7 1 -"])
+    yield "a block written by each size of unit", with_keys(
+        [key_line(dice, f"k{unit}", dice.choice([XTS, ESSIV]), unit) for unit in UNIT_SIZES],
+        [f"{access} k{unit} 0 {4096 // unit} {number}{text}" for unit in UNIT_SIZES for number in [0, 5] for access, text in
+         [("write", " fill 33"), ("read", ""), ("read", "")]] + ["read k512 0 8 0", "read k1024 0 4 0", "read k2048 0 2 0"])
+    yield "refusals in their order", with_keys(
+        [key_line(dice, unit=4096, number_bytes=1)],
+        [f"{access} a {sector} {units} {number}{text}" for access, text in [("write", " fill 5a"), ("read", "")]
+         for sector in [0, 1, 8, 9, 4294967295] for units in [0, 1, 2, 3] for number in ["0", "fe", "ff", "100", "f" * 64]], 2)
+    yield "a plug that holds every operation", script(
+        dice, ["plug", "write a 0 2 0 fill 01", "read a 0 2 0", "read a 7 2 0", "evict a", "write a 2 1 2 fill 02", "unplug",
+               "plug", "unplug", "read a 0 3 0"])
+    yield "the longest text", longest(dice, 16777216)
+    yield "as many operations as there may be", script(dice, ["evict a"] * 65535 + ["read - 0 1 -"])
+    yield "as many units as there may be", text_of(head(1) + ["thread"] + ["read - 0 256 -"] * 256 + ["plug", "unplug", "end"])
+    yield "as many units as there may be, carried out", script(
+        dice, [f"{access} a 0 256 {number:x}{text}" for number in range(8)
+               for access, text in [("write", f" fill 0{number}"), ("read", "")]] + ["read - 0 256 -"] * 240, 32)
+
+
+# ---- broken scripts
+
+NUMBERS = [
+    "", "0", "00", "01", "-1", "+1", "1.0", "0x1", "a", "\t1", "1\r", "1\x00", "\u0661", "15", "16", "17", "255", "256", "257", "511",
+    "512", "513", "1024", "2048", "4096", "8192", "16384", "16385", "65536", "4294967295", "4294967296", "4294967297",
+    "18446744073709551616", "18446744073709551617", "340282366920938463463374607431768211457", "9" * 39, "9" * 5000]
+NUMBER_TEXTS = [
+    "", "0", "00", "0f", "F", "g", "-1", "0x1", "1\r", "\u0661", "ff", "100", "fffe", "ffff", "10000", "f" * 16, "1" + "0" * 16, "f" * 17,
+    "f" * 32, "1" + "0" * 32, "f" * 64, "1" + "0" * 63, "1" + "0" * 64, "f" * 65, "f" * 5000]
+NAMES = [
+    "", "a", "e", "b", "A", "aa", "1", "a1", "1a", "a_", "a-", "a\r", "\x00", "\u00e9", "abcdefghijklmnop", "abcdefghijklmnopq", "key"]
+DIGITS = [
+    "", "0", "5a", "5A", "5g", "a", "5a\r", "5 a", "\u0661\u0662", "005a", "5a" * 15, "00" * 16, "00" * 17, "01" * 32 + "02" * 31,
+    "01" * 32 + "02" * 32, "01" * 64, "01" * 65, "01" * 32 + "02" * 31 + "0", "00" * 128, "00" * 129, "5a" * 511, "5a" * 512, "5a" * 513,
+    "5a" * 1024, "5A" * 512, "5a" * 4096, "5a" * 511 + "5g"]
+FIELDS = [*NUMBERS, *NUMBER_TEXTS, *NAMES, *DIGITS, "-", "on", "off", "fill", "hex", "1 1", " ", XTS, ESSIV]
+
+LINES = [
+    "", " ", "#", "blkcrypt 1", "blkcrypt 2", "disk 1", "fallback on", "fallback off", "device 0 2 1 1 0 8", "device", "fault 0 0",
+    "fault", "key", "thread", "end", "plug", "unplug", "reset 0", "reset", "evict a", "evict b", "evict", "write a 0 1 0 fill 00",
+    "read a 0 1 0", "read b 0 1 0", "read - 0 1 -", "read - 0 1 0", "mmc 0 1 1 1 0 4", "seq", "discard a 0 1 0", "\x00", "report 1",
+    "key a aes-256-xts 512 8 " + "01" * 32 + "02" * 32, "key b aes-256-xts 512 8 " + "01" * 32 + "02" * 32]
+
+
+def base(dice):
+    """The lines of a valid script that has a line of each form."""
+    return [
+        *head(2), key_line(dice, "a"), key_line(dice, "e", ESSIV, 4096, 2), "thread", "write a 9 1 c0ffee fill 5a",
+        f"write a 0 1 0 hex {dice.randbytes(512).hex()}", "plug", "read a 9 1 c0ffee", "write e 8 1 ffff fill 00", "unplug",
+        "evict e", "read - 8 8 -", "thread", "read e 8 1 ffff", "end"]
+
+
+# the fields of the base that may have several values: the line, the field, and what is tried there
+CHANGING = [
+    (1, 1, NUMBERS), (3, 1, NAMES), (3, 3, NUMBERS), (3, 4, NUMBERS), (3, 5, DIGITS), (4, 1, NAMES), (4, 3, NUMBERS), (4, 4, NUMBERS),
+    (4, 5, DIGITS), (6, 1, NAMES), (6, 2, NUMBERS), (6, 3, NUMBERS), (6, 4, NUMBER_TEXTS), (6, 6, DIGITS), (7, 3, NUMBERS),
+    (7, 6, DIGITS), (9, 1, NAMES), (9, 2, NUMBERS), (9, 3, NUMBERS), (9, 4, NUMBER_TEXTS), (10, 3, NUMBERS), (10, 4, NUMBER_TEXTS),
+    (10, 6, DIGITS), (12, 1, NAMES), (13, 2, NUMBERS), (13, 3, NUMBERS), (15, 2, NUMBERS), (15, 4, NUMBER_TEXTS)]
+
+
+def with_field(lines, place, field, value):
+    fields = lines[place].split(" ")
+    fields[field] = value
+    return [*lines[:place], " ".join(fields), *lines[place + 1:]]
+
+
+def each_field(dice):
+    """The base with each field changed to each value that is tried there."""
+    for place, field, values in CHANGING:
+        for value in values:
+            yield f"line {place + 1} field {field + 1} {value[:20]!r}", text_of(with_field(base(dice), place, field, value))
+
+
+def two_fields(dice, lines):
+    """Two fields of one line changed, so that the order of the tests counts; now and then of two lines."""
+    place, field, values = dice.choice(CHANGING)
+    lines = with_field(lines, place, field, dice.choice(values))
+    others = [other for other in CHANGING if other[0] == place] if dice.random() < 0.8 else CHANGING
+    place, field, values = dice.choice(others)
+    return text_of(with_field(lines, place, field, dice.choice(values)))
+
+
+def word_changed(dice, lines):
+    """Another word in a field, or a field left out, doubled or put in; now and then at two places."""
+    lines = list(lines)
+    place = dice.randrange(len(lines))
+    for _ in range(dice.choice([1, 1, 1, 2])):
+        fields = lines[place].split(" ")
+        field = dice.randrange(len(fields))
+        way = dice.random()
+        if way < 0.7:
+            fields[field] = dice.choice(FIELDS)
+        elif way < 0.8:
+            del fields[field]
+        elif way < 0.9:
+            fields.insert(field, fields[field])
+        else:
+            fields.insert(field, dice.choice(FIELDS))
+        lines[place] = " ".join(fields)
+        if dice.random() < 0.3:
+            place = dice.randrange(len(lines))
+    return text_of(lines)
+
+
+def letter_changed(dice, lines):
+    """A letter of a line left out, doubled, put in or in upper case; or another one, now and then anywhere in the text."""
+    lines = list(lines)
+    place = dice.randrange(len(lines))
+    line = lines[place]
+    at = dice.randrange(len(line) + 1)
+    new = dice.choice(["0", "1", "9", "a", "f", "g", " ", "\t", "\r", "\x00", "\n", "-", "z", "\x7f", "\u00e9"])
+    lines[place] = dice.choice([
+        line[:at] + line[at + 1:], line[:at] + line[at:at + 1] + line[at:], line[:at] + new + line[at:],
+        line[:at] + new + line[at + 1:], line.upper(), line + new, new + line])
+    return text_of(lines)
+
+
+def line_changed(dice, lines):
+    """A line left out, doubled, put in or in another's place."""
+    lines = list(lines)
+    one, other = dice.randrange(len(lines)), dice.randrange(len(lines) + 1)
+    way = dice.random()
+    if way < 0.2:
+        del lines[one]
+    elif way < 0.4:
+        lines.insert(other, lines[one])
+    elif way < 0.6:
+        other = other % len(lines)
+        lines[one], lines[other] = lines[other], lines[one]
+    elif way < 0.9:
+        lines.insert(other, dice.choice(LINES))
+    else:
+        lines[one] = dice.choice(LINES)
+    return text_of(lines)
+
+
+def head_changed(dice, lines):
+    """Lines put in among the first ones, or in their places."""
+    lines = list(lines)
+    place = dice.randrange(2, 6)
+    line = dice.choice(["fallback off", "device 0 2 1 1 0 8", "device", "fault 0 0", "fault x"] * 4 + LINES)
+    lines[place:place + (dice.random() < 0.4)] = [line]
+    return text_of(lines)
+
+
+def plugs_changed(dice, lines):
+    """Plugs opened and closed at other places, and sections and ends that may find them open."""
+    lines = list(lines)
+    for _ in range(dice.choice([1, 1, 2, 3])):
+        lines.insert(dice.randrange(6, len(lines)), dice.choice(["plug", "unplug", "plug", "unplug", "thread", "end"]))
+    if dice.random() < 0.3:
+        lines.remove(dice.choice(["plug", "unplug"]))
+    return text_of(lines)
+
+
+def text_changed(dice, lines):
+    """A text that ends too early or too late, or whose blanks or line feeds are others."""
+    text = text_of(lines)
+    old, new = dice.choice([
+        (b"\n", b"\r\n"), (b"\n", b"\r"), (b" ", b"\t"), (b" ", b"  "), (b"\n", b" \n"), (b"\n", b"\n\n"), (b"\n", b"\x00\n"),
+        (b"thread\n", b"thread\r\n"), (b"end\n", b"end"), (b"end\n", b"end \n"), (b"end\n", b"End\n"), (b"thread", b"thread 0")])
+    cut = dice.randrange(len(text))
+    return dice.choice([
+        text[:cut], text[:cut], text[cut:], text[:cut] + b"\n", text.replace(old, new), text.replace(old, new),
+        text[:cut] + text[cut:].replace(old, new, 1), text + dice.choice([b"\n", b"\x00", b" ", b"x", b"end\n", text]),
+        text[:cut] + bytes([dice.randrange(256)]) + text[cut + 1:]])
+
+
+def mutated(dice):
+    """Texts that are mostly broken. What is wrong with them, and whether anything is, the model finds."""
+    yield from each_field(dice)
+    for change, count in [(two_fields, 300), (word_changed, 150), (letter_changed, 200), (line_changed, 150), (head_changed, 100),
+                          (plugs_changed, 100), (text_changed, 120)]:
+        for turn in range(count):
+            yield f"{change.__name__} {turn}", change(dice, base(dice))
+    for turn in range(120):
+        change = dice.choice([word_changed, letter_changed, line_changed, text_changed])
+        yield f"a valid script, {change.__name__} {turn}", change(dice, a_script(dice).decode().split("\n")[:-1])
+
+
+def broken(dice):
+    """Texts of which each breaks one rule, by name."""
+    yield "NUL bytes", bytes(100)
+    yield "every byte once", bytes(range(256))
+    yield "UTF-16", text_of(base(dice)).decode().encode("utf-16-le")
+    yield "a text too long", longest(dice, 16777217)
+    yield "a key too many", text_of(head(1) + many_keys(dice, 4096) + [key_line(dice, "z"), "end"])
+    for place in [0, 1, 2047, 4094]:
+        yield f"the name of key {place} of 4096 once more", text_of(
+            head(1) + many_keys(dice, 4095) + [key_line(dice, key_name(place)), "end"])
+    yield "a name that isn't among many", with_keys(many_keys(dice, 4096), ["read k4096 0 1 0"])
+    yield "an evicted name that isn't among many", with_keys(many_keys(dice, 4096), ["evict k4096"])
+    yield "a name that begins as one of the keys", with_keys(many_keys(dice, 100), ["read k 0 1 0"])
+    for unit, units in [(1024, 129), (2048, 65), (4096, 33), (4096, 256)]:
+        yield f"{units} units of {unit} bytes", script(dice, [f"read a 0 {units} 0"], 32, unit=unit)
+    yield "an operation too many", script(dice, ["read - 0 1 -"] * 65537)
+    yield "a unit too many, in a bio that is refused", script(dice, ["read - 4294967295 256 -"] * 256 + ["read a 3 1 " + "f" * 64])
+    yield "a unit too many, of another section", script(dice, ["read - 0 255 -"] * 257 + ["thread", "read a 0 2 0"])
+    base_lines = base(dice)
+    for place in range(len(base_lines)):
+        without = base_lines[:place] + base_lines[place + 1:]
+        yield f"no line {place + 1}", text_of(without)
+        yield f"line {place + 1} twice", text_of(base_lines[:place + 1] + base_lines[place:])
+        yield f"lines {place + 1} and {place + 2} exchanged", text_of(
+            base_lines[:place] + base_lines[place:place + 2][::-1] + base_lines[place + 2:])
+
+
+def texts(dice):
+    """Every text with its name, and whether a script says it where that is known beforehand."""
+    yield from ((name, text, True) for name, text in shapes(dice))
+    yield from ((f"valid {turn}", a_script(dice), True) for turn in range(1100))
+    yield from ((name, text, None) for name, text in broken(dice))
+    yield from ((name, text, None) for name, text in mutated(dice))
