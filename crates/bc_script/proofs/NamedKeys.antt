@@ -1,9 +1,9 @@
 -- Keys and the index of their names, as a key is added.
-use Rattle.std.proofs.Common.{◌≡◌, ◌≢◌, ℕ, zero, suc, ◌<◌, ◌≤◌, true, false, List, [], ◌∷◌, ◌++◌, length, get_or, Option, Some, None, BTreeMap, refl, sym, ap, subst, ◌∙◌, arith, length-append}
+use Rattle.std.proofs.Common.{◌≡◌, ◌≢◌, ℕ, zero, suc, ◌<◌, ◌≤◌, true, false, List, [], ◌∷◌, ◌++◌, length, Option, Some, None, BTreeMap, refl, sym, ap, subst, ◌∙◌, arith, length-append}
 use Rattle.std.specs.Prelude.{Bool, Vec, MatchOption, is_some}
 use Rattle.std.specs.Map.{lookup, KeepsOthers, IsKeyTest, AreApart}
-use Rattle.std.specs.BTreeMap.{UpdatesBy, IsEmpty, is_at}
-use Rattle.std.specs.Ordering.{is_eq, nat_cmp, eq_by_cmp}
+use Rattle.std.specs.BTreeMap.{UpdatesBy, IsEmpty}
+use Rattle.std.specs.Ordering.{is_eq, nat_cmp}
 use Rattle.std.specs.Cmp.Lexicographic.{slice_cmp, bytes_decides}
 use Rattle.std.specs.Str.{bytes_eq}
 use Rattle.std.proofs.Math.Logic.{⊎_elim}
@@ -11,14 +11,10 @@ use Rattle.std.proofs.lemmas.Bool.{cases_lt, cases_Bool, false_from_ne_true}
 use Rattle.std.proofs.lemmas.Cmp.{eq_by_cmp_equiv, nat_list_cmp_total}
 use Rattle.std.proofs.lemmas.Map.Text.{is_eq-slice_cmp}
 use Rattle.std.proofs.lemmas.Option.{none-some, same_Some}
-use Rattle.std.proofs.lemmas.List.Quantifiers.{all_pairs_push}
 use Rattle.bc_key.specs.declared.keys.KeyNo.{KeyNo}
 use Rattle.bc_script.specs.declared.named_key.NamedKey.{NamedKey}
-use Rattle.bc_script.specs.Script.{AreKeys, IsNamedKey, max_keys}
 use Rattle.bc_script.specs.ScriptText.{name_of}
 use Rattle.bc_script.specs.NamedKeys.{IsNamed, IsNoName, IsIndex, number_at}
-use Rattle.bc_script.proofs.KeyNames.{name_in}
-use Rattle.bc_script.proofs.Onto.{AllByRecursion-append}
 
 -- ---- names of keys to which one is added
 

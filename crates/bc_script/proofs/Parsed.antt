@@ -1,20 +1,20 @@
 -- A text that is read line after line, and what is found of it.
-use Rattle.std.proofs.Common.{◌≡◌, ℕ, ◌<◌, ◌≤◌, ◌+◌, Bool, true, false, List, [], ◌∷◌, ◌++◌, length, map, Option, Some, None, position, append_assoc, refl, sym, ap, subst, ◌∙◌}
-use Rattle.std.specs.Prelude.{◌==◌, ⊤, Result, Ok, Err, IfOk, IfErr, OnOk}
+use Rattle.std.proofs.Common.{◌≡◌, ℕ, ◌+◌, List, [], ◌∷◌, ◌++◌, length, map, Option, Some, None, position, refl, sym, ap, ◌∙◌}
+use Rattle.std.specs.Prelude.{◌==◌, Result, Ok, Err, IfOk, IfErr}
 use Rattle.bc_text.specs.Lines.{Line, nothing, lines_of, parts_at, space, line_feed}
 use Rattle.bc_text.proofs.Splits.{parts_at-place, parts_at-nowhere}
 use Rattle.bc_text.proofs.LineLaws.{text_of-lines_of}
 use Rattle.bc_script.specs.declared.script_error.ScriptError.{ScriptError}
 use Rattle.bc_script.specs.declared.script_error.ParseError.{ParseError}
 use Rattle.bc_script.specs.declared.script_error.ParseError.TheVariants as errors
-use Rattle.bc_script.specs.Script.{Script, IsScript}
-use Rattle.bc_script.specs.ScriptText.{Says, script_lines, script_text}
-use Rattle.bc_script.specs.Forms.{Form, form_of}
+use Rattle.bc_script.specs.Script.{Script}
+use Rattle.bc_script.specs.ScriptText.{Says, script_lines}
+use Rattle.bc_script.specs.Forms.{form_of}
 use Rattle.bc_script.specs.ScriptErrors.{Why, with_form, or_below, error_at, error_at_end, first_error, error_of}
-use Rattle.bc_script.specs.Progress.{Progress, lines_read, forms_read, forms_below}
-use Rattle.bc_script.specs.Reading.{Took, IsWhole, TellsNext}
+use Rattle.bc_script.specs.Progress.{Progress, lines_read, forms_read}
+use Rattle.bc_script.specs.Reading.{IsWhole, TellsNext}
 use Rattle.bc_script.specs.Parsing.{IsRefused}
-use Rattle.bc_script.proofs.NoError.{no_error, no_script_has}
+use Rattle.bc_script.proofs.NoError.{no_script_has}
 
 -- what has been read and what is left are the text, and the first error of what is left is that of the text
 pub record Underway (text : List ℕ) (p : Progress) (left : List Line) : Type 0 where

@@ -1,6 +1,6 @@
 -- What a reader of scripts keeps, line after line.
-use Rattle.std.proofs.Common.{◌≡◌, ◌≢◌, ℕ, ◌<◌, ◌≤◌, ◌+◌, Bool, true, false, List, [], ◌∷◌, ◌++◌, length, map, flat_map, Option, Some, None, is_some, Result, Ok, Err, append-nil, append_assoc, refl, sym, ap, subst, ◌∙◌, arith}
-use Rattle.std.specs.Prelude.{sum_by, IsSome, ◌&&◌, not, ⊤}
+use Rattle.std.proofs.Common.{◌≡◌, ℕ, ◌<◌, ◌≤◌, ◌+◌, Bool, true, false, List, [], ◌∷◌, ◌++◌, length, map, flat_map, Option, Some, None, append-nil, refl, sym, ap, subst, ◌∙◌, arith}
+use Rattle.std.specs.Prelude.{sum_by, IsSome, ◌&&◌}
 use Rattle.std.proofs.lemmas.List.Sums.{sum_by-append}
 use Rattle.bc_text.specs.Lines.{Line, nothing}
 use Rattle.bc_script.specs.declared.named_key.NamedKey.{NamedKey}
@@ -10,14 +10,14 @@ use Rattle.bc_script.specs.declared.sort.Sort.TheVariants as sorts
 use Rattle.bc_script.specs.declared.item.Item.{Item}
 use Rattle.bc_script.specs.declared.item.Item.TheVariants as items
 use Rattle.bc_script.specs.declared.script_error.ScriptWhy.TheVariants as why
-use Rattle.bc_script.specs.Script.{Script, IsScript, IsDiskSize, IsSection, bare_keys, open_behind, units_of, units_of_section, max_threads, max_ops, max_units}
+use Rattle.bc_script.specs.Script.{Script, IsScript, IsDiskSize, open_behind, units_of, units_of_section, max_threads, max_ops, max_units}
 use Rattle.bc_script.specs.ScriptText.{script_lines, version_line, disk_line, fallback_line, key_line, thread_line, op_line, section_lines, end_line}
-use Rattle.bc_script.specs.Forms.{Form, Version, Disk, Fallback, Key, Thread, End, form_of, may_follow, is_unbuilt}
-use Rattle.bc_script.specs.ScriptErrors.{Why, first_of, with_form, error_at, error_at_end, last_sort, is_end, is_nothing}
+use Rattle.bc_script.specs.Forms.{Form, Version, Fallback, Key, Thread, End, form_of, may_follow, is_unbuilt}
+use Rattle.bc_script.specs.ScriptErrors.{with_form, error_at, error_at_end, last_sort, is_end, is_nothing}
 use Rattle.bc_script.specs.Progress.{Progress, IsProgress, IsAt, head_read, with_section, is_in_section, end_read, lines_read, forms_read, sections_read}
 use Rattle.bc_script.specs.Items.{Fits, FitsKey, FitsOp, IsClosed, EndsSection, HasRoomFor, IsNext, sort_of_item, line_of, with_item, with_section_ended}
 use Rattle.bc_script.specs.NamedKeys.{IsNoName, HasName}
-use Rattle.bc_script.specs.Reading.{IsReading, Took, IsWhole, left_section}
+use Rattle.bc_script.specs.Reading.{IsReading, Took, left_section}
 use Rattle.bc_script.proofs.FormsRead.{forms_read-step}
 use Rattle.bc_script.proofs.LineForms.{key_fields, op_form, form_of-key_line, form_of-op_line}
 use Rattle.bc_script.proofs.Above.{last_sort-read, length-read_le}

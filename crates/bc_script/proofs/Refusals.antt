@@ -1,11 +1,10 @@
 -- The tests of a line, one after the other, up to the one that fails.
-use Rattle.std.proofs.Common.{◌≡◌, ◌≢◌, ℕ, zero, suc, ◌<◌, ◌≤◌, ◌+◌, ◌*◌, ◌/◌, Bool, true, false, not, ◌&&◌, ◌||◌, nat_lt, nat_le, List, [], ◌∷◌, ◌++◌, length, Option, Some, None, is_some, bytes_eq, if◌then◌else◌, refl, sym, ap, subst, ◌∙◌, arith, ltb-true, leb-true}
-use Rattle.std.specs.Prelude.{sum_by, count_by, MatchOption, IsSome, IsTrue}
+use Rattle.std.proofs.Common.{◌≡◌, ◌≢◌, ℕ, suc, ◌≤◌, ◌+◌, ◌*◌, Bool, true, false, not, ◌&&◌, ◌||◌, nat_lt, nat_le, List, [], ◌∷◌, length, Option, Some, None, is_some, bytes_eq, refl, sym, ap, subst, ◌∙◌, arith, ltb-true}
+use Rattle.std.specs.Prelude.{sum_by, count_by, MatchOption}
 use Rattle.std.specs.List.{AllByRecursion}
 use Rattle.std.specs.Option.{option_map}
 use Rattle.bc_text.specs.Lines.{Line}
 use Rattle.bc_key.specs.declared.keys.KeyNo.{KeyNo}
-use Rattle.bc_key.specs.declared.config.Mode.{Mode}
 use Rattle.bc_key.specs.declared.key.KeyError.{KeyError}
 use Rattle.bc_key.specs.KeyRefusal.{key_refusal}
 use Rattle.bc_bio.specs.Extent.{unit_sectors}
@@ -17,14 +16,14 @@ use Rattle.bc_script.specs.declared.script_error.ScriptWhy.{ScriptWhy}
 use Rattle.bc_script.specs.declared.script_error.ScriptWhy.TheVariants as why
 use Rattle.bc_script.specs.declared.reader.line.BioFields.{BioFields}
 use Rattle.bc_script.specs.Name.{is_name}
-use Rattle.bc_script.specs.Script.{bare_keys, open_behind, units_of_section, max_keys, max_threads, max_ops, max_units, max_bio_units, max_bio_sectors}
-use Rattle.bc_script.specs.ScriptText.{dash, name_of}
-use Rattle.bc_script.specs.Forms.{Form, Key, Thread, Evict, Plug, Unplug, End, KeyForm, BioForm, TextForm, form_of, sort_of, may_follow, is_unbuilt}
-use Rattle.bc_script.specs.ScriptErrors.{Why, first_of, number_test, is_number, is_number_text, is_hex_text, is_text, number_in, bytes_in, is_key, is_thread, is_operation, units_in, is_declared, sectors_under, is_open, key_refused, key_test, key_tests, op_limit, bio_limits, bio_tests, size_of, tests_of, is_end, last_sort, error_of_form, error_at}
+use Rattle.bc_script.specs.Script.{bare_keys, units_of_section, max_keys, max_threads, max_ops, max_units, max_bio_units, max_bio_sectors}
+use Rattle.bc_script.specs.ScriptText.{dash}
+use Rattle.bc_script.specs.Forms.{Form, KeyForm, BioForm, TextForm, form_of, sort_of, may_follow, is_unbuilt}
+use Rattle.bc_script.specs.ScriptErrors.{Why, first_of, number_test, is_number, is_number_text, is_hex_text, is_text, number_in, bytes_in, is_key, is_thread, is_operation, is_declared, sectors_under, is_open, key_refused, key_test, key_tests, op_limit, bio_limits, bio_tests, size_of, tests_of, is_end, last_sort, error_of_form, error_at}
 use Rattle.bc_script.specs.Progress.{Progress, IsProgress, forms_read, sections_read}
 use Rattle.bc_script.specs.NamedKeys.{IsNamed, IsNoName}
 use Rattle.bc_script.specs.Items.{Tells, Refuses}
-use Rattle.bc_script.specs.BioFields.{SaysKey, SaysNumberField, SaysBio, IsDeclared}
+use Rattle.bc_script.specs.BioFields.{SaysKey, SaysNumberField, SaysBio}
 use Rattle.bc_script.specs.Reading.{IsReading}
 use Rattle.bc_script.proofs.Above.{keys-read, threads-read, operations-read, units-read, last_sort-read, is_open-read, is_declared-read, is_declared-none, sectors_under-read}
 

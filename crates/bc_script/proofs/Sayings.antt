@@ -1,11 +1,9 @@
 -- What a line says where it passes its tests, and that it fits behind what has been read.
-use Rattle.std.proofs.Common.{◌≡◌, ◌≢◌, ℕ, zero, suc, ◌<◌, ◌≤◌, ◌+◌, ◌*◌, ◌^◌, Bool, true, false, not, ◌&&◌, ◌||◌, if◌then◌else◌, nat_lt, nat_le, List, [], ◌∷◌, ◌++◌, length, Option, Some, None, is_some, bytes_eq, Result, Ok, Err, refl, sym, ap, subst, ◌∙◌, arith, ltb-true, leb-true}
-use Rattle.std.specs.Prelude.{codes, sum_by, count_by, MatchOption, MatchResult, IfOk, IfErr, IsSome, IsTrue}
+use Rattle.std.proofs.Common.{◌≡◌, ℕ, zero, suc, ◌<◌, ◌≤◌, ◌+◌, ◌*◌, Bool, true, false, not, ◌&&◌, if◌then◌else◌, nat_lt, nat_le, List, [], ◌∷◌, ◌++◌, length, Option, Some, None, is_some, bytes_eq, Result, Ok, Err, refl, sym, ap, subst, ◌∙◌, arith, ltb-true, leb-true}
+use Rattle.std.specs.Prelude.{codes, sum_by, MatchOption, MatchResult, IfOk, IfErr, IsSome, IsTrue}
 use Rattle.std.proofs.lemmas.Bool.{and_parts}
-use Rattle.std.specs.Fmt.{decimal}
 use Rattle.bc_text.specs.Lines.{Line}
 use Rattle.bc_key.specs.declared.keys.KeyNo.{KeyNo}
-use Rattle.bc_key.specs.NumberText.{number_text}
 use Rattle.bc_bio.specs.declared.bio.Context.{Context}
 use Rattle.bc_bio.specs.Extent.{unit_sectors}
 use Rattle.bc_script.specs.declared.named_key.NamedKey.{NamedKey}
@@ -17,22 +15,21 @@ use Rattle.bc_script.specs.declared.sort.Sort.{Sort}
 use Rattle.bc_script.specs.declared.item.Item.{Item}
 use Rattle.bc_script.specs.declared.item.Item.TheVariants as items
 use Rattle.bc_script.specs.declared.item.Unread.{Unread}
-use Rattle.bc_script.specs.declared.script_error.ScriptWhy.TheVariants as why
 use Rattle.bc_script.specs.declared.reader.line.BioFields.{BioFields}
 use Rattle.bc_script.specs.Name.{is_name}
-use Rattle.bc_script.specs.Script.{IsContext, IsText, bare_keys, open_behind, units_of, units_of_section, max_ops, max_units, max_bio_units, max_bio_sectors}
-use Rattle.bc_script.specs.ScriptText.{dash, name_of, op_line, text_fields}
+use Rattle.bc_script.specs.Script.{IsText, bare_keys, open_behind, units_of_section, max_ops, max_units, max_bio_units, max_bio_sectors}
+use Rattle.bc_script.specs.ScriptText.{dash}
 use Rattle.bc_script.specs.Forms.{Form, Write, Read, Evict, Plug, Unplug, BioForm, TextForm, sort_of, may_follow, dashes_agree}
-use Rattle.bc_script.specs.ScriptErrors.{Why, is_declared, number_in, tests_of, error_at}
+use Rattle.bc_script.specs.ScriptErrors.{Why, is_declared, tests_of, error_at}
 use Rattle.bc_script.specs.Progress.{Progress, IsProgress, forms_read, sections_read}
 use Rattle.bc_script.specs.Says.{SaysNumber}
 use Rattle.bc_script.specs.NamedKeys.{IsNamed, IsNoName}
-use Rattle.bc_script.specs.Items.{FitsOp, IsSaid, IsNext, Tells, form_line, line_of, sort_of_item, text_line}
+use Rattle.bc_script.specs.Items.{IsSaid, IsNext, Tells, form_line}
 use Rattle.bc_script.specs.BioFields.{IsNewName, IsDeclared, SaysKey, SaysNumberField, SaysBio, SaysText, IsTextOf, context_with}
 use Rattle.bc_script.specs.Reading.{IsReading}
 use Rattle.bc_script.proofs.LineForms.{bytes_eq-same, bytes_eq-other}
 use Rattle.bc_script.proofs.Passes.{open_behind-append}
-use Rattle.bc_script.proofs.Refusals.{undeclared, key_passes, number_passes, bio_passes, tests_are}
+use Rattle.bc_script.proofs.Refusals.{undeclared, key_passes, number_passes, bio_passes}
 
 -- ---- names
 

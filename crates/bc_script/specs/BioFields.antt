@@ -1,7 +1,6 @@
 -- What the fields of an operation's line say, behind the lines that have been read. The contracts of private functions speak of
 -- this; no public one does.
-use Rattle.std.specs.Prelude.{◌≡◌, ◌≢◌, ℕ, ◌^◌, ◌<◌, ◌≤◌, ◌&&◌, ◌||◌, not, true, IsTrue, List, length, Option, Some, None}
-use Rattle.std.specs.Str.{bytes_eq}
+use Rattle.std.specs.Prelude.{◌≡◌, ◌≢◌, ℕ, ◌^◌, ◌<◌, ◌≤◌, ◌&&◌, not, true, IsTrue, List, length, Option, Some, None}
 use Rattle.std.specs.Fmt.{decimal}
 use Rattle.hex.specs.Hex.{IsBytes}
 use Rattle.bc_key.specs.NumberText.{number_text}

@@ -1,6 +1,6 @@
 -- What one line says: the line that says it, whether it fits behind the lines that have been read, and what is read with it.
 -- The contracts of private functions speak of this; no public one does.
-use Rattle.std.specs.Prelude.{◌≡◌, ℕ, ◌+◌, ◌<◌, ◌≤◌, Bool, true, false, List, [], ◌∷◌, ◌++◌, codes, length, sum_by, Option, Some, None, IsSome, ⊤}
+use Rattle.std.specs.Prelude.{◌≡◌, ◌+◌, ◌<◌, ◌≤◌, Bool, true, false, List, [], ◌∷◌, ◌++◌, codes, length, sum_by, Some, IsSome, ⊤}
 use Rattle.bc_text.specs.Lines.{Line}
 use Rattle.bc_script.specs.declared.op.Op.{Op}
 use Rattle.bc_script.specs.declared.sort.Sort.{Sort}
@@ -13,7 +13,7 @@ use Rattle.bc_script.specs.declared.item.Unread.TheVariants as unread
 use Rattle.bc_script.specs.declared.named_key.NamedKey.{NamedKey}
 use Rattle.bc_script.specs.Script.{IsDiskSize, IsNamedKey, IsOp, bare_keys, open_behind, units_of, units_of_section, max_keys, max_threads, max_ops, max_units}
 use Rattle.bc_script.specs.ScriptText.{version_line, disk_line, fallback_line, key_line, thread_line, op_line, end_line, mode_text}
-use Rattle.bc_script.specs.Forms.{Form, Version, Disk, Fallback, Key, Thread, Write, Read, Evict, Reset, Plug, Unplug, End, KeyForm, BioForm, TextForm, Fill, Hex, sort_of, may_follow, dashes_agree}
+use Rattle.bc_script.specs.Forms.{Form, Version, Disk, Fallback, Key, Thread, Write, Read, Evict, Reset, Plug, Unplug, End, TextForm, Fill, Hex, sort_of, may_follow, dashes_agree}
 use Rattle.bc_script.specs.ScriptErrors.{Why}
 use Rattle.bc_script.specs.NamedKeys.{IsNoName}
 use Rattle.bc_script.specs.Progress.{Progress, IsProgress, sections_read}

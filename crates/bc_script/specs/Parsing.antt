@@ -1,5 +1,5 @@
 -- What a text is answered that is not read as a script.
-use Rattle.std.specs.Prelude.{◌≡◌, List, ℕ, Option, Some, ⊤}
+use Rattle.std.specs.Prelude.{◌≡◌, List, ℕ, Some, ⊤}
 use Rattle.bc_script.specs.declared.script_error.ParseError.{ParseError}
 use Rattle.bc_script.specs.declared.script_error.ParseError.TheVariants as errors
 use Rattle.bc_script.specs.ScriptText.{NoScriptHas}

@@ -1,13 +1,13 @@
 -- What a reader of scripts keeps beside the progress, and what it answers. The contracts of private functions speak of this;
 -- no public one does.
-use Rattle.std.specs.Prelude.{◌≡◌, ℕ, ◌+◌, Bool, true, false, List, [], ◌∷◌, ◌++◌, length, sum_by, Option, Some, None, ⊤}
+use Rattle.std.specs.Prelude.{◌≡◌, ℕ, ◌+◌, Bool, true, false, List, [], ◌∷◌, ◌++◌, length, sum_by, Some, None, ⊤}
 use Rattle.bc_text.specs.Lines.{Line, nothing}
 use Rattle.bc_script.specs.declared.op.Op.{Op}
 use Rattle.bc_script.specs.declared.script_error.ParseError.{ParseError}
 use Rattle.bc_script.specs.declared.script_error.ParseError.TheVariants as errors
 use Rattle.bc_script.specs.Script.{Script, IsScript, open_behind, units_of_section}
 use Rattle.bc_script.specs.ScriptText.{script_lines}
-use Rattle.bc_script.specs.Forms.{Form, form_of}
+use Rattle.bc_script.specs.Forms.{form_of}
 use Rattle.bc_script.specs.ScriptErrors.{Why, error_at, error_at_end, with_form}
 use Rattle.bc_script.specs.Progress.{Progress, IsProgress, lines_read, forms_read, sections_read}
 

@@ -1,4 +1,4 @@
-use Rattle.std.proofs.Common.{List, [], ◌∷◌, ◌++◌, sym, subst, ap, ◌∙◌}
+use Rattle.std.proofs.Common.{List, [], ◌∷◌, ◌++◌, sym, ap, ◌∙◌}
 use Rattle.bc_script.specs.declared.named_key.NamedKey.{NamedKey}
 use Rattle.bc_script.specs.NamedKeys.{IsNoName}
 use Rattle.bc_script.proofs.NamedKeys.{index_kept, index_more, not_found}

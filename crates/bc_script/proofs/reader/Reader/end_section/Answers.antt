@@ -1,5 +1,4 @@
-use Rattle.std.proofs.Common.{◌≡◌, ◌∙◌, ◌++◌, List, Bool, true, subst, sym, ap, arith}
-use Rattle.bc_script.specs.declared.op.Op.{Op}
+use Rattle.std.proofs.Common.{◌≡◌, ◌∙◌, ◌++◌, Bool, true, subst, sym, ap, arith}
 use Rattle.bc_script.specs.Forms.{may_follow}
 use Rattle.bc_script.specs.Progress.{Progress, with_section}
 use Rattle.bc_script.specs.Items.{IsClosed, HasRoomFor}

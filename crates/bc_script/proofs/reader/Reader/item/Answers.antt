@@ -1,6 +1,6 @@
 use Rattle.std.proofs.Common.{sym, ◌∙◌, ap}
 use Rattle.bc_script.specs.declared.sort.Sort.{Sort}
-use Rattle.bc_script.specs.Forms.{may_follow, sort_of}
+use Rattle.bc_script.specs.Forms.{may_follow}
 use Rattle.bc_script.specs.Lent.{form_lent}
 use Rattle.bc_script.proofs.FormLines.{IsLineOf-form_of}
 use Rattle.bc_script.proofs.Refusals.{behind_end, not_built, no_form_there, elsewhere, tests_are, follows_here}

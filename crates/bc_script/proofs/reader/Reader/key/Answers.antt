@@ -1,8 +1,7 @@
-use Rattle.std.proofs.Common.{refl, sym, ap, ◌∙◌, length}
+use Rattle.std.proofs.Common.{sym, ap, ◌∙◌}
 use Rattle.std.proofs.lemmas.Result.{err_from_is_err_and}
 use Rattle.bc_script.specs.Lent.{key_lent}
-use Rattle.bc_script.specs.Progress.{Progress, forms_read}
-use Rattle.bc_script.specs.Reading.{IsReading}
+use Rattle.bc_script.specs.Progress.{forms_read}
 use Rattle.bc_script.proofs.Refusals.{key_unit_refused, key_dun_refused, key_digits_refused, no_key, too_many_keys}
 use Rattle.bc_script.proofs.reader.Reader.key.Goals as goal
 
