@@ -1,5 +1,5 @@
 -- Data units one behind the other.
-use Rattle.std.specs.Prelude.{ℕ, ◌+◌, ◌*◌, List, take, drop}
+use Rattle.std.specs.Prelude.{ℕ, ◌*◌, List, take, drop}
 use Rattle.std.specs.List.{flat_map, range_with_len}
 
 -- n units of so many bytes, one behind the other: unit i is `cipher i` of unit i of the texts

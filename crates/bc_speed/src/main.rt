@@ -1,4 +1,4 @@
-//! Measures the unit ciphers, and shows what they make of single data units.
+//! Measures the unit ciphers and the script language, and shows what the ciphers make of single data units.
 //!
 //! | Words | What is printed |
 //! |---|---|
@@ -6,16 +6,19 @@
 //! | `decrypt MODE SIZE UNITS` | the same of deciphering |
 //! | `expand MODE KEYS` | how fast so many keys are expanded |
 //! | `digest MODE SIZE UNITS` | the digests of both ways alone, which are the same at each run |
+//! | `script HEX READS` | the bytes and operations of a script's text, and how fast it is parsed and printed |
 //! | `unit encrypt KEY NUMBER TEXT` | the raw bytes of one data unit, all in hexadecimal digits |
 //! | `unit decrypt KEY NUMBER TEXT` | the text of one data unit's raw bytes |
 //!
 //! MODE is `xts` or `essiv`; of a single unit the length of KEY tells it. Unit i of a measurement has the number i, its
-//! texts are the same at each run, and the key has the bytes 00 to 3f, or 00 to 0f.
+//! texts are the same at each run, and the key has the bytes 00 to 3f, or 00 to 0f. The script has HEX writes by `hex` and
+//! READS reads, each of one data unit of 512 bytes without a key; it is refused where they are more than a script may have.
 #![tactic(auto)]
 
 ghost use Rattle.std.specs.Prelude.{◌≡◌, length};
 
 mod measure;
+mod scripts;
 mod single;
 mod units;
 
@@ -27,13 +30,16 @@ use std::env;
 use std::rt::Clock;
 
 const USAGE: &str =
-    "words: encrypt|decrypt|digest xts|essiv SIZE UNITS, expand xts|essiv KEYS, unit encrypt|decrypt KEY NUMBER TEXT";
+    "words: encrypt|decrypt|digest xts|essiv SIZE UNITS, expand xts|essiv KEYS, script HEX READS, unit encrypt|decrypt KEY NUMBER TEXT";
 
 /// How many data units a measurement may have: those of 4096 bytes then fill 256 MiB.
 const MOST_UNITS: u32 = 65536;
 
 /// How many keys may be expanded.
 const MOST_KEYS: u32 = 100_000_000;
+
+/// How many writes the script may have, and how many reads. A script may have no more operations than this.
+const MOST_OPERATIONS: u32 = 65536;
 
 /// A data unit's size.
 fn size(word: &str) -> Result<DataUnit> {
@@ -96,6 +102,11 @@ fn run(rt: &(impl Print + Clock), alloc: Global, words: &[String]) -> Result<()>
     if words.len() == 3 && words[0].as_str() == "expand" {
         let keys = number(words[2].as_str(), MOST_KEYS)?;
         return measure::expansions(rt, mode(words[1].as_str())?, keys);
+    }
+    if words.len() == 3 && words[0].as_str() == "script" {
+        let writes = number(words[1].as_str(), MOST_OPERATIONS)?;
+        let reads = number(words[2].as_str(), MOST_OPERATIONS)?;
+        return measure::script(rt, alloc, writes, reads);
     }
     if words.len() == 5 && words[0].as_str() == "unit" {
         let way = direction(words[1].as_str()).context(USAGE)?;

@@ -2,7 +2,7 @@
 ghost use Rattle.std.specs.Prelude.{◌≡◌, ◌*◌, length};
 ghost use Rattle.bc_key.specs.DataUnits.{bytes_of};
 
-use crate::units;
+use crate::{scripts, units};
 use anyhow::Result;
 use bc_key::{DataUnit, Mode};
 use bc_modes::UnitCipher;
@@ -11,6 +11,9 @@ use std::alloc::Global;
 use std::hint::black_box;
 use std::rt::Clock;
 use std::time::{Duration, Instant};
+
+/// How often a script's text is parsed and printed.
+const TIMES: u32 = 5;
 
 /// Which way the units go.
 #[derive(Clone, Copy, Debug, PartialEq, Eq)]
@@ -101,5 +104,24 @@ pub fn expansions(rt: &(impl Print + Clock), mode: Mode, keys: u32) -> Result<()
     let took = start.elapsed(rt)?;
     let rate = a_microsecond(u64::from(keys) * 1000, took);
     println!(rt; "expand {mode:?}: {rate} thousand keys/s")?;
+    Ok(())
+}
+
+/// Prints how fast the text of a script with so many writes and reads is parsed and printed, in MB (millions of bytes) a
+/// second: the best of a few times each.
+pub fn script(rt: &(impl Print + Clock), alloc: Global, writes: u32, reads: u32) -> Result<()> {
+    let text = scripts::text(alloc, writes, reads)?;
+    let bytes = text.len() as u64;
+    let mut parse = 0;
+    let mut print = 0;
+    for _ in 0..TIMES {
+        let times = scripts::there_and_back(rt, alloc, text.as_slice())?;
+        parse = a_microsecond(bytes, times.parse).max(parse);
+        print = a_microsecond(bytes, times.print).max(print);
+    }
+    let operations = u64::from(writes) + u64::from(reads);
+    println!(rt; "script: {bytes} bytes, {operations} operations")?;
+    println!(rt; "parse: {parse} MB/s")?;
+    println!(rt; "print: {print} MB/s")?;
     Ok(())
 }

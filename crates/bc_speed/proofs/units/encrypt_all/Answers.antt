@@ -1,4 +1,4 @@
-use Rattle.std.proofs.Common.{◌≡◌, ◌+◌, ◌*◌, ◌∙◌, arith}
+use Rattle.std.proofs.Common.{arith}
 use Rattle.bc_modes.specs.UnitCipher.{encipher_unit}
 use Rattle.bc_speed.proofs.Loops.{no_units, room_for, unit_more, all_units}
 use Rattle.bc_speed.proofs.units.encrypt_all.Goals as goal
