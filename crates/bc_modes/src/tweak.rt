@@ -5,6 +5,7 @@ ghost use Rattle.std.specs.Prelude.{◌≡◌};
 ghost use Rattle.std.specs.Int.{w128, to_le_bytes};
 ghost use Rattle.bc_modes.specs.Tweak.{tweak_at};
 ghost use Rattle.bc_modes.specs.Xts.{tweak_bytes};
+
 use crate::piece::PIECE;
 use std::simd::prelude::*;
 
