@@ -1,11 +1,6 @@
 //! Texts and what is wrong with them, by the rules of the language.
 
-mod fields;
-mod limits;
-mod scripts;
-
 use super::*;
-use bc_key::KeyError;
 use std::alloc::Global;
 use std::process::Abort;
 use std::test::Fail;
@@ -16,13 +11,6 @@ const HEAD: &str = "blkcrypt 1\ndisk 1\nfallback on\n";
 /// The bytes 00 to 3f.
 const DIGITS: &str =
     "000102030405060708090a0b0c0d0e0f101112131415161718191a1b1c1d1e1f202122232425262728292a2b2c2d2e2f303132333435363738393a3b3c3d3e3f";
-
-/// 16 bytes.
-const SHORT: &str = "808182838485868788898a8b8c8d8e8f";
-
-/// 64 times the byte 11.
-const ELEVENS: &str =
-    "11111111111111111111111111111111111111111111111111111111111111111111111111111111111111111111111111111111111111111111111111111111";
 
 /// Parses the text, and tells what is wrong with it.
 fn error_of(alloc: Global, text: &str) -> Option<ParseError> {
@@ -252,130 +240,6 @@ fn lines_that_are_not_built(rt: HostRuntime) -> Result<(), Fail> {
         bad(6, ScriptWhy::Word),
         &["thread\nfault 0 1\n"],
     )
-}
-
-/// A key's line, which is line 4, fails so, by the parts before its digits.
-fn fail_keys(
-    rt: &impl Abort,
-    alloc: Global,
-    digits: &str,
-    why: ScriptWhy,
-    fronts: &[&str],
-) -> Result<(), Fail> {
-    for front in fronts {
-        let text = format!(in alloc; "{HEAD}key {front} {digits}\n")?;
-        assert_eq!(rt; error_of(alloc, &text), bad(4, why), "{front} {digits}");
-    }
-    Ok(())
-}
-
-#[test]
-fn what_is_no_key(rt: HostRuntime) -> Result<(), Fail> {
-    let alloc = rt.alloc();
-    let size = ScriptWhy::Key(KeyError::Size { want: 64, got: 63 });
-    fail_keys(&rt, alloc, &DIGITS[..126], size, &["a aes-256-xts 512 8"])?;
-    let size = ScriptWhy::Key(KeyError::Size { want: 64, got: 16 });
-    fail_keys(
-        &rt,
-        alloc,
-        SHORT,
-        size,
-        &["a aes-256-xts 512 8", "a aes-256-xts 513 8"],
-    )?;
-    let unit = ScriptWhy::Key(KeyError::Unit { got: 513 });
-    fail_keys(&rt, alloc, DIGITS, unit, &["a aes-256-xts 513 8"])?;
-    let unit = ScriptWhy::Key(KeyError::Unit { got: 4294967295 });
-    fail_keys(&rt, alloc, DIGITS, unit, &["a aes-256-xts 4294967295 8"])?;
-    let bytes = ScriptWhy::Key(KeyError::DunBytes { got: 0 });
-    fail_keys(&rt, alloc, DIGITS, bytes, &["a aes-256-xts 512 0"])?;
-    let bytes = ScriptWhy::Key(KeyError::DunBytes { got: 17 });
-    fail_keys(&rt, alloc, ELEVENS, bytes, &["a aes-256-xts 512 17"])?;
-    let halves = ScriptWhy::Key(KeyError::EqualHalves);
-    fail_keys(&rt, alloc, ELEVENS, halves, &["a aes-256-xts 512 8"])
-}
-
-#[test]
-fn the_fields_of_keys(rt: HostRuntime) -> Result<(), Fail> {
-    let alloc = rt.alloc();
-    fail_keys(
-        &rt,
-        alloc,
-        DIGITS,
-        ScriptWhy::Number,
-        &[
-            "a aes-256-xts 512 256",
-            "a aes-256-xts 512 08",
-            "a aes-256-xts 0512 8",
-            "a aes-256-xts 4294967296 8",
-            "a aes-256-xts  8",
-        ],
-    )?;
-    fail_keys(
-        &rt,
-        alloc,
-        "x",
-        ScriptWhy::Number,
-        &["a aes-256-xts 512 256"],
-    )?;
-    fail_keys(&rt, alloc, "", ScriptWhy::Hex, &["a aes-256-xts 513 8"])?;
-    fail_keys(&rt, alloc, "0", ScriptWhy::Hex, &["a aes-256-xts 512 8"])?;
-    fail_keys(&rt, alloc, "0g", ScriptWhy::Hex, &["a aes-256-xts 512 8"])?;
-    fail_keys(&rt, alloc, "0A", ScriptWhy::Hex, &["a aes-256-xts 512 8"])?;
-    fail_keys(
-        &rt,
-        alloc,
-        DIGITS,
-        ScriptWhy::Name,
-        &[
-            "A aes-256-xts 0 8",
-            "1a aes-256-xts 512 8",
-            " aes-256-xts 512 8",
-            "- aes-256-xts 512 8",
-            "a_b aes-256-xts 512 8",
-            "a234567890abcdefg aes-256-xts 512 8",
-        ],
-    )?;
-    fail_keys(
-        &rt,
-        alloc,
-        DIGITS,
-        ScriptWhy::Word,
-        &[
-            "a aes-256-cbc 512 8",
-            "a AES-256-XTS 512 8",
-            "a aes-256-xts 512",
-            "a aes-256-xts 512 8 8",
-        ],
-    )
-}
-
-#[test]
-fn keys_behind_one_another(rt: HostRuntime) -> Result<(), Fail> {
-    let alloc = rt.alloc();
-    let front = format!(in alloc; "{HEAD}key a aes-256-xts 512 8 {DIGITS}")?;
-    let size = ScriptWhy::Key(KeyError::Size { want: 64, got: 65 });
-    fail_behind(&rt, alloc, &front, bad(4, size), &["00\n"])?;
-    fail_behind(
-        &rt,
-        alloc,
-        &front,
-        bad(5, ScriptWhy::Name),
-        &["\nkey a aes-128-cbc-essiv 512 8 x\n"],
-    )?;
-    pass_behind(
-        &rt,
-        alloc,
-        &front,
-        &[
-            "\nkey a234567890abcdef aes-128-cbc-essiv 4096 16 808182838485868788898a8b8c8d8e8f\nend\n",
-        ],
-    )?;
-    let text = format!(in alloc; "{front}{DIGITS}\n")?;
-    let size = ScriptWhy::Key(KeyError::Size { want: 64, got: 128 });
-    assert_eq!(rt; error_of(alloc, &text), bad(4, size));
-    let text = format!(in alloc; "{front}{DIGITS}00\n")?;
-    assert_eq!(rt; error_of(alloc, &text), bad(4, ScriptWhy::Hex));
-    Ok(())
 }
 
 /// Line 6, behind a key `a` with data units of 512 bytes.
