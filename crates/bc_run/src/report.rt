@@ -2,7 +2,7 @@
 
 ghost use Rattle.std.specs.Prelude.{◌≡◌};
 
-use crate::orders::UnitName;
+use bc_medium::UnitName;
 use crate::via::Via;
 use bc_base::Items;
 use bc_bio::Refusal;
