@@ -18,8 +18,8 @@ mod status;
 mod unit_access;
 mod via;
 
-pub use one_caller::{Finished, serial};
 pub use bc_medium::UnitName;
+pub use one_caller::{Finished, serial};
 pub use program::run;
 pub use report::{Answer, Line, Report};
 pub use report_text::print;
