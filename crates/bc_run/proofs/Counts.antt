@@ -17,7 +17,7 @@ use Rattle.bc_script.specs.Bios.{bio_of}
 use Rattle.bc_script.specs.Plan.{unit_at, units_of, units_of_section}
 use Rattle.bc_medium.specs.KeyedDisk.{Sectors}
 use Rattle.bc_run.specs.Report.{IsReport}
-use Rattle.bc_run.specs.Serial.{disk_after, section_answers, entry_of, entries_in, lines_on, shard_lines}
+use Rattle.bc_run.specs.Serial.{disk_after, section_answers, entry_of, entries_in, lines_on, lines_by_shard}
 use Rattle.bc_run.proofs.Names.{all_map, all_every, by_bio}
 
 -- an operation's bio has the units that the operation says
@@ -71,7 +71,7 @@ lines_at_most entries shard =
     omega (arith, length-filter_at_most (λ (entry : Entry). entry.shard == shard) entries)
 
 pub is_report : (script : Script) → IsScript script → (shards : ℕ) → shards ≤ 64 → (disk : Sectors) (entries : List Entry) (threads : List (List Answer)) (lines : List (List Line))
-    → entries ≡ flat_map (entries_in script shards) (enumerate_from 0 script.threads) → lines ≡ shard_lines shards entries
+    → entries ≡ flat_map (entries_in script shards) (enumerate_from 0 script.threads) → lines ≡ lines_by_shard shards entries
     → threads ≡ section_answers script disk script.threads → IsReport (record { threads = threads; shards = lines })
 is_report script rules shards few disk entries threads lines entries_are lines_are answers_are =
     let units : sum_by count_of_section script.threads ≤ 65536 = rules.threads.few_units in

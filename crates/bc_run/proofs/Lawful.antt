@@ -21,13 +21,13 @@ use Rattle.bc_script.specs.Plan.{plan_of, units_of_section}
 use Rattle.bc_medium.specs.Places.{shard_of}
 use Rattle.bc_medium.specs.KeyedDisk.{Sectors, UnitAnswer, image_sectors, bytes_at, answers_along}
 use Rattle.bc_medium.specs.LawfulOrders.{LawfulOrders, is_same, attempted_on}
-use Rattle.bc_medium.specs.Outcome.{Run, planned, units_on, disk_of, answers_on, answers_of, unit_answer, fault_of, final_image, is_fault, is_unit_of}
+use Rattle.bc_medium.specs.Outcome.{Run, unit_named, units_on, disk_of, answers_on, answers_of, unit_answer, fault_of, final_image, is_fault, is_unit_of}
 use Rattle.bc_run.specs.Report.{Report}
 use Rattle.bc_run.specs.RunOf.{orders_of, run_of}
 use Rattle.bc_run.specs.Answers.{HasAnswers}
 use Rattle.bc_run.specs.Ways.{HasWay, HaveWays, way_in}
 use Rattle.bc_run.specs.LawfulRun.{LawfulRun, IsSerial}
-use Rattle.bc_run.specs.Serial.{disk_after, section_answers, serial_units, via_of, entries_in, lines_on, shard_lines}
+use Rattle.bc_run.specs.Serial.{disk_after, section_answers, serial_units, via_of, entries_in, lines_on, lines_by_shard}
 use Rattle.bc_run.proofs.Image.{image_of-image_sectors}
 use Rattle.bc_run.proofs.Steps.{Step, name, lies_on, steps_from, steps_on, order_on, filter-map, map-map, lawful_orders, section_after_section, one_for_each, order_at}
 use Rattle.bc_run.proofs.Names.{Apart, all_of, all_every, all_map, apart_section, apart_steps, finds_steps}
@@ -36,11 +36,11 @@ use Rattle.bc_run.proofs.Placed.{placed_units}
 use Rattle.bc_run.proofs.Told.{entry, entries_are_steps, units_of_steps, lines_are_steps, all_filter, all_passing, same_names, Tells, tells, have_answers}
 
 -- names that find their units give the units
-found_units : (run : Run) (steps : List Step) → AllByRecursion (λ (step : Step). planned run (name step) ≡ Some step.1) steps
-    → filter_map (planned run) (map name steps) ≡ map (λ (step : Step). step.1) steps
+found_units : (run : Run) (steps : List Step) → AllByRecursion (λ (step : Step). unit_named run (name step) ≡ Some step.1) steps
+    → filter_map (unit_named run) (map name steps) ≡ map (λ (step : Step). step.1) steps
 found_units run [] found = refl
 found_units run (step ∷ steps) found =
-    ap (λ (o : Option PlannedUnit). cons_option o (filter_map (planned run) (map name steps))) found.0
+    ap (λ (o : Option PlannedUnit). cons_option o (filter_map (unit_named run) (map name steps))) found.0
     ∙ ap (λ (l : List PlannedUnit). step.1 ∷ l) (found_units run steps found.1)
 
 way_is : (context : Option Context) → way_in (via_of context) ≡ way_of context
@@ -56,7 +56,7 @@ pub record TellsAll (script : Script) (shards : ℕ) (image : List ℕ) (report 
   pub long : length left ≡ length image
   pub left_is : image_sectors left ≡ disk_after (keys_of script) (image_sectors image) (serial_units script script.threads)
   pub entries_are : entries ≡ flat_map (entries_in script shards) (enumerate_from 0 script.threads)
-  pub lines_are : report.shards ≡ shard_lines shards entries
+  pub lines_are : report.shards ≡ lines_by_shard shards entries
   pub answers_are : report.threads ≡ section_answers script (image_sectors image) script.threads
 
 module _ (script : Script) (rules : IsScript script) (shards : ℕ) (some : 1 ≤ shards) (image : List ℕ) (whole : length image ≡ 4096 * script.blocks)
@@ -98,15 +98,15 @@ module _ (script : Script) (rules : IsScript script) (shards : ℕ) (some : 1 �
   count = one_for_each shards plan (orders_of report) orders
 
   -- a name finds its unit
-  found : AllByRecursion (λ (step : Step). planned run (name step) ≡ Some step.1) steps
+  found : AllByRecursion (λ (step : Step). unit_named run (name step) ≡ Some step.1) steps
   found =
       finds_steps plan 0 plan (λ i t e within. let same : t ≡ i = omega arith in ap (λ (n : ℕ). slice_index_or plan n []) same)
       (all_map Apart (units_of_section script) script.threads (all_every (λ section. Apart (units_of_section script section)) script.threads (apart_section script)))
 
   units_at : (shard : ℕ) → shard < shards → units_on run shard ≡ map (λ (step : Step). step.1) (steps_on shards shard steps)
   units_at shard within =
-      ap (filter_map (planned run)) (order_at shards plan (orders_of report) orders shard within)
-      ∙ found_units run (steps_on shards shard steps) (all_filter (λ (step : Step). planned run (name step) ≡ Some step.1) (λ step. lies_on shards shard step.1) steps found)
+      ap (filter_map (unit_named run)) (order_at shards plan (orders_of report) orders shard within)
+      ∙ found_units run (steps_on shards shard steps) (all_filter (λ (step : Step). unit_named run (name step) ≡ Some step.1) (λ step. lies_on shards shard step.1) steps found)
 
   placed : AllByRecursion (IsPlaced keys shards) (serial_units script script.threads)
   placed = placed_units script rules shards script.threads rules.threads.each
@@ -142,7 +142,7 @@ module _ (script : Script) (rules : IsScript script) (shards : ℕ) (some : 1 �
 
   -- ---- the ways
 
-  step_way : (step : Step) → planned run (name step) ≡ Some step.1 → HasWay run (entry shards step).line
+  step_way : (step : Step) → unit_named run (name step) ≡ Some step.1 → HasWay run (entry shards step).line
   step_way step is = subst (λ (o : Option PlannedUnit). IsSomeAnd o (λ u. way_in (via_of step.1.context) ≡ way_of u.context)) (sym is) (way_is step.1.context)
 
   ways : HaveWays run report.shards
@@ -153,8 +153,8 @@ module _ (script : Script) (rules : IsScript script) (shards : ℕ) (some : 1 �
       (all_every (λ shard. All (HasWay run) (map (λ (step : Step). (entry shards step).line) (steps_on shards shard steps))) (range_with_len 0 shards)
       (λ shard. All-from_recursion (HasWay run) (map (λ (step : Step). (entry shards step).line) (steps_on shards shard steps))
       (all_map (HasWay run) (λ (step : Step). (entry shards step).line) (steps_on shards shard steps)
-      (all_of (λ (step : Step). planned run (name step) ≡ Some step.1) (λ (step : Step). HasWay run (entry shards step).line) (steps_on shards shard steps) step_way
-      (all_filter (λ (step : Step). planned run (name step) ≡ Some step.1) (λ step. lies_on shards shard step.1) steps found)))))))
+      (all_of (λ (step : Step). unit_named run (name step) ≡ Some step.1) (λ (step : Step). HasWay run (entry shards step).line) (steps_on shards shard steps) step_way
+      (all_filter (λ (step : Step). unit_named run (name step) ≡ Some step.1) (λ step. lies_on shards shard step.1) steps found)))))))
 
   -- ---- the answers
 
@@ -168,25 +168,25 @@ module _ (script : Script) (rules : IsScript script) (shards : ℕ) (some : 1 �
   all_traces p = ap (λ (n : ℕ). find p (flat_map (answers_on run) (range_with_len 0 n))) count
 
   -- steps of one name lie in one shard
-  one_shard : (sought step : Step) → planned run (name sought) ≡ Some sought.1 → planned run (name step) ≡ Some step.1 → is_same (name step) (name sought) ≡ true
+  one_shard : (sought step : Step) → unit_named run (name sought) ≡ Some sought.1 → unit_named run (name step) ≡ Some step.1 → is_same (name step) (name sought) ≡ true
       → shard_of shards step.1.sector ≡ shard_of shards sought.1.sector
   one_shard sought step is is' same =
       let named : name step ≡ name sought = same_names (name step) (name sought) same in
-      let units : step.1 ≡ sought.1 = same_Some step.1 sought.1 (sym is' ∙ ap (planned run) named ∙ is) in
+      let units : step.1 ≡ sought.1 = same_Some step.1 sought.1 (sym is' ∙ ap (unit_named run) named ∙ is) in
       ap (λ (u : PlannedUnit). shard_of shards u.sector) units
 
-  elsewhere : (sought : Step) → planned run (name sought) ≡ Some sought.1 → (shard : ℕ) → shard < shards → (shard ≡ shard_of shards sought.1.sector → ⊥)
+  elsewhere : (sought : Step) → unit_named run (name sought) ≡ Some sought.1 → (shard : ℕ) → shard < shards → (shard ≡ shard_of shards sought.1.sector → ⊥)
       → find (λ at. is_same at.0 (name sought)) (answers_on run shard) ≡ None
   elsewhere sought is shard within ne =
       ap (find (λ (at : UnitName × UnitAnswer). is_same at.0 (name sought))) (trace_at shard within)
       ∙ no_answer keys (name sought) first (steps_on shards shard steps)
       (all_passing (λ (step : Step). is_same (name step) (name sought) ≡ false) (λ step. lies_on shards shard step.1) steps
-      (all_of (λ (step : Step). planned run (name step) ≡ Some step.1) (λ (step : Step). lies_on shards shard step.1 ≡ true → is_same (name step) (name sought) ≡ false) steps
+      (all_of (λ (step : Step). unit_named run (name step) ≡ Some step.1) (λ (step : Step). lies_on shards shard step.1 ≡ true → is_same (name step) (name sought) ≡ false) steps
       (λ step is' lies. ⊎_elim
       (λ (same : is_same (name step) (name sought) ≡ true). absurd (ne (sym (eqb-true (shard_of shards step.1.sector) shard lies) ∙ one_shard sought step is is' same)))
       (λ (f : is_same (name step) (name sought) ≡ false). f) (cases_Bool (is_same (name step) (name sought)))) found))
 
-  answer_is : (sought : Step) → planned run (name sought) ≡ Some sought.1
+  answer_is : (sought : Step) → unit_named run (name sought) ≡ Some sought.1
       → unit_answer run (name sought) ≡ option_map (λ at. at.1) (find (λ at. is_same at.0 (name sought)) (trace keys first steps))
   answer_is sought is =
       let shard = shard_of shards sought.1.sector in
@@ -196,14 +196,14 @@ module _ (script : Script) (rules : IsScript script) (shards : ℕ) (some : 1 �
       ∙ find_only (λ (at : UnitName × UnitAnswer). is_same at.0 (name sought)) (answers_on run) shard shards (elsewhere sought is) 0 shards (omega arith) (omega arith) (omega arith)
       ∙ ap (find (λ (at : UnitName × UnitAnswer). is_same at.0 (name sought))) (trace_at shard within))
       ∙ own_answer keys shards shard (name sought) first first steps (λ s lies. refl) placed_steps
-      (all_of (λ (step : Step). planned run (name step) ≡ Some step.1) (λ (step : Step). is_same (name step) (name sought) ≡ true → shard_of shards step.1.sector ≡ shard) steps
+      (all_of (λ (step : Step). unit_named run (name step) ≡ Some step.1) (λ (step : Step). is_same (name step) (name sought) ≡ true → shard_of shards step.1.sector ≡ shard) steps
       (λ step is' same. one_shard sought step is is' same) found)
 
   all_told : Tells run keys first steps
   all_told =
       tells run keys first steps
       (apart_steps 0 plan (all_map Apart (units_of_section script) script.threads (all_every (λ section. Apart (units_of_section script section)) script.threads (apart_section script))))
-      (all_of (λ (step : Step). planned run (name step) ≡ Some step.1) (λ (step : Step). unit_answer run (name step) ≡ option_map (λ at. at.1) (find (λ at. is_same at.0 (name step)) (trace keys first steps))) steps answer_is found)
+      (all_of (λ (step : Step). unit_named run (name step) ≡ Some step.1) (λ (step : Step). unit_answer run (name step) ≡ option_map (λ at. at.1) (find (λ at. is_same at.0 (name step)) (trace keys first steps))) steps answer_is found)
 
   faultless : (thread op : ℕ) → fault_of run thread op ≡ None
   faultless thread op =

@@ -14,3 +14,4 @@ pub mod Counts
 pub mod Printing
 pub mod Words
 pub mod Equal
+pub mod OneReport

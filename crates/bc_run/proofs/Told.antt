@@ -20,8 +20,8 @@ use Rattle.bc_script.specs.Bios.{refusal_of}
 use Rattle.bc_script.specs.Plan.{units_of, units_of_bio, units_of_section}
 use Rattle.bc_medium.specs.KeyedDisk.{Sectors, UnitAnswer, accessed}
 use Rattle.bc_medium.specs.LawfulOrders.{name_of, is_same}
-use Rattle.bc_medium.specs.Outcome.{Run, unit_answer, answered, fault_of, bio_answer, without_fault, Fault}
-use Rattle.bc_run.specs.Answers.{IsAnswer, AreAnswers, told}
+use Rattle.bc_medium.specs.Outcome.{Run, unit_answer, answers_of_bio, fault_of, bio_answer, without_fault, Fault}
+use Rattle.bc_run.specs.Answers.{IsAnswer, AreAnswers, answer_of_outcome}
 use Rattle.bc_run.specs.Serial.{disk_after, unit_answers, answer_over, answers_over, section_answers, serial_units, entry_of, entries_in, lines_on}
 use Rattle.bc_run.proofs.Steps.{Step, name, steps_of, steps_from, steps_on, filter-map, map-map}
 use Rattle.bc_run.proofs.Names.{ApartSteps, all_of, all_both, ops_of, later_ops}
@@ -152,7 +152,7 @@ module _ (script : Script) (run : Run) (thread : ℕ) (us : List PlannedUnit) (n
 
   -- an operation whose units have been told
   op_answered : (op : ℕ) (disk : Sectors) (mine : List PlannedUnit) → filter (λ u. u.tag == op) us ≡ mine → Tells run keys disk (steps_of thread mine)
-      → answered run thread op ≡ unit_answers keys disk mine
+      → answers_of_bio run thread op ≡ unit_answers keys disk mine
   op_answered op disk mine are all =
       ap (λ (l : List PlannedUnit). filter_map (λ u. unit_answer run (name_of thread u)) (filter (λ u. u.tag == op) l)) own
       ∙ ap (filter_map (λ u. unit_answer run (name_of thread u))) are
@@ -160,12 +160,12 @@ module _ (script : Script) (run : Run) (thread : ℕ) (us : List PlannedUnit) (n
 
   bio_answered : (op : ℕ) (operation : Op) (bio : Extent) (disk : Sectors) → filter (λ u. u.tag == op) us ≡ units_of_bio script op operation bio
       → Tells run keys disk (steps_of thread (units_of_bio script op operation bio))
-      → option_map_or answers.Refused (refusal_of script bio) (told (without_fault bio.access (unit_answers keys disk (units_of_bio script op operation bio))))
-      ≡ option_map_or answers.Refused (refusal_of script bio) (told (bio_answer run bio.access thread op))
+      → option_map_or answers.Refused (refusal_of script bio) (answer_of_outcome (without_fault bio.access (unit_answers keys disk (units_of_bio script op operation bio))))
+      ≡ option_map_or answers.Refused (refusal_of script bio) (answer_of_outcome (bio_answer run bio.access thread op))
   bio_answered op operation bio disk are all =
-      ap (λ (l : List UnitAnswer). option_map_or answers.Refused (refusal_of script bio) (told (without_fault bio.access l)))
+      ap (λ (l : List UnitAnswer). option_map_or answers.Refused (refusal_of script bio) (answer_of_outcome (without_fault bio.access l)))
       (sym (op_answered op disk (units_of_bio script op operation bio) are all))
-      ∙ ap (λ (o : Option ℕ). option_map_or answers.Refused (refusal_of script bio) (told (option_map_or (λ unit. Fault unit) o (without_fault bio.access (answered run thread op)))))
+      ∙ ap (λ (o : Option ℕ). option_map_or answers.Refused (refusal_of script bio) (answer_of_outcome (option_map_or (λ unit. Fault unit) o (without_fault bio.access (answers_of_bio run thread op)))))
       (sym (no_faults op))
 
   is_answer : (op : ℕ) (operation : Op) (disk : Sectors) → filter (λ u. u.tag == op) us ≡ units_of script (op, operation)

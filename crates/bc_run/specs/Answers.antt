@@ -16,19 +16,23 @@ use Rattle.bc_run.specs.declared.report.Answer.TheVariants as answers
 abbrev pub read_answer : List ℕ → Answer
 read_answer [] = answers.ReadSum (sha256 [])
 read_answer (byte ∷ bytes) =
-    if list_all (λ other. other == byte) bytes then answers.ReadFill byte else answers.ReadSum (sha256 (byte ∷ bytes))
+    if list_all (λ other. other == byte) bytes then answers.ReadFill byte
+    else answers.ReadSum (sha256 (byte ∷ bytes))
 
-abbrev pub told : BioAnswer → Answer
-told Wrote = answers.Wrote
-told (Bytes bytes) = read_answer bytes
-told (Fault unit) = answers.Fault unit
+-- how a report gives what the keyed disk answers
+abbrev pub answer_of_outcome : BioAnswer → Answer
+answer_of_outcome Wrote = answers.Wrote
+answer_of_outcome (Bytes bytes) = read_answer bytes
+answer_of_outcome (Fault unit) = answers.Fault unit
 
 -- the answer of a bio
 abbrev pub answer_of_bio : Script → Run → ℕ → ℕ → Extent → Answer
 answer_of_bio script run thread op bio =
-    option_map_or answers.Refused (refusal_of script bio) (told (bio_answer run bio.access thread op))
+    option_map_or answers.Refused (refusal_of script bio)
+    (answer_of_outcome (bio_answer run bio.access thread op))
 
--- what operation number op of a thread is answered; an eviction always succeeds, since no device keeps a key
+-- what operation number op of a thread is answered; an eviction always succeeds, since no device keeps
+-- a key
 abbrev pub IsAnswer : Script → Run → ℕ → ℕ × Op → Answer → Type 0
 IsAnswer script run thread (op, ops.Evict key) answer = answer ≡ answers.Evicted
 IsAnswer script run thread (op, ops.Reset device) answer = answer ≡ answers.Reset
@@ -39,8 +43,10 @@ IsAnswer script run thread (op, operation) answer =
 
 -- a section has an answer for each of its operations
 abbrev pub AreAnswers : Script → Run → ℕ × List Op → List Answer → Type 0
-AreAnswers script run (thread, section) answers = AllZip (IsAnswer script run thread) (enumerate_from 0 section) answers
+AreAnswers script run (thread, section) answers =
+    AllZip (IsAnswer script run thread) (enumerate_from 0 section) answers
 
 -- and the report a list of answers for each section
 abbrev pub HasAnswers : Script → Run → List (List Answer) → Type 0
-HasAnswers script run threads = AllZip (AreAnswers script run) (enumerate_from 0 script.threads) threads
+HasAnswers script run threads =
+    AllZip (AreAnswers script run) (enumerate_from 0 script.threads) threads

@@ -1,4 +1,5 @@
--- A lawful run of a script from an image, with a number of shards: what a report and a final image must meet.
+-- A lawful run of a script from an image, with a number of shards: what a report and the image that is left
+-- must meet.
 use Rattle.std.specs.Prelude.{◌≡◌, ℕ, List, map, flat_map, length}
 use Rattle.std.specs.List.{range_with_len}
 use Rattle.bc_medium.specs.declared.unit_name.UnitName.{UnitName}
@@ -11,7 +12,9 @@ use Rattle.bc_run.specs.Answers.{HasAnswers}
 use Rattle.bc_run.specs.Ways.{HaveWays}
 use Rattle.bc_run.specs.Report.{Report}
 
-pub record LawfulRun (script : Script) (image : List ℕ) (shards : ℕ) (report : Report) (left : List ℕ) : Type 0 where
+-- a report and an image that is left are those of a run of the script over this image, with so many shards
+pub record LawfulRun (script : Script) (image : List ℕ) (shards : ℕ) (report : Report) (left : List ℕ)
+    : Type 0 where
   -- the shard lists are lawful orders
   pub orders : LawfulOrders shards (plan_of script) (faults_of script) (orders_of report)
   -- the answers are the outcome's, or the refusal of the bio
@@ -25,9 +28,12 @@ pub record LawfulRun (script : Script) (image : List ℕ) (shards : ℕ) (report
 abbrev pub serial_order : Script → Report → ℕ → List UnitName
 serial_order script report shard =
     flat_map
-    (attempted_on (length report.shards) (plan_of script) (faults_of script) (orders_of report) shard)
+    (attempted_on (length report.shards) (plan_of script) (faults_of script)
+        (orders_of report) shard)
     (range_with_len 0 (length script.threads))
 
--- beside a lawful run, what makes the whole report a function of script, image and shards: the sections follow one another
+-- beside a lawful run, what makes the whole report a function of script, image and shards: the sections
+-- follow one another
 pub record IsSerial (script : Script) (report : Report) : Type 0 where
-  pub section_after_section : orders_of report ≡ map (serial_order script report) (range_with_len 0 (length report.shards))
+  pub section_after_section :
+      orders_of report ≡ map (serial_order script report) (range_with_len 0 (length report.shards))

@@ -4,6 +4,8 @@ pub mod RunOf
 pub mod Answers
 pub mod Ways
 pub mod LawfulRun
-pub mod Serial
-pub mod Run
+pub mod Command
 pub mod Statuses
+pub mod Laws
+pub mod Stages
+pub mod Serial

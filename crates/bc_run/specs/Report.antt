@@ -1,9 +1,10 @@
--- What a run did: for each thread the answers of its operations, for each shard its entries in order.
+-- What a run did: what its operations were answered, and the order of each shard.
 use Rattle.std.specs.Prelude.{◌^◌, ◌<◌, ◌≤◌, List, length}
 use Rattle.std.specs.List.{AllByRecursion}
 use Rattle.bc_run.specs.declared.report.Answer.{Answer}
 use Rattle.bc_run.specs.declared.report.Line.{Line}
 
+-- for each thread the answers of its operations, for each shard its entries in order
 pub record Report : Type 0 where
   pub threads : List (List Answer)
   pub shards : List (List Line)

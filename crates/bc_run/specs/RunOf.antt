@@ -1,4 +1,4 @@
--- The run of the keyed disk that a report tells of.
+-- The run of the keyed disk that a report is of.
 use Rattle.std.specs.Prelude.{ℕ, List, map}
 use Rattle.bc_medium.specs.declared.unit_name.UnitName.{UnitName}
 use Rattle.bc_medium.specs.Outcome.{Run}
@@ -17,4 +17,10 @@ faults_of script = script.faults
 -- the script's plan and faults, from this image, along the report's orders
 abbrev pub run_of : Script → List ℕ → Report → Run
 run_of script image report =
-    record { image = image; keys = keys_of script; plan = plan_of script; faults = faults_of script; orders = orders_of report }
+    record {
+      image = image;
+      keys = keys_of script;
+      plan = plan_of script;
+      faults = faults_of script;
+      orders = orders_of report;
+    }

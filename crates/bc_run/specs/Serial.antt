@@ -27,7 +27,7 @@ use Rattle.bc_medium.specs.Places.{shard_of}
 use Rattle.bc_medium.specs.KeyedDisk.{Sectors, UnitAnswer, accessed}
 use Rattle.bc_medium.specs.LawfulOrders.{name_of}
 use Rattle.bc_medium.specs.Outcome.{without_fault}
-use Rattle.bc_run.specs.Answers.{told}
+use Rattle.bc_run.specs.Answers.{answer_of_outcome}
 
 -- the disk after these units
 abbrev pub disk_after : List KeyData → Sectors → List PlannedUnit → Sectors
@@ -45,7 +45,7 @@ unit_answers keys disk (u ∷ us) =
 abbrev pub bio_answer_over : Script → Sectors → ℕ → Op → Extent → Answer
 bio_answer_over script disk op operation bio =
     option_map_or answers.Refused (refusal_of script bio)
-    (told (without_fault bio.access (unit_answers (keys_of script) disk (units_of_bio script op operation bio))))
+    (answer_of_outcome (without_fault bio.access (unit_answers (keys_of script) disk (units_of_bio script op operation bio))))
 
 -- what operation number op is answered over this disk
 abbrev pub answer_over : Script → Sectors → ℕ × Op → Answer
@@ -92,8 +92,8 @@ abbrev pub lines_on : List Entry → ℕ → List Line
 lines_on entries shard = map (λ entry. entry.line) (filter (λ entry. entry.shard == shard) entries)
 
 -- the lines of each shard
-abbrev pub shard_lines : ℕ → List Entry → List (List Line)
-shard_lines shards entries = map (lines_on entries) (range_with_len 0 shards)
+abbrev pub lines_by_shard : ℕ → List Entry → List (List Line)
+lines_by_shard shards entries = map (lines_on entries) (range_with_len 0 shards)
 
 -- ---- conditions
 

@@ -21,13 +21,10 @@ use crate::places::unit_bytes;
 use crate::read_answer::answer_of;
 use crate::report::Answer;
 use crate::unit_access::{read_units, write_units};
-use bc_base::Items;
+use bc_base::{BLOCK_SECTORS, Items};
 use bc_bio::{Access, Extent, Refusal};
 use bc_script::{Op, Script, Text};
 use std::alloc::{AllocError, Global};
-
-/// The sectors of a block.
-const SECTORS_PER_BLOCK: u32 = 8;
 
 /// A script that is being carried out.
 #[derive(Drop)]
@@ -49,13 +46,13 @@ fn refusal_of(script: &Script, ciphers: &Ciphers, bio: &Extent) -> Option<Refusa
     ensures refusal { result ≡ refusal_of script.now bio.now }
     ensures no_wrap { result ≡ None → (i : ℕ) → i ≤ bio.now.units → context_wrapped i bio.now.context ≡ context_after i bio.now.context }
 {
-    match bio.check(ciphers.keys(), SECTORS_PER_BLOCK * script.blocks()) {
+    match bio.check(ciphers.keys(), BLOCK_SECTORS * script.blocks()) {
         Ok(()) => None,
         Err(error) => Some(Refusal::Bio(error)),
     }
 }
 
-/// Reads the data units of a bio, and tells what they are answered.
+/// Reads the data units of a bio, and returns what they are answered.
 fn read_bio(image: &[u8], ciphers: &Ciphers, bio: &Extent, room: &mut [u8]) -> Answer
     requires access { bio.now.access ≡ Access.Read }
     requires accepted { IsAccepted ciphers.now bio.now }
@@ -70,7 +67,7 @@ fn read_bio(image: &[u8], ciphers: &Ciphers, bio: &Extent, room: &mut [u8]) -> A
 }
 
 impl Course<'_> {
-    /// Carries one operation out, and tells its answer.
+    /// Carries one operation out, and returns its answer.
     fn carry_out(&mut self, thread: u16, op: u32, operation: &Op) -> Result<Answer, AllocError>
         requires underway { IsUnderway self.old.script.now self.old.ciphers self.old.shards self.old.image.items self.old.room.items }
         requires rules { IsOp (keys_of self.old.script.now) operation.now }
@@ -116,7 +113,7 @@ impl Course<'_> {
         }
     }
 
-    /// Carries a bio out that writes, and tells its answer.
+    /// Carries a bio out that writes, and returns its answer.
     fn write(
         &mut self,
         thread: u16,
@@ -149,7 +146,7 @@ impl Course<'_> {
         Ok(Answer::Wrote)
     }
 
-    /// Carries a bio out that reads, and tells its answer.
+    /// Carries a bio out that reads, and returns its answer.
     fn read(&mut self, thread: u16, op: u32, bio: &Extent) -> Result<Answer, AllocError>
         requires underway { IsUnderway self.old.script.now self.old.ciphers self.old.shards self.old.image.items self.old.room.items }
         requires access { bio.now.access ≡ Access.Read }
@@ -181,7 +178,7 @@ impl Course<'_> {
         Ok(answer)
     }
 
-    /// Carries a section out, and tells the answers of its operations.
+    /// Carries a section out, and returns the answers of its operations.
     fn carry_out_section(
         &mut self,
         alloc: Global,
@@ -206,7 +203,7 @@ impl Course<'_> {
         Ok(Items::from_vec(answers))
     }
 
-    /// Carries all sections out, one after the other, and tells the answers of each.
+    /// Carries all sections out, one after the other, and returns the answers of each.
     pub(crate) fn carry_out_all(
         &mut self,
         alloc: Global,

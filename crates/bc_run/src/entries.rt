@@ -3,13 +3,13 @@
 ghost use Rattle.std.specs.Prelude.{◌≡◌, ◌++◌, ◌≤◌, ◌<◌, ◌^◌, ◌*◌, ◌==◌, [], ◌∷◌, map, IfOk, OnOk};
 ghost use Rattle.bc_script.specs.declared.op.Op.{Op};
 ghost use Rattle.bc_medium.specs.Places.{shard_of};
-ghost use Rattle.bc_run.specs.Serial.{entry_of, via_of, first_units, lines_on, shard_lines, IsAccepted};
+ghost use Rattle.bc_run.specs.Serial.{entry_of, via_of, first_units, lines_on, lines_by_shard, IsAccepted};
 
 use crate::ciphers::Ciphers;
 use crate::places::sector_of;
 use crate::report::Line;
 use crate::via::Via;
-use bc_base::Items;
+use bc_base::{BLOCK_SECTORS, Items};
 use bc_bio::{Context, Extent};
 use bc_medium::UnitName;
 use std::alloc::{AllocError, Global};
@@ -53,7 +53,7 @@ fn note(
     requires some_shards { 1 ≤ shards }
     ensures { OnOk result (entries.new.items ≡ entries.old.items ++ record { shard = shard_of shards sector; line = record { name = name; via = via } } ∷ []) }
 {
-    let shard = (sector / 8 % u32::from(shards)) as u16;
+    let shard = (sector / BLOCK_SECTORS % u32::from(shards)) as u16;
     entries.push(Entry {
         shard,
         line: Line { name, via },
@@ -77,7 +77,7 @@ pub(crate) fn lines_by_shard(
     entries: &[Entry],
     shards: u16,
 ) -> Result<Items<Items<Line>>, AllocError>
-    ensures { IfOk result (λ lists. lists ≡ shard_lines shards entries.now) }
+    ensures { IfOk result (λ lists. lists ≡ lines_by_shard shards entries.now) }
 {
     let mut lists = Vec::with_capacity(alloc, usize::from(shards))?;
     for shard in 0..shards {

@@ -2,23 +2,35 @@
 //!
 //! [`run`] does all that the program does, over a source and a sink. [`serial`] carries a script out over an image,
 //! one operation after the other. What both promise is a lawful run: the report and the image are those of a keyed
-//! disk that performs single data units in the orders that the report lists.
+//! disk that performs single data units in the orders that the report lists. [`serial_runs_agree`] is the law that
+//! there is one such report and one such image.
 #![tactic(auto)]
 
-mod ciphers;
+// a run of the program, stage by stage
+mod program;
+mod status;
+
+// the report and its text
+mod report;
+mod report_text;
+mod via;
+
+// a script carried out by one caller
 mod course;
 mod entries;
 mod one_caller;
-mod places;
-mod program;
 mod read_answer;
-mod report;
-mod report_text;
-mod status;
 mod unit_access;
-mod via;
+
+// the keys of a script and the places of its units
+mod ciphers;
+mod places;
+
+// the law of a run
+mod laws;
 
 pub use bc_medium::UnitName;
+pub use laws::serial_runs_agree;
 pub use one_caller::{Finished, serial};
 pub use program::run;
 pub use report::{Answer, Line, Report};

@@ -7,27 +7,37 @@ use crate::ciphers::Ciphers;
 use crate::course::Course;
 use crate::entries::lines_by_shard;
 use crate::report::Report;
+use bc_base::SECTOR_BYTES;
 use bc_script::Script;
 use std::alloc::{AllocError, Global};
 
-/// What a script's run leaves and tells.
+/// What [`serial`] gives back.
 #[derive(Drop)]
 pub struct Finished {
-    /// The image as the run leaves it.
+    /// The image as the run leaves it, as long as the one that was handed in.
     pub image: Vec<u8>,
-    /// What each operation was answered, and each shard's order.
+    /// What each operation was answered, and the order of each shard.
     pub report: Report,
 }
 
 /// The most bytes that a bio has: 256 sectors.
-const BIO_BYTES: usize = 131072;
+const BIO_BYTES: usize = 256 * SECTOR_BYTES;
 
 /// The most data units that a script has.
 const UNITS: usize = 65536;
 
-/// Carries a script out: thread 0's section, then thread 1's, and so on. Each data unit of an accepted bio is performed
-/// in turn, and a plugged bio is submitted at once. All memory but that of the answers is taken before the first
-/// operation.
+/// Carries a script out by one caller: the section of thread 0, then that of thread 1, and so on. The data units of a bio
+/// that isn't refused are performed one after the other, and a plugged bio is submitted at once.
+///
+/// `image` is the disk as the run finds it: 4096 bytes for each block of the script's disk, as
+/// [`Script::blocks`](bc_script::Script::blocks) counts them. `shards` is 1 to 64, and block `b` lies in shard
+/// `b % shards`. Script, image and shards decide the whole report and the image that is left (see
+/// [`serial_runs_agree`](crate::serial_runs_agree)).
+///
+/// # Errors
+///
+/// `AllocError` where memory runs out; the image is then dropped. All memory but that of the answers is taken before the
+/// first operation.
 pub fn serial(
     alloc: Global,
     script: &Script,
@@ -36,7 +46,8 @@ pub fn serial(
 ) -> Result<Finished, AllocError>
     requires length { length image.items ≡ 4096 * script.now.blocks }
     requires shards { (1 ≤ shards) × (shards ≤ 64) }
-    ensures lawful { IfOk result (λ finished. LawfulRun script.now image.items shards finished.report finished.image.items) }
+    ensures lawful { IfOk result (λ finished.
+        LawfulRun script.now image.items shards finished.report finished.image.items) }
     ensures serial { IfOk result (λ finished. IsSerial script.now finished.report) }
 {
     let mut course = Course {

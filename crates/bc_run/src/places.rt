@@ -5,10 +5,8 @@ ghost use Rattle.bc_bio.specs.Extent.{unit_sectors, end_of};
 ghost use Rattle.bc_run.specs.Serial.{IsAccepted};
 
 use crate::ciphers::Ciphers;
+use bc_base::SECTOR_BYTES;
 use bc_bio::Extent;
-
-/// The bytes of a sector.
-pub(crate) const SECTOR: usize = 512;
 
 /// The first sector of data unit number `unit` of a bio.
 pub(crate) fn sector_of(bio: &Extent, ciphers: &Ciphers, unit: u32) -> u32
@@ -26,5 +24,5 @@ pub(crate) fn unit_bytes(bio: &Extent, ciphers: &Ciphers) -> usize
     ensures bytes { result ≡ 512 * unit_sectors ciphers.now bio.now.context }
     ensures most { result ≤ 4096 }
 {
-    SECTOR * bio.unit_sectors(ciphers.keys()) as usize
+    SECTOR_BYTES * bio.unit_sectors(ciphers.keys()) as usize
 }

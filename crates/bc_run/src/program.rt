@@ -6,29 +6,40 @@ ghost use Rattle.std.specs.Io.KnownBytes.{Consumes, Appends, IsAtEnd, Keeps};
 ghost use Rattle.bc_base.specs.Outside.{Rose, HasCause, AppendsFront};
 ghost use Rattle.bc_script.specs.ScriptText.{Says, NoScriptHas};
 ghost use Rattle.bc_run.specs.ReportText.{report_text};
-ghost use Rattle.bc_run.specs.Run.{IsCommand, script_limit, IsTextOf, IsReportOf, zeros_for};
-ghost use Rattle.bc_run.specs.Statuses.{EndsBy, ReadRose, WriteRose, IsParseStatus};
+ghost use Rattle.bc_run.specs.Command.{IsCommand, script_limit, IsTextOf, IsReportOf, zeros_for};
+ghost use Rattle.bc_run.specs.Statuses.{EndsBy};
+ghost use Rattle.bc_run.specs.Stages.{status_of, IsNotRead};
 ghost use Rattle.bc_script.specs.Script as specs;
 
 use crate::one_caller::serial;
 use crate::report::Report;
 use crate::report_text::print;
 use crate::status::Status;
-use bc_base::{ReadError, Sink, Source, read_all, write_all};
+use bc_base::{BLOCK_BYTES, ReadError, Sink, Source, read_all, write_all};
 use bc_script::{ParseError, Script, parse};
 use std::alloc::{AllocError, Global};
 
 /// The most bytes of a script's text: 16 MiB.
 const SCRIPT_LIMIT: u64 = 16777216;
 
-/// The bytes of a block.
-const BLOCK_BYTES: usize = 4096;
-
-/// Runs the command that the words say. `serial` reads a script from the source, carries it out over an image of
-/// zeros with one shard, and writes its report to the sink. The words are those behind the program's name. Nothing is
-/// written before the whole report stands; a sink that then fails holds a front of it.
+/// Runs the command that the words say, and returns how that ended. The words are those after the program's name.
 ///
-/// Folder and gate aren't used by this command.
+/// The command `serial` reads a script from `script` to its end, at most 16 MiB, carries it out over an image of zeros
+/// with one shard (see [`serial`]), and writes the text of its report to `out` (see [`print`]). Nothing is written before
+/// the whole report stands. `folder` and `gate` aren't used by this command; the folder stays as it was.
+///
+/// # Errors
+///
+/// In the order of the stages, and the first that applies ends the run:
+///
+/// - [`Status::Usage`]: the words are no command.
+/// - [`Status::ReadFault`]: the source failed, and its count of faults rose.
+/// - [`Status::TooLong`]: the source had more than 16 MiB.
+/// - [`Status::BadScript`]: no script has the text; the line and the test that it fails first.
+/// - [`Status::WriteFault`]: the sink failed, and its count of faults rose. It holds a prefix of the report.
+///
+/// [`Status::NoMemory`] can come at each stage but the first and the last. After it, and after each other status but
+/// `Ok` and `WriteFault`, nothing has been written.
 pub fn run<Rt, S: Source, K: Sink, F, G>(
     _rt: &Rt,
     alloc: Global,
@@ -51,14 +62,19 @@ pub fn run<Rt, S: Source, K: Sink, F, G>(
     }) result }
     ensures usage { result ≡ Status.Usage ↔ (IsCommand (map string_bytes words.now) → ⊥) }
     ensures end { result ≡ Status.Ok → IsAtEnd (S.left script.new) }
-    ensures untouched { result ≢ Status.Ok → result ≢ Status.WriteFault → Keeps (K.held out.old) (K.held out.new) }
-    ensures read_cause { HasCause (S.faults script.old) (S.faults script.new) (result ≡ Status.ReadFault) }
-    ensures write_cause { HasCause (K.faults out.old) (K.faults out.new) (result ≡ Status.WriteFault) }
+    ensures untouched { result ≢ Status.Ok → result ≢ Status.WriteFault
+        → Keeps (K.held out.old) (K.held out.new) }
+    ensures folder { _folder.new ≡ _folder.old }
+    ensures read_cause { HasCause (S.faults script.old) (S.faults script.new)
+        (result ≡ Status.ReadFault) }
+    ensures write_cause { HasCause (K.faults out.old) (K.faults out.new)
+        (result ≡ Status.WriteFault) }
 
     // A script within the limit is carried out, unless a count of faults rose or memory ran out.
     ensures complete { IsCommand (map string_bytes words.now)
-        → IfSome (S.left script.old) (λ text. (said : specs.Script) → IsTextOf text said
-        → (Rose (S.faults script.old) (S.faults script.new) → ⊥) → (Rose (K.faults out.old) (K.faults out.new) → ⊥)
+        → IfSome (S.left script.old) (λ text. (asked : specs.Script) → IsTextOf text asked
+        → (Rose (S.faults script.old) (S.faults script.new) → ⊥)
+        → (Rose (K.faults out.old) (K.faults out.new) → ⊥)
         → (result ≡ Status.Ok) ⊎ (result ≡ Status.NoMemory)) }
 {
     match stages(alloc, words, script, out) {
@@ -67,14 +83,14 @@ pub fn run<Rt, S: Source, K: Sink, F, G>(
     }
 }
 
-/// The stages, in their order; the first that refuses ends the run.
+/// The stages, in their order; the first that refuses ends the run. An `Err` is never `Ok`'s status.
 fn stages<S: Source, K: Sink>(
     alloc: Global,
     words: &[String],
     source: &mut S,
     out: &mut K,
 ) -> Result<(), Status>
-    ensures ok { OnOk result (EndsBy (record {
+    ensures status { EndsBy (record {
       words = map string_bytes words.now;
       text = S.left source.old;
       read_faults_before = S.faults source.old;
@@ -83,30 +99,23 @@ fn stages<S: Source, K: Sink>(
       write_faults_after = K.faults out.new;
       held_before = K.held out.old;
       held_after = K.held out.new;
-    }) Status.Ok) }
-    ensures err { IfErr result (EndsBy (record {
-      words = map string_bytes words.now;
-      text = S.left source.old;
-      read_faults_before = S.faults source.old;
-      read_faults_after = S.faults source.new;
-      write_faults_before = K.faults out.old;
-      write_faults_after = K.faults out.new;
-      held_before = K.held out.old;
-      held_after = K.held out.new;
-    })) }
+    }) (status_of result) }
+    ensures not_ok { IfErr result (λ status. status ≢ Status.Ok) }
     ensures usage { (IsCommand (map string_bytes words.now) → ⊥) → result ≡ Err Status.Usage }
     ensures end { OnOk result (IsAtEnd (S.left source.new)) }
-    ensures not_ok { IfErr result (λ e. e ≢ Status.Ok) }
-    ensures untouched { IfErr result (λ e. e ≢ Status.WriteFault → Keeps (K.held out.old) (K.held out.new)) }
-    ensures read_cause { HasCause (S.faults source.old) (S.faults source.new) (result ≡ Err Status.ReadFault) }
-    ensures write_cause { HasCause (K.faults out.old) (K.faults out.new) (result ≡ Err Status.WriteFault) }
+    ensures untouched { IfErr result (λ status. status ≢ Status.WriteFault
+        → Keeps (K.held out.old) (K.held out.new)) }
+    ensures read_cause { HasCause (S.faults source.old) (S.faults source.new)
+        (result ≡ Err Status.ReadFault) }
+    ensures write_cause { HasCause (K.faults out.old) (K.faults out.new)
+        (result ≡ Err Status.WriteFault) }
 {
     command(words)?;
     let text = read_script(alloc, source)?;
-    let script = parsed(alloc, &text)?;
-    let report = carried_out(alloc, &script)?;
-    let text = printed(alloc, &report)?;
-    written(out, &text)
+    let script = script_of_text(alloc, &text)?;
+    let report = report_over_zeros(alloc, &script)?;
+    let text = text_of_report(alloc, &report)?;
+    write_text(out, &text)
 }
 
 /// The words are the command.
@@ -122,12 +131,15 @@ fn command(words: &[String]) -> Result<(), Status>
 
 /// The text of the script: all that is left in the source.
 fn read_script<S: Source>(alloc: Global, source: &mut S) -> Result<Vec<u8>, Status>
-    ensures all { IfOk result (λ bytes. Consumes (S.left source.old) (S.left source.new) bytes.items) }
+    ensures all { IfOk result (λ text. Consumes (S.left source.old) (S.left source.new) text.items) }
     ensures end { OnOk result (IsAtEnd (S.left source.new)) }
-    ensures within { IfOk result (λ bytes. length bytes.items ≤ script_limit) }
-    ensures statuses { IfErr result (λ e. (e ≡ Status.ReadFault) ⊎ ((e ≡ Status.TooLong script_limit) ⊎ (e ≡ Status.NoMemory))) }
-    ensures too_long { result ≡ Err (Status.TooLong script_limit) → IfSome (S.left source.old) (λ left. script_limit < length left) }
-    ensures cause { HasCause (S.faults source.old) (S.faults source.new) (result ≡ Err Status.ReadFault) }
+    ensures within { IfOk result (λ text. length text.items ≤ script_limit) }
+    ensures statuses { IfErr result (λ status.
+        (status ≡ Status.ReadFault) ⊎ ((status ≡ Status.TooLong script_limit) ⊎ (status ≡ Status.NoMemory))) }
+    ensures too_long { result ≡ Err (Status.TooLong script_limit)
+        → IfSome (S.left source.old) (λ left. script_limit < length left) }
+    ensures cause { HasCause (S.faults source.old) (S.faults source.new)
+        (result ≡ Err Status.ReadFault) }
 {
     match read_all(alloc, source, SCRIPT_LIMIT) {
         Ok(bytes) => Ok(bytes),
@@ -140,9 +152,9 @@ fn read_script<S: Source>(alloc: Global, source: &mut S) -> Result<Vec<u8>, Stat
 }
 
 /// The script that the text says.
-fn parsed(alloc: Global, text: &[u8]) -> Result<Script, Status>
+fn script_of_text(alloc: Global, text: &[u8]) -> Result<Script, Status>
     ensures ok { IfOk result (Says text.now) }
-    ensures bad { IfErr result (IsParseStatus text.now) }
+    ensures bad { IfErr result (IsNotRead text.now) }
 {
     match parse(alloc, text) {
         Ok(script) => Ok(script),
@@ -152,17 +164,17 @@ fn parsed(alloc: Global, text: &[u8]) -> Result<Script, Status>
 }
 
 /// The report of the script, which is carried out over zeros with one shard.
-fn carried_out(alloc: Global, script: &Script) -> Result<Report, Status>
+fn report_over_zeros(alloc: Global, script: &Script) -> Result<Report, Status>
     ensures ok { IfOk result (IsReportOf script.now) }
     ensures memory { IfErr result (λ e. e ≡ Status.NoMemory) }
 {
-    match carried_out_over_zeros(alloc, script) {
+    match carry_out_over_zeros(alloc, script) {
         Ok(report) => Ok(report),
         Err(AllocError) => Err(Status::NoMemory),
     }
 }
 
-fn carried_out_over_zeros(alloc: Global, script: &Script) -> Result<Report, AllocError>
+fn carry_out_over_zeros(alloc: Global, script: &Script) -> Result<Report, AllocError>
     ensures { IfOk result (IsReportOf script.now) }
 {
     let image = zeros(alloc, script)?;
@@ -179,7 +191,7 @@ fn zeros(alloc: Global, script: &Script) -> Result<Vec<u8>, AllocError>
 }
 
 /// The text of the report.
-fn printed(alloc: Global, report: &Report) -> Result<Vec<u8>, Status>
+fn text_of_report(alloc: Global, report: &Report) -> Result<Vec<u8>, Status>
     ensures ok { IfOk result (λ text. text.items ≡ report_text report.now) }
     ensures memory { IfErr result (λ e. e ≡ Status.NoMemory) }
 {
@@ -190,11 +202,12 @@ fn printed(alloc: Global, report: &Report) -> Result<Vec<u8>, Status>
 }
 
 /// Writes the text of the report.
-fn written<K: Sink>(out: &mut K, text: &[u8]) -> Result<(), Status>
+fn write_text<K: Sink>(out: &mut K, text: &[u8]) -> Result<(), Status>
     ensures ok { OnOk result (Appends (K.held out.old) (K.held out.new) text.now) }
-    ensures front { AppendsFront (K.held out.old) (K.held out.new) text.now }
+    ensures prefix { AppendsFront (K.held out.old) (K.held out.new) text.now }
     ensures fault { IfErr result (λ e. e ≡ Status.WriteFault) }
-    ensures cause { HasCause (K.faults out.old) (K.faults out.new) (result ≡ Err Status.WriteFault) }
+    ensures cause { HasCause (K.faults out.old) (K.faults out.new)
+        (result ≡ Err Status.WriteFault) }
 {
     match write_all(out, text) {
         Ok(()) => Ok(()),

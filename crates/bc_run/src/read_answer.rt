@@ -1,4 +1,4 @@
-//! What a read is answered.
+//! The answer of a read.
 
 ghost use Rattle.std.specs.Prelude.{◌≡◌, ◌==◌, ◌≤◌, ℕ, List, ◌∷◌, length};
 ghost use Rattle.std.specs.List.{list_all};
@@ -7,7 +7,7 @@ ghost use Rattle.bc_run.specs.Answers.{read_answer};
 use crate::report::Answer;
 use sha2::{Digest, Sha256};
 
-/// What a read of these bytes is answered.
+/// The answer of a read of these bytes.
 pub(crate) fn answer_of(bytes: &[u8]) -> Answer
     ensures { result ≡ read_answer bytes.now }
 {
@@ -23,10 +23,11 @@ pub(crate) fn answer_of(bytes: &[u8]) -> Answer
     }
 }
 
-/// Tells whether all of the bytes are equal: they are where they stay the same one place further on.
+/// Whether all of the bytes are equal: they are where they stay the same one place further on.
 fn are_equal(bytes: &[u8]) -> bool
     requires some { 1 ≤ length bytes.now }
-    ensures { (first : ℕ) (others : List ℕ) → bytes.now ≡ first ∷ others → result ≡ list_all (λ other. other == first) others }
+    ensures { (first : ℕ) (others : List ℕ) → bytes.now ≡ first ∷ others
+        → result ≡ list_all (λ other. other == first) others }
 {
     bytes[1..] == bytes[..bytes.len() - 1]
 }

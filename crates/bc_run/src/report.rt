@@ -1,4 +1,4 @@
-//! What a run did.
+//! The report of a run.
 
 ghost use Rattle.std.specs.Prelude.{◌≡◌};
 
@@ -15,7 +15,7 @@ pub enum Answer {
     Wrote,
     /// All bytes that were read are this one.
     ReadFill(u8),
-    /// SHA-256 of the bytes that were read, which aren't all equal.
+    /// SHA-256 of the bytes that were read, which aren't all equal or are none.
     ReadSum([u8; 32]),
     /// The data unit with this number, from 0, met a fault.
     Fault(u32),
@@ -38,7 +38,7 @@ pub struct Line {
     pub via: Via,
 }
 
-/// The report of a run: for each thread the answers of its operations, and for each shard its entries in order.
+/// What a run did: for each thread the answers of its operations, and for each shard its entries in order.
 #[derive(Debug, Drop)]
 pub struct Report {
     threads: Items<Items<Answer>>,
@@ -58,7 +58,7 @@ impl Model for Report {
 impl Report {
     ghost use Rattle.bc_run.specs.Report as specs;
 
-    /// A report within the ranges of its text.
+    /// A report within the ranges of its text: at most 16 threads and 64 shards, and below 2^32 entries in each shard.
     pub fn new(threads: Items<Items<Answer>>, shards: Items<Items<Line>>) -> Report
         requires { specs.IsReport (record { threads = threads; shards = shards }) }
         ensures { result ≡ record { threads = threads; shards = shards } }

@@ -12,8 +12,12 @@ use bc_bio::{BioError, Refusal};
 use itoa::Buffer;
 use std::alloc::{AllocError, Global};
 
-/// The one text of the report: its head, a part for each thread, a part for each shard, and its foot, each line with
-/// a line feed behind it. `Err` is want of memory.
+/// The one text of a report, for a file or a terminal: the head `report 1`, a part for each thread with its answers, a
+/// part for each shard with its entries, and the foot `end`. Each line ends with a line feed.
+///
+/// # Errors
+///
+/// `AllocError` where memory runs out.
 #[tactic(auto, using(crate::proofs::Printing::parts_more, crate::proofs::Printing::all_parts))]
 pub fn print(alloc: Global, report: &Report) -> Result<Vec<u8>, AllocError>
     ensures text { IfOk result (λ text. text.items ≡ report_text report.now) }
@@ -32,7 +36,8 @@ pub fn print(alloc: Global, report: &Report) -> Result<Vec<u8>, AllocError>
 
 #[tactic(auto, using(crate::proofs::Printing::text_of_more))]
 fn put_thread(text: &mut Vec<u8>, number: usize, answers: &[Answer]) -> Result<(), AllocError>
-    ensures { OnOk result (text.new.items ≡ text.old.items ++ text_of (thread_lines (number, answers.now))) }
+    ensures { OnOk result (text.new.items
+        ≡ text.old.items ++ text_of (thread_lines (number, answers.now))) }
 {
     text.extend_from_slice(b"thread ")?;
     put_number(text, number as u64)?;
@@ -45,7 +50,8 @@ fn put_thread(text: &mut Vec<u8>, number: usize, answers: &[Answer]) -> Result<(
 
 #[tactic(auto, using(crate::proofs::Printing::text_of_more))]
 fn put_shard(text: &mut Vec<u8>, number: usize, entries: &[Line]) -> Result<(), AllocError>
-    ensures { OnOk result (text.new.items ≡ text.old.items ++ text_of (shard_lines (number, entries.now))) }
+    ensures { OnOk result (text.new.items
+        ≡ text.old.items ++ text_of (shard_lines (number, entries.now))) }
 {
     text.extend_from_slice(b"shard ")?;
     put_number(text, number as u64)?;
@@ -75,7 +81,8 @@ fn put_answer(text: &mut Vec<u8>, answer: &Answer) -> Result<(), AllocError>
 }
 
 fn put_digits(text: &mut Vec<u8>, words: &[u8], bytes: &[u8]) -> Result<(), AllocError>
-    ensures { OnOk result (text.new.items ≡ text.old.items ++ (words.now ++ (encode_lower bytes.now ++ codes "\n"))) }
+    ensures { OnOk result (text.new.items
+        ≡ text.old.items ++ (words.now ++ (encode_lower bytes.now ++ codes "\n"))) }
 {
     text.extend_from_slice(words)?;
     put_hex(text, bytes)?;
@@ -84,7 +91,8 @@ fn put_digits(text: &mut Vec<u8>, words: &[u8], bytes: &[u8]) -> Result<(), Allo
 }
 
 fn put_fault(text: &mut Vec<u8>, unit: u32) -> Result<(), AllocError>
-    ensures { OnOk result (text.new.items ≡ text.old.items ++ (codes "fault " ++ (decimal unit ++ codes "\n"))) }
+    ensures { OnOk result (text.new.items
+        ≡ text.old.items ++ (codes "fault " ++ (decimal unit ++ codes "\n"))) }
 {
     text.extend_from_slice(b"fault ")?;
     put_number(text, u64::from(unit))?;
@@ -93,7 +101,8 @@ fn put_fault(text: &mut Vec<u8>, unit: u32) -> Result<(), AllocError>
 }
 
 fn put_refusal(text: &mut Vec<u8>, refusal: &Refusal) -> Result<(), AllocError>
-    ensures { OnOk result (text.new.items ≡ text.old.items ++ (codes "refused " ++ (refusal_word refusal.now ++ codes "\n"))) }
+    ensures { OnOk result (text.new.items
+        ≡ text.old.items ++ (codes "refused " ++ (refusal_word refusal.now ++ codes "\n"))) }
 {
     text.extend_from_slice(b"refused ")?;
     text.extend_from_slice(refusal_word(refusal))?;
@@ -125,7 +134,8 @@ fn put_entry(text: &mut Vec<u8>, entry: &Line) -> Result<(), AllocError>
 }
 
 fn put_via(text: &mut Vec<u8>, via: Via) -> Result<(), AllocError>
-    ensures { OnOk result (text.new.items ≡ text.old.items ++ (codes " " ++ (via_word via ++ codes "\n"))) }
+    ensures { OnOk result (text.new.items
+        ≡ text.old.items ++ (codes " " ++ (via_word via ++ codes "\n"))) }
 {
     text.push(b' ')?;
     text.extend_from_slice(via_word(via))?;

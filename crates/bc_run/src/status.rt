@@ -4,29 +4,37 @@ ghost use Rattle.std.specs.Prelude.{◌≡◌};
 ghost use Rattle.bc_run.specs.Statuses.{code_of};
 
 use bc_script::ScriptError;
-use std::fmt;
+use thiserror::Error;
 
-/// How a run ends. Each status but `Ok` says why the report wasn't written, or not all of it.
-#[derive(Clone, Copy, Debug, PartialEq, Eq)]
+/// How a run ends. Each status but `Ok` says why the report wasn't written, or not all of it; its text is the line that a
+/// user is shown, and that of `Ok` is empty.
+#[derive(Clone, Copy, Debug, PartialEq, Eq, Error)]
 pub enum Status {
     /// The report is written.
+    #[error("")]
     Ok,
     /// The words are no command.
+    #[error("bad command line")]
     Usage,
-    /// The text is no script.
+    /// The text is no script's.
+    #[error("{0}")]
     BadScript(ScriptError),
     /// The source failed.
+    #[error("reading failed")]
     ReadFault,
-    /// The sink failed. It holds a front of the report.
+    /// The sink failed. It holds a prefix of the report.
+    #[error("writing failed")]
     WriteFault,
     /// The source had more bytes than the limit.
+    #[error("input longer than {limit} bytes")]
     TooLong { limit: u64 },
-    /// There was no memory.
+    /// Memory ran out.
+    #[error("no memory")]
     NoMemory,
 }
 
 impl Status {
-    /// The number that the process ends with.
+    /// The number that the process ends with, from 0 for `Ok`.
     pub fn code(&self) -> u8
         ensures code { result ≡ code_of self.now }
     {
@@ -38,21 +46,6 @@ impl Status {
             Status::WriteFault => 4,
             Status::TooLong { .. } => 7,
             Status::NoMemory => 9,
-        }
-    }
-}
-
-/// What a user is told of the status; of `Ok` nothing.
-impl fmt::Display for Status {
-    fn fmt<W: fmt::Write>(&self, f: &mut fmt::Formatter<W>) -> fmt::Result {
-        match self {
-            Status::Ok => Ok(()),
-            Status::Usage => write!(f, "bad command line"),
-            Status::BadScript(error) => write!(f, "{error}"),
-            Status::ReadFault => write!(f, "reading failed"),
-            Status::WriteFault => write!(f, "writing failed"),
-            Status::TooLong { limit } => write!(f, "input longer than {limit} bytes"),
-            Status::NoMemory => write!(f, "no memory"),
         }
     }
 }

@@ -12,7 +12,8 @@ ghost use Rattle.bc_medium.specs.Outcome.{answer_text};
 ghost use Rattle.bc_run.specs.Serial.{disk_after, unit_answers, first_units, HasUnit, IsAccepted};
 
 use crate::ciphers::Ciphers;
-use crate::places::{SECTOR, sector_of, unit_bytes};
+use crate::places::{sector_of, unit_bytes};
+use bc_base::SECTOR_BYTES;
 use bc_bio::{Context, Extent};
 use bc_script::Text;
 
@@ -40,7 +41,7 @@ fn write_unit(image: &mut [u8], ciphers: &Ciphers, bio: &Extent, text: &Text, un
     ensures disk { image_sectors image.new ≡ with_bytes (image_sectors image.old) (bio.now.sector + unit * unit_sectors ciphers.now bio.now.context)
         (enciphered ciphers.now (context_after unit bio.now.context) (text_at text.now (512 * unit_sectors ciphers.now bio.now.context) unit)) }
 {
-    let start = SECTOR * sector_of(bio, ciphers, unit) as usize;
+    let start = SECTOR_BYTES * sector_of(bio, ciphers, unit) as usize;
     let end = start + unit_bytes(bio, ciphers);
     let context = bio.context_at(u64::from(unit));
     put_enciphered(
@@ -112,7 +113,7 @@ fn read_unit(image: &[u8], ciphers: &Ciphers, bio: &Extent, unit: u32, place: &m
     requires length { length place.old ≡ 512 * unit_sectors ciphers.now bio.now.context }
     ensures { place.new ≡ deciphered ciphers.now (context_after unit bio.now.context) (bytes_at (image_sectors image.now) (bio.now.sector + unit * unit_sectors ciphers.now bio.now.context) (unit_sectors ciphers.now bio.now.context)) }
 {
-    let start = SECTOR * sector_of(bio, ciphers, unit) as usize;
+    let start = SECTOR_BYTES * sector_of(bio, ciphers, unit) as usize;
     place.copy_from_slice(&image[start..start + place.len()]);
     ciphers.decipher(bio.context_at(u64::from(unit)), place);
 }

@@ -1,4 +1,5 @@
--- What the command `serial` carries out: the script that its text says, over an image of zeros, with one shard.
+-- What the command `serial` carries out: the script that its text says, over an image of zeros, with one
+-- shard.
 use Rattle.std.specs.Prelude.{◌≡◌, ℕ, ◌*◌, ◌≤◌, List, [], ◌∷◌, codes, length, replicate, Some}
 use Rattle.bc_script.specs.Script.{Script}
 use Rattle.bc_script.specs.declared.script_error.ScriptError.{ScriptError}
@@ -16,6 +17,7 @@ IsCommand words = words ≡ codes "serial" ∷ []
 abbrev pub script_limit : ℕ
 script_limit = 16777216
 
+-- a text has no more bytes than that
 abbrev pub IsWithinLimit : List ℕ → Type 0
 IsWithinLimit text = length text ≤ script_limit
 
@@ -34,7 +36,7 @@ pub record IsNoScript (error : ScriptError) (text : List ℕ) : Type 0 where
 abbrev pub zeros_for : Script → List ℕ
 zeros_for script = replicate (4096 * script.blocks) 0
 
--- the report is that of a lawful run of the script over zeros, with one shard, section after section
+-- the report is that of a lawful run of the script over zeros, one shard, section after section
 pub record IsReportOf (script : Script) (report : Report) : Type 0 where
   pub left : List ℕ
   pub lawful : LawfulRun script (zeros_for script) 1 report left
