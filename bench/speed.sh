@@ -1,7 +1,7 @@
 #!/bin/sh
 # Measures the unit ciphers beside OpenSSL on this machine, by turns, and prints the best of each and the ratios.
 #
-#     docs/speed.sh [ROUNDS]        5 rounds where no number is given
+#     bench/speed.sh [ROUNDS]        5 rounds where no number is given
 #
 # It needs `rt` or a crates/bc_speed/out/bc_speed that is built, and `openssl`. Run it on a machine that does nothing else:
 # the ratios are worth no more than its quiet. OpenSSL runs twice: as it is, and with hardware AES masked off, which is the
