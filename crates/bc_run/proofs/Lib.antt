@@ -1,4 +1,4 @@
-pub mod Parts
+pub mod EqualParts
 pub mod Units
 pub mod Image
 pub mod Written

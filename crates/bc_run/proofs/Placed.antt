@@ -1,35 +1,31 @@
 -- Each data unit of a script lies in one shard, and what a write writes fills its sectors.
-use Rattle.std.proofs.Common.{◌≡◌, ℕ, zero, suc, ◌+◌, ◌*◌, ◌/◌, ◌%◌, ◌<◌, ◌≤◌, ◌⊎◌, inl, inr, Bool, true, false, not, cond, List, [], ◌∷◌, length, map, refl, sym, ap, subst, ◌∙◌, arith, Option, Some, None}
-use Rattle.std.specs.Prelude.{◌==◌, flat_map, slice_get, replicate}
+use Rattle.std.proofs.Common.{◌≡◌, ℕ, zero, suc, ◌+◌, ◌*◌, ◌%◌, ◌<◌, ◌≤◌, List, [], ◌∷◌, length, map, refl, sym, ap, subst, ◌∙◌, arith, Option, Some, None}
+use Rattle.std.specs.Prelude.{flat_map, slice_get, replicate}
 use Rattle.std.specs.List.{enumerate_from, AllByRecursion}
 use Rattle.std.specs.Option.{option_map, option_map_or}
-use Rattle.std.proofs.Math.Logic.{⊎_elim}
-use Rattle.std.proofs.lemmas.Bool.{eqb-true, not-false}
 use Rattle.std.proofs.lemmas.Option.{none-some, same_Some}
-use Rattle.bc_key.specs.declared.config.DataUnit.{DataUnit}
-use Rattle.bc_key.specs.declared.config.DataUnit.TheVariants.{Bytes512, Bytes1024, Bytes2048, Bytes4096}
-use Rattle.bc_key.specs.DataUnits as data_units
 use Rattle.bc_key.specs.KeyData.{KeyData, IsValid}
 use Rattle.bc_key.specs.KeyList.{key_at}
 use Rattle.bc_modes.specs.UnitCipher.{enc}
 use Rattle.bc_bio.specs.declared.access.Access.TheVariants.{Read, Write}
 use Rattle.bc_bio.specs.declared.context.Context.{Context}
-use Rattle.bc_bio.specs.declared.refusal.BioError.TheVariants as errors
 use Rattle.bc_bio.specs.declared.refusal.Refusal.TheVariants as refusals
 use Rattle.bc_bio.specs.declared.extent.Extent.{Extent}
 use Rattle.bc_bio.specs.Extent.{unit_sectors, context_after}
 use Rattle.bc_bio.specs.Check.{check_of}
+use Rattle.bc_bio.specs.Conditions.{HasKey}
+use Rattle.bc_bio.proofs.UnitLaws.{units_lie_in_blocks, unrefused_is_accepted}
 use Rattle.bc_script.specs.declared.op.Op.{Op}
 use Rattle.bc_script.specs.declared.op.Op.TheVariants as ops
 use Rattle.bc_script.specs.declared.named_key.NamedKey.{NamedKey}
 use Rattle.bc_script.specs.declared.op.Text.{Text}
 use Rattle.bc_script.specs.declared.op.Text.TheVariants.{Fill, Bytes}
-use Rattle.bc_script.specs.Script.{Script, IsScript, IsNamedKey, IsText, IsOp, IsSection, keys_of, sectors_in}
+use Rattle.bc_script.specs.Script.{Script, IsScript, IsNamedKey, IsContext, IsText, IsOp, IsSection, keys_of, sectors_in}
 use Rattle.bc_script.specs.Bios.{bio_of, refusal_of}
 use Rattle.bc_script.specs.Plan.{text_at, unit_at, units_of, units_of_section, written_at}
 use Rattle.bc_medium.specs.KeyedDisk.{enciphered}
 use Rattle.bc_run.specs.Serial.{serial_units}
-use Rattle.bc_run.proofs.Parts.{part_within, length-part, all_within}
+use Rattle.bc_run.proofs.EqualParts.{part_within, length-part, all_within}
 use Rattle.bc_run.proofs.UnitLength.{length-enc}
 use Rattle.bc_run.proofs.Units.{sectors_after}
 use Rattle.bc_run.proofs.Names.{all_append, by_bio}
@@ -45,61 +41,31 @@ key_in (n ∷ ns) (suc number) key all at = key_in ns number key all.1 at
 
 -- ---- an accepted bio is aligned
 
-cond_none : {A : Type 0} (t : Bool) (x : A) (o : Option A) → cond t (Some x) o ≡ None → (t ≡ false) × (o ≡ None)
-cond_none true x o e = absurd (none-some x (sym e))
-cond_none false x o e = (refl, e)
-
 map_none : {A B : Type 0} (f : A → B) (o : Option A) → option_map f o ≡ None → o ≡ None
 map_none f None e = refl
 map_none f (Some x) e = absurd (none-some (f x) (sym e))
 
-aligned : (script : Script) (bio : Extent) → refusal_of script bio ≡ None → bio.sector % unit_sectors (keys_of script) bio.context ≡ 0
-aligned script bio accepted =
-    let keys = keys_of script in
-    let passed : check_of keys (sectors_in script) bio ≡ None = map_none (λ error. refusals.Bio error) (check_of keys (sectors_in script) bio) accepted in
-    let second = cond_none (bio.units == 0) errors.Empty _ passed in
-    let third = cond_none (not (bio.sector % unit_sectors keys bio.context == 0)) errors.Misaligned _ second.1 in
-    eqb-true (bio.sector % unit_sectors keys bio.context) 0 (not-false _ third.0)
+has_key : (keys : List KeyData) (context : Option Context) → IsContext keys context → HasKey keys context
+has_key keys None rule = tt
+has_key keys (Some context) rule = rule.0
 
--- ---- a data unit has 1, 2, 4 or 8 sectors
+-- the key of an operation's bio is one of the keys
+key_of_bio : (keys : List KeyData) (operation : Op) (bio : Extent) → IsOp keys operation → bio_of operation ≡ Some bio → HasKey keys bio.context
+key_of_bio keys (ops.Write context sector units text) bio rule is =
+    subst (λ (b : Extent). HasKey keys b.context) (same_Some _ bio is) (has_key keys context rule.0.context_is)
+key_of_bio keys (ops.Read context sector units) bio rule is =
+    subst (λ (b : Extent). HasKey keys b.context) (same_Some _ bio is) (has_key keys context rule.context_is)
+key_of_bio keys (ops.Evict key) bio rule is = absurd (none-some bio is)
+key_of_bio keys (ops.Reset device) bio rule is = absurd (none-some bio is)
+key_of_bio keys ops.Plug bio rule is = absurd (none-some bio is)
+key_of_bio keys ops.Unplug bio rule is = absurd (none-some bio is)
 
-abbrev IsUnitSize : ℕ → Type 0
-IsUnitSize n = (n ≡ 1) ⊎ ((n ≡ 2) ⊎ ((n ≡ 4) ⊎ (n ≡ 8)))
-
-size_of_unit : (unit : DataUnit) → IsUnitSize (data_units.sectors_of unit)
-size_of_unit Bytes512 = inl refl
-size_of_unit Bytes1024 = inr (inl refl)
-size_of_unit Bytes2048 = inr (inr (inl refl))
-size_of_unit Bytes4096 = inr (inr (inr refl))
-
-size_of_key : (o : Option KeyData) → IsUnitSize (option_map_or (λ key. data_units.sectors_of key.config.unit) o 1)
-size_of_key None = inl refl
-size_of_key (Some key) = size_of_unit key.config.unit
-
-size_of : (keys : List KeyData) (context : Option Context) → IsUnitSize (unit_sectors keys context)
-size_of keys None = inl refl
-size_of keys (Some context) = size_of_key (key_at keys context.key)
-
--- so an aligned one lies in one block
-block_1 : (x i j : ℕ) → j < 1 → (x + i * 1 + j) / 8 ≡ (x + i * 1) / 8
-block_1 x i j lt = omega arith
-
-block_2 : (x i j : ℕ) → x % 2 ≡ 0 → j < 2 → (x + i * 2 + j) / 8 ≡ (x + i * 2) / 8
-block_2 x i j whole lt = omega arith
-
-block_4 : (x i j : ℕ) → x % 4 ≡ 0 → j < 4 → (x + i * 4 + j) / 8 ≡ (x + i * 4) / 8
-block_4 x i j whole lt = omega arith
-
-block_8 : (x i j : ℕ) → x % 8 ≡ 0 → j < 8 → (x + i * 8 + j) / 8 ≡ (x + i * 8) / 8
-block_8 x i j whole lt = omega arith
-
-one_block : (n x i j : ℕ) → IsUnitSize n → x % n ≡ 0 → j < n → (x + i * n + j) / 8 ≡ (x + i * n) / 8
-one_block n x i j size whole lt =
-    let at : (m : ℕ) → n ≡ m → ((x % m ≡ 0) → j < m → (x + i * m + j) / 8 ≡ (x + i * m) / 8) → (x + i * n + j) / 8 ≡ (x + i * n) / 8 =
-    λ m e there. subst (λ (k : ℕ). (x + i * k + j) / 8 ≡ (x + i * k) / 8) (sym e) (there (subst (λ (k : ℕ). x % k ≡ 0) e whole) (subst (λ (k : ℕ). j < k) e lt)) in
-    ⊎_elim (λ e. at 1 e (λ _ lt'. block_1 x i j lt'))
-    (λ r. ⊎_elim (λ e. at 2 e (block_2 x i j))
-    (λ r'. ⊎_elim (λ e. at 4 e (block_4 x i j)) (λ e. at 8 e (block_8 x i j)) r') r) size
+aligned : (script : Script) → IsScript script → (operation : Op) (bio : Extent) → IsOp (keys_of script) operation → bio_of operation ≡ Some bio
+    → refusal_of script bio ≡ None → bio.sector % unit_sectors (keys_of script) bio.context ≡ 0
+aligned script rules operation bio rule is accepted =
+    let blocks : script.blocks ≤ 16384 = rules.blocks.1 in
+    (unrefused_is_accepted (keys_of script) (sectors_in script) bio (key_of_bio (keys_of script) operation bio rule is) (omega arith)
+    (map_none (λ error. refusals.Bio error) (check_of (keys_of script) (sectors_in script) bio) accepted)).aligned
 
 -- ---- what is written fills a unit
 
@@ -150,7 +116,7 @@ module _ (script : Script) (rules : IsScript script) (shards : ℕ) where
       let after : unit_sectors keys (context_after i bio.context) ≡ n = sectors_after keys bio.context i in
       record {
         one_shard = λ j inside.
-            ap (λ (b : ℕ). b % shards) (one_block n bio.sector i j (size_of keys bio.context) (aligned script bio accepted) (subst (λ (m : ℕ). j < m) after inside));
+            ap (λ (b : ℕ). b % shards) (units_lie_in_blocks keys bio i j (aligned script rules operation bio rule is accepted) (subst (λ (m : ℕ). j < m) after inside));
         size = λ writes.
             let long : length (written_at operation (512 * n) i) ≡ 512 * n = written_length keys operation bio i rule is writes within in
             length-enciphered (context_after i bio.context) (written_at operation (512 * n) i) (omega arith)

@@ -12,7 +12,7 @@ use Rattle.bc_script.specs.Bios.{bio_of, refusal_of}
 use Rattle.bc_run.specs.declared.report.Answer.{Answer}
 use Rattle.bc_run.specs.declared.report.Answer.TheVariants as answers
 
--- bytes that are all equal are told by that byte, and others by SHA-256 of them
+-- bytes that are all equal are reported by that byte, and others by SHA-256 of them
 abbrev pub read_answer : List ℕ → Answer
 read_answer [] = answers.ReadSum (sha256 [])
 read_answer (byte ∷ bytes) =

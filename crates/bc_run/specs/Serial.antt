@@ -6,8 +6,8 @@ use Rattle.std.specs.Option.{option_map_or}
 use Rattle.bc_key.specs.KeyData.{KeyData}
 use Rattle.bc_bio.specs.declared.context.Context.{Context}
 use Rattle.bc_bio.specs.declared.extent.Extent.{Extent}
-use Rattle.bc_bio.specs.Extent.{end_of, context_after}
-use Rattle.bc_bio.specs.Conditions.{HasKey}
+use Rattle.bc_bio.specs.Extent.{context_after}
+use Rattle.bc_bio.specs.Conditions.{IsPlaced}
 use Rattle.bc_bio.specs.BioUnits.{context_wrapped}
 use Rattle.bc_bio.specs.PlannedUnit.{PlannedUnit}
 use Rattle.bc_script.specs.declared.op.Op.{Op}
@@ -73,7 +73,7 @@ section_answers script disk (section ∷ sections) =
 abbrev pub serial_units : Script → List (List Op) → List PlannedUnit
 serial_units script sections = flat_map (units_of_section script) sections
 
--- how the entry of a unit with this context tells its way
+-- how the entry of a unit with this context says its way
 abbrev pub via_of : Option Context → Via
 via_of None = vias.Plain
 via_of (Some context) = vias.Soft
@@ -101,11 +101,10 @@ lines_by_shard shards entries = map (lines_on entries) (range_with_len 0 shards)
 abbrev pub first_units : List KeyData → ℕ → Op → Extent → ℕ → List PlannedUnit
 first_units keys op operation bio n = map (unit_at keys op operation bio) (range_with_len 0 n)
 
--- a bio that a script says and that is accepted: its key is one of the keys, it ends on the largest disk of 131072 sectors, and
--- no number of its units wraps
-pub record IsAccepted (keys : List KeyData) (bio : Extent) : Type 0 where
-  pub key : HasKey keys bio.context
-  pub end : end_of keys bio ≤ 131072
+-- the units of a bio can be performed: its key is one of the keys, it ends at a sector number of 32 bits, has at most 256
+-- units, and none of their numbers wraps
+pub record IsPerformable (keys : List KeyData) (bio : Extent) : Type 0 where
+  pub placed : IsPlaced keys bio
   pub few_units : bio.units ≤ 256
   pub no_wrap : (i : ℕ) → i ≤ bio.units → context_wrapped i bio.context ≡ context_after i bio.context
 

@@ -4,20 +4,19 @@ ghost use Rattle.std.specs.Prelude.{◌≡◌, ℕ, ◌+◌, ◌*◌, ◌≤◌,
 ghost use Rattle.std.specs.List.{enumerate_from};
 ghost use Rattle.bc_bio.specs.declared.access.Access.{Access};
 ghost use Rattle.bc_bio.specs.Extent.{unit_sectors, context_after, end_of};
-ghost use Rattle.bc_bio.specs.Conditions.{HasKey};
+ghost use Rattle.bc_bio.specs.Conditions.{HasKey, IsAccepted};
 ghost use Rattle.bc_bio.specs.BioUnits.{context_wrapped};
 ghost use Rattle.bc_script.specs.declared.op.Op.{Op};
-ghost use Rattle.bc_script.specs.Script.{keys_of, IsOp, IsSection};
+ghost use Rattle.bc_script.specs.Script.{keys_of, sectors_in, IsOp, IsSection};
 ghost use Rattle.bc_script.specs.Bios.{refusal_of};
 ghost use Rattle.bc_script.specs.Plan.{units_of, units_of_bio, units_of_section};
 ghost use Rattle.bc_medium.specs.KeyedDisk.{image_sectors};
 ghost use Rattle.bc_medium.specs.Outcome.{answer_text};
 ghost use Rattle.bc_run.specs.Answers.{read_answer};
-ghost use Rattle.bc_run.specs.Serial.{disk_after, unit_answers, first_units, IsAccepted, bio_answer_over, answer_over, answers_over, section_answers, serial_units, entry_of, entries_in, IsUnderway};
+ghost use Rattle.bc_run.specs.Serial.{disk_after, unit_answers, first_units, IsPerformable, bio_answer_over, answer_over, answers_over, section_answers, serial_units, entry_of, entries_in, IsUnderway};
 
 use crate::ciphers::Ciphers;
 use crate::entries::{Entry, note_units};
-use crate::places::unit_bytes;
 use crate::read_answer::answer_of;
 use crate::report::Answer;
 use crate::unit_access::{read_units, write_units};
@@ -44,6 +43,7 @@ fn refusal_of(script: &Script, ciphers: &Ciphers, bio: &Extent) -> Option<Refusa
     requires keys { ciphers.now ≡ keys_of script.now }
     requires key { HasKey ciphers.now bio.now.context }
     ensures refusal { result ≡ refusal_of script.now bio.now }
+    ensures accepted { result ≡ None → IsAccepted ciphers.now (sectors_in script.now) bio.now }
     ensures no_wrap { result ≡ None → (i : ℕ) → i ≤ bio.now.units → context_wrapped i bio.now.context ≡ context_after i bio.now.context }
 {
     match bio.check(ciphers.keys(), BLOCK_SECTORS * script.blocks()) {
@@ -55,13 +55,13 @@ fn refusal_of(script: &Script, ciphers: &Ciphers, bio: &Extent) -> Option<Refusa
 /// Reads the data units of a bio, and returns what they are answered.
 fn read_bio(image: &[u8], ciphers: &Ciphers, bio: &Extent, room: &mut [u8]) -> Answer
     requires access { bio.now.access ≡ Access.Read }
-    requires accepted { IsAccepted ciphers.now bio.now }
+    requires performable { IsPerformable ciphers.now bio.now }
     requires on_disk { 512 * end_of ciphers.now bio.now ≤ length image.now }
     requires room { bio.now.units * (512 * unit_sectors ciphers.now bio.now.context) ≤ length room.old }
     ensures room { length room.new ≡ length room.old }
     ensures answer { (op : ℕ) → result ≡ read_answer (flat_map answer_text (unit_answers ciphers.now (image_sectors image.now) (first_units ciphers.now op (Op.Read bio.now.context bio.now.sector bio.now.units) bio.now bio.now.units))) }
 {
-    let length = bio.units as usize * unit_bytes(bio, ciphers);
+    let length = bio.units as usize * bio.unit_bytes(ciphers.keys());
     read_units(image, ciphers, bio, &mut room[..length]);
     answer_of(&room[..length])
 }

@@ -3,10 +3,9 @@
 ghost use Rattle.std.specs.Prelude.{◌≡◌, ◌++◌, ◌≤◌, ◌<◌, ◌^◌, ◌*◌, ◌==◌, [], ◌∷◌, map, IfOk, OnOk};
 ghost use Rattle.bc_script.specs.declared.op.Op.{Op};
 ghost use Rattle.bc_medium.specs.Places.{shard_of};
-ghost use Rattle.bc_run.specs.Serial.{entry_of, via_of, first_units, lines_on, lines_by_shard, IsAccepted};
+ghost use Rattle.bc_run.specs.Serial.{entry_of, via_of, first_units, lines_on, lines_by_shard, IsPerformable};
 
 use crate::ciphers::Ciphers;
-use crate::places::sector_of;
 use crate::report::Line;
 use crate::via::Via;
 use bc_base::{BLOCK_SECTORS, Items};
@@ -31,12 +30,13 @@ pub(crate) fn note_units(
     bio: &Extent,
 ) -> Result<(), AllocError>
     requires some_shards { 1 ≤ shards }
-    requires accepted { IsAccepted ciphers.now bio.now }
+    requires performable { IsPerformable ciphers.now bio.now }
     ensures { OnOk result ((operation : Op) → entries.new.items ≡ entries.old.items ++ map (entry_of shards thread) (first_units ciphers.now op operation bio.now bio.now.units)) }
 {
     let via = via_of(bio.context);
-    for unit in 0..bio.units as u32 {
-        let sector = sector_of(bio, ciphers, unit);
+    for number in 0..bio.units {
+        let sector = bio.sector_at(ciphers.keys(), number);
+        let unit = number as u32;
         note(entries, shards, UnitName { thread, op, unit }, sector, via)?;
     }
     Ok(())

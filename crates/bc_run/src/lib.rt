@@ -22,9 +22,8 @@ mod one_caller;
 mod read_answer;
 mod unit_access;
 
-// the keys of a script and the places of its units
+// the keys of a script, each with its cipher
 mod ciphers;
-mod places;
 
 // the law of a run
 mod laws;

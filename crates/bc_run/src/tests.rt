@@ -218,7 +218,7 @@ fn a_source_that_fails_ends_the_run(rt: HostRuntime) -> Result<(), Fail> {
 }
 
 #[test]
-fn a_sink_that_fails_holds_a_front_of_the_report(rt: HostRuntime) -> Result<(), Fail> {
+fn a_sink_that_fails_holds_a_prefix_of_the_report(rt: HostRuntime) -> Result<(), Fail> {
     let alloc = rt.alloc();
     let mut out = MemSink::new(alloc, 4096, 10, vec![in alloc; 1]?)?;
     let status = status_of(&rt, &["serial"], EMPTY_SCRIPT, 4096, &mut out)?;

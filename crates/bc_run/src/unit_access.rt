@@ -9,10 +9,9 @@ ghost use Rattle.bc_script.specs.Script.{IsText};
 ghost use Rattle.bc_script.specs.Plan.{text_at};
 ghost use Rattle.bc_medium.specs.KeyedDisk.{image_sectors, bytes_at, with_bytes, enciphered, deciphered};
 ghost use Rattle.bc_medium.specs.Outcome.{answer_text};
-ghost use Rattle.bc_run.specs.Serial.{disk_after, unit_answers, first_units, HasUnit, IsAccepted};
+ghost use Rattle.bc_run.specs.Serial.{disk_after, unit_answers, first_units, HasUnit, IsPerformable};
 
 use crate::ciphers::Ciphers;
-use crate::places::{sector_of, unit_bytes};
 use bc_base::SECTOR_BYTES;
 use bc_bio::{Context, Extent};
 use bc_script::Text;
@@ -20,20 +19,20 @@ use bc_script::Text;
 /// Writes each data unit of a bio, in order.
 pub(crate) fn write_units(image: &mut [u8], ciphers: &Ciphers, bio: &Extent, text: &Text)
     requires access { bio.now.access ≡ Access.Write }
-    requires accepted { IsAccepted ciphers.now bio.now }
+    requires performable { IsPerformable ciphers.now bio.now }
     requires on_disk { 512 * end_of ciphers.now bio.now ≤ length image.old }
     requires text { IsText ciphers.now bio.now.context bio.now.units text.now }
     ensures length { length image.new ≡ length image.old }
     ensures disk { (op : ℕ) → image_sectors image.new ≡ disk_after ciphers.now (image_sectors image.old) (first_units ciphers.now op (Op.Write bio.now.context bio.now.sector bio.now.units text.now) bio.now bio.now.units) }
 {
-    for unit in 0..bio.units as u32 {
+    for unit in 0..bio.units {
         write_unit(image, ciphers, bio, text, unit);
     }
 }
 
 /// Writes data unit number `unit` of a bio.
-fn write_unit(image: &mut [u8], ciphers: &Ciphers, bio: &Extent, text: &Text, unit: u32)
-    requires accepted { IsAccepted ciphers.now bio.now }
+fn write_unit(image: &mut [u8], ciphers: &Ciphers, bio: &Extent, text: &Text, unit: u64)
+    requires performable { IsPerformable ciphers.now bio.now }
     requires on_disk { 512 * end_of ciphers.now bio.now ≤ length image.old }
     requires text { IsText ciphers.now bio.now.context bio.now.units text.now }
     requires unit { unit < bio.now.units }
@@ -41,9 +40,9 @@ fn write_unit(image: &mut [u8], ciphers: &Ciphers, bio: &Extent, text: &Text, un
     ensures disk { image_sectors image.new ≡ with_bytes (image_sectors image.old) (bio.now.sector + unit * unit_sectors ciphers.now bio.now.context)
         (enciphered ciphers.now (context_after unit bio.now.context) (text_at text.now (512 * unit_sectors ciphers.now bio.now.context) unit)) }
 {
-    let start = SECTOR_BYTES * sector_of(bio, ciphers, unit) as usize;
-    let end = start + unit_bytes(bio, ciphers);
-    let context = bio.context_at(u64::from(unit));
+    let start = SECTOR_BYTES * bio.sector_at(ciphers.keys(), unit) as usize;
+    let end = start + bio.unit_bytes(ciphers.keys());
+    let context = bio.context_at(unit);
     put_enciphered(
         &mut image[start..end],
         ciphers,
@@ -90,30 +89,30 @@ fn copy_unit(place: &mut [u8], bytes: &[u8], unit: usize)
     place.copy_from_slice(&bytes[start..start + place.len()]);
 }
 
-/// Reads each data unit of a bio, in order, one behind the other.
+/// Reads each data unit of a bio, in order, one after the other.
 pub(crate) fn read_units(image: &[u8], ciphers: &Ciphers, bio: &Extent, room: &mut [u8])
     requires access { bio.now.access ≡ Access.Read }
-    requires accepted { IsAccepted ciphers.now bio.now }
+    requires performable { IsPerformable ciphers.now bio.now }
     requires on_disk { 512 * end_of ciphers.now bio.now ≤ length image.now }
     requires room { length room.old ≡ bio.now.units * (512 * unit_sectors ciphers.now bio.now.context) }
     ensures { (op : ℕ) → room.new ≡ flat_map answer_text (unit_answers ciphers.now (image_sectors image.now) (first_units ciphers.now op (Op.Read bio.now.context bio.now.sector bio.now.units) bio.now bio.now.units)) }
 {
-    let size = unit_bytes(bio, ciphers);
-    for unit in 0..bio.units as u32 {
+    let size = bio.unit_bytes(ciphers.keys());
+    for unit in 0..bio.units {
         let start = unit as usize * size;
         read_unit(image, ciphers, bio, unit, &mut room[start..start + size]);
     }
 }
 
 /// Reads data unit number `unit` of a bio.
-fn read_unit(image: &[u8], ciphers: &Ciphers, bio: &Extent, unit: u32, place: &mut [u8])
-    requires accepted { IsAccepted ciphers.now bio.now }
+fn read_unit(image: &[u8], ciphers: &Ciphers, bio: &Extent, unit: u64, place: &mut [u8])
+    requires performable { IsPerformable ciphers.now bio.now }
     requires on_disk { 512 * end_of ciphers.now bio.now ≤ length image.now }
     requires unit { unit < bio.now.units }
     requires length { length place.old ≡ 512 * unit_sectors ciphers.now bio.now.context }
     ensures { place.new ≡ deciphered ciphers.now (context_after unit bio.now.context) (bytes_at (image_sectors image.now) (bio.now.sector + unit * unit_sectors ciphers.now bio.now.context) (unit_sectors ciphers.now bio.now.context)) }
 {
-    let start = SECTOR_BYTES * sector_of(bio, ciphers, unit) as usize;
+    let start = SECTOR_BYTES * bio.sector_at(ciphers.keys(), unit) as usize;
     place.copy_from_slice(&image[start..start + place.len()]);
-    ciphers.decipher(bio.context_at(u64::from(unit)), place);
+    ciphers.decipher(bio.context_at(unit), place);
 }

@@ -20,7 +20,7 @@ fn main(rt: HostRuntime) -> ExitCode {
         Err(status) => status,
     };
     if status != Status::Ok {
-        // Where standard error fails too, the number of the status is all that is left to tell.
+        // Where standard error fails too, the number of the status is all that is left to say.
         let _ = eprintln!(rt; "blkcrypt: {status}");
     }
     ExitCode::from(status.code())

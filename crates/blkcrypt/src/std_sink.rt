@@ -6,7 +6,7 @@ ghost use Rattle.bc_base.specs.Outside.{HasCause};
 use bc_base::{Failed, Sink};
 use std::io::{Stdout, Write};
 
-/// Standard output, with a count of its faults. It has no buffer, so what it took is with the system. It tells no
+/// Standard output, with a count of its faults. It has no buffer, so what it took is with the system. It says no
 /// bytes: what a stream holds is nowhere stated.
 #[derive(Drop)]
 pub struct StdSink {

@@ -5,7 +5,7 @@ ghost use Rattle.std.specs.Prelude.{◌≡◌};
 use bc_base::{Failed, Source};
 use std::io::{Read, Stdin};
 
-/// Standard input, with a count of its faults. It tells no bytes: what a stream holds is nowhere stated.
+/// Standard input, with a count of its faults. It says no bytes: what a stream holds is nowhere stated.
 #[derive(Drop)]
 pub struct StdSource {
     input: Stdin,

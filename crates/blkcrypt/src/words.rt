@@ -4,7 +4,7 @@ use bc_run::Status;
 use std::env;
 use std::io::ErrorKind;
 
-/// The words behind the program's name. A word that isn't UTF-8 makes a faulty command line. No clause says which they
+/// The words after the program's name. A word that isn't UTF-8 makes a faulty command line. No clause says which they
 /// are, since the system gives them.
 pub fn words(rt: &HostRuntime) -> Result<Vec<String>, Status> {
     let all = match env::args(rt) {

@@ -5,7 +5,7 @@ use Rattle.std.specs.Prelude.{flat_map}
 use Rattle.bc_medium.specs.KeyedDisk.{image_sectors}
 use Rattle.bc_medium.specs.Outcome.{answer_text}
 use Rattle.bc_run.specs.Serial.{unit_answers, first_units}
-use Rattle.bc_run.proofs.Parts.{next_part}
+use Rattle.bc_run.proofs.EqualParts.{next_part}
 use Rattle.bc_run.proofs.Units.{read_more}
 use Rattle.bc_run.proofs.unit_access.read_units.Goals as goal
 
