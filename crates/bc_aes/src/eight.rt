@@ -4,32 +4,32 @@ ghost use Rattle.std.specs.Prelude.{◌≡◌, ℕ, ◌-◌, ◌<◌, ◌≤◌,
 ghost use Rattle.bc_aes.specs.Blocks.{EachBlock};
 ghost use Rattle.bc_aes.specs.Cipher as cipher;
 ghost use Rattle.bc_aes.specs.Slices.{slices_of, EachSlicedBlock};
-ghost use Rattle.bc_aes.specs.SlicedRounds.{EachSlicedByKey, AreRoundKeys};
+ghost use Rattle.bc_aes.specs.SlicedRounds.{raised_round, raised_last_round, raised_inv_round, raised_inv_last_round, EachSlicedByKey, AreRoundKeys};
 
 use crate::circuit::{inv_sub_bytes, sub_bytes};
 use crate::layers::{add, inv_mix_columns, inv_shift_rows, mix_columns, shift_rows};
 use crate::slices::{Slices, from_blocks, to_blocks};
 
-// SubBytes, ShiftRows, MixColumns and AddRoundKey.
+// SubBytes, ShiftRows, MixColumns and AddRoundKey. Bytes are moved before they go through the S-box, which is the same.
 #[inline(always)]
 fn round(q: Slices, key: Slices) -> Slices
-    ensures goes_on { EachSlicedByKey cipher.round (slices_of q) (slices_of key) (slices_of result) }
+    ensures goes_on { EachSlicedByKey raised_round (slices_of q) (slices_of key) (slices_of result) }
 {
-    add(mix_columns(shift_rows(sub_bytes(q))), key)
+    add(mix_columns(sub_bytes(shift_rows(q))), key)
 }
 
 // SubBytes, ShiftRows and AddRoundKey.
 #[inline(always)]
 fn last_round(q: Slices, key: Slices) -> Slices
-    ensures ends { EachSlicedByKey cipher.last_round (slices_of q) (slices_of key) (slices_of result) }
+    ensures ends { EachSlicedByKey raised_last_round (slices_of q) (slices_of key) (slices_of result) }
 {
-    add(shift_rows(sub_bytes(q)), key)
+    add(sub_bytes(shift_rows(q)), key)
 }
 
 // InvShiftRows, InvSubBytes, AddRoundKey and InvMixColumns.
 #[inline(always)]
 fn inv_round(q: Slices, key: Slices) -> Slices
-    ensures goes_on { EachSlicedByKey cipher.inv_round (slices_of q) (slices_of key) (slices_of result) }
+    ensures goes_on { EachSlicedByKey raised_inv_round (slices_of q) (slices_of key) (slices_of result) }
 {
     inv_mix_columns(add(inv_sub_bytes(inv_shift_rows(q)), key))
 }
@@ -37,7 +37,7 @@ fn inv_round(q: Slices, key: Slices) -> Slices
 // InvShiftRows, InvSubBytes and AddRoundKey.
 #[inline(always)]
 fn inv_last_round(q: Slices, key: Slices) -> Slices
-    ensures ends { EachSlicedByKey cipher.inv_last_round (slices_of q) (slices_of key) (slices_of result) }
+    ensures ends { EachSlicedByKey raised_inv_last_round (slices_of q) (slices_of key) (slices_of result) }
 {
     add(inv_sub_bytes(inv_shift_rows(q)), key)
 }

@@ -1,6 +1,6 @@
 //! The parts of a round on eight blocks in bit slices, but for the S-box.
 //!
-//! Byte r + 4c of a slice is row r, column c, so that rows and columns move as bytes of each slice.
+//! Byte 4r + c of a slice is row r, column c, so that a turn of all columns moves words of 32 bits.
 
 ghost use Rattle.std.specs.Prelude.{◌≡◌, [], ◌∷◌};
 ghost use Rattle.std.specs.Simd.Lanes.{pick_l};
@@ -14,33 +14,33 @@ use std::simd::prelude::*;
 // Each row r moves left by r columns.
 #[inline(always)]
 fn rows_shifted(slice: u8x16) -> u8x16
-    ensures { result ≡ pick_l 0 slice (0 ∷ 5 ∷ 10 ∷ 15 ∷ 4 ∷ 9 ∷ 14 ∷ 3 ∷ 8 ∷ 13 ∷ 2 ∷ 7 ∷ 12 ∷ 1 ∷ 6 ∷ 11 ∷ []) }
+    ensures { result ≡ pick_l 0 slice (0 ∷ 1 ∷ 2 ∷ 3 ∷ 5 ∷ 6 ∷ 7 ∷ 4 ∷ 10 ∷ 11 ∷ 8 ∷ 9 ∷ 15 ∷ 12 ∷ 13 ∷ 14 ∷ []) }
 {
-    slice.swizzle([0, 5, 10, 15, 4, 9, 14, 3, 8, 13, 2, 7, 12, 1, 6, 11])
+    slice.swizzle([0, 1, 2, 3, 5, 6, 7, 4, 10, 11, 8, 9, 15, 12, 13, 14])
 }
 
 // Each row r moves right by r columns.
 #[inline(always)]
 fn rows_unshifted(slice: u8x16) -> u8x16
-    ensures { result ≡ pick_l 0 slice (0 ∷ 13 ∷ 10 ∷ 7 ∷ 4 ∷ 1 ∷ 14 ∷ 11 ∷ 8 ∷ 5 ∷ 2 ∷ 15 ∷ 12 ∷ 9 ∷ 6 ∷ 3 ∷ []) }
+    ensures { result ≡ pick_l 0 slice (0 ∷ 1 ∷ 2 ∷ 3 ∷ 7 ∷ 4 ∷ 5 ∷ 6 ∷ 10 ∷ 11 ∷ 8 ∷ 9 ∷ 13 ∷ 14 ∷ 15 ∷ 12 ∷ []) }
 {
-    slice.swizzle([0, 13, 10, 7, 4, 1, 14, 11, 8, 5, 2, 15, 12, 9, 6, 3])
+    slice.swizzle([0, 1, 2, 3, 7, 4, 5, 6, 10, 11, 8, 9, 13, 14, 15, 12])
 }
 
 // Each column moves up by one row.
 #[inline(always)]
 fn columns_turned(slice: u8x16) -> u8x16
-    ensures { result ≡ pick_l 0 slice (1 ∷ 2 ∷ 3 ∷ 0 ∷ 5 ∷ 6 ∷ 7 ∷ 4 ∷ 9 ∷ 10 ∷ 11 ∷ 8 ∷ 13 ∷ 14 ∷ 15 ∷ 12 ∷ []) }
+    ensures { result ≡ pick_l 0 slice (4 ∷ 5 ∷ 6 ∷ 7 ∷ 8 ∷ 9 ∷ 10 ∷ 11 ∷ 12 ∷ 13 ∷ 14 ∷ 15 ∷ 0 ∷ 1 ∷ 2 ∷ 3 ∷ []) }
 {
-    slice.swizzle([1, 2, 3, 0, 5, 6, 7, 4, 9, 10, 11, 8, 13, 14, 15, 12])
+    slice.swizzle([4, 5, 6, 7, 8, 9, 10, 11, 12, 13, 14, 15, 0, 1, 2, 3])
 }
 
 // Each column moves up by two rows.
 #[inline(always)]
 fn columns_turned_twice(slice: u8x16) -> u8x16
-    ensures { result ≡ pick_l 0 slice (2 ∷ 3 ∷ 0 ∷ 1 ∷ 6 ∷ 7 ∷ 4 ∷ 5 ∷ 10 ∷ 11 ∷ 8 ∷ 9 ∷ 14 ∷ 15 ∷ 12 ∷ 13 ∷ []) }
+    ensures { result ≡ pick_l 0 slice (8 ∷ 9 ∷ 10 ∷ 11 ∷ 12 ∷ 13 ∷ 14 ∷ 15 ∷ 0 ∷ 1 ∷ 2 ∷ 3 ∷ 4 ∷ 5 ∷ 6 ∷ 7 ∷ []) }
 {
-    slice.swizzle([2, 3, 0, 1, 6, 7, 4, 5, 10, 11, 8, 9, 14, 15, 12, 13])
+    slice.swizzle([8, 9, 10, 11, 12, 13, 14, 15, 0, 1, 2, 3, 4, 5, 6, 7])
 }
 
 /// ShiftRows of each block (FIPS 197, 5.1.2).

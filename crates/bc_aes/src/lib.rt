@@ -1,7 +1,7 @@
 //! The block cipher AES, as FIPS 197 defines it, under keys of 16 bytes (AES-128) and of 32 bytes (AES-256).
 //!
 //! `Aes128` and `Aes256` hold an expanded key, and encipher and decipher blocks of 16 bytes in place, one at a time
-//! or a text of whole blocks at once. What each call does is said by the definitions of `specs/`, in the standard's
+//! or a text of whole blocks at once. `Aes256Enc` holds less, and enciphers single blocks. What each call does is said by the definitions of `specs/`, in the standard's
 //! names and order: the field (`Field`), the transformations of the state (`State`), the key expansion
 //! (`KeyExpansion`) and the cipher (`Cipher`). `cipher_laws` states that either direction undoes the other. `plain` is
 //! the slow program that computes as the definitions do. Nothing here allocates, waits or refuses.
@@ -13,6 +13,7 @@
 
 mod aes128;
 mod aes256;
+mod aes256_enc;
 mod blocks;
 mod circuit;
 mod columns;
@@ -28,6 +29,7 @@ mod tables;
 
 pub use aes128::Aes128;
 pub use aes256::Aes256;
+pub use aes256_enc::Aes256Enc;
 pub use laws::cipher_laws;
 
 #[cfg(test)]

@@ -25,7 +25,7 @@ pub fn key_of_round(schedule: &[u32], round: usize) -> [u32; 4]
 
 // AddRoundKey.
 #[inline(always)]
-fn added(state: [u32; 4], key: [u32; 4]) -> [u32; 4]
+pub fn added(state: [u32; 4], key: [u32; 4]) -> [u32; 4]
     ensures adds { state_bytes result ≡ add_round_key (state_bytes state) (state_bytes key) }
 {
     [

@@ -1,9 +1,9 @@
-//! Eight blocks in bit slices: bit k of byte p of slice j is bit j of byte p of block k. So one operation on a slice
-//! is that operation on one bit of each of 128 bytes.
+//! Eight blocks in bit slices, row after row: bit k of byte 4r + c of slice j is bit j of row r, column c of block k. So one
+//! operation on a slice is that operation on one bit of each of 128 bytes, and rows move as words of 32 bits.
 
 ghost use Rattle.std.specs.Prelude.{◌≡◌, ℕ, ◌*◌, ◌<◌, [], take, slice_index_or};
 ghost use Rattle.bc_aes.specs.Blocks.{block};
-ghost use Rattle.bc_aes.specs.Slices.{slices_of, block_of, AreBytes, Exchanged};
+ghost use Rattle.bc_aes.specs.Slices.{slices_of, vector_of, by_rows, block_of, AreBytes, Exchanged};
 
 use std::simd::prelude::*;
 
@@ -57,8 +57,8 @@ fn exchanged_4(a: u8x16, b: u8x16) -> (u8x16, u8x16)
 // eight vectors.
 #[inline(always)]
 fn transposed(q: Slices) -> Slices
-    ensures into_slices { (k : ℕ) → k < 8 → block_of (slices_of result) k ≡ slice_index_or (slices_of q) k [] }
-    ensures into_blocks { (k : ℕ) → k < 8 → slice_index_or (slices_of result) k [] ≡ block_of (slices_of q) k }
+    ensures into_slices { (k : ℕ) → k < 8 → vector_of (slices_of result) k ≡ slice_index_or (slices_of q) k [] }
+    ensures into_blocks { (k : ℕ) → k < 8 → slice_index_or (slices_of result) k [] ≡ vector_of (slices_of q) k }
 {
     let Slices {
         s0: a,
@@ -94,13 +94,21 @@ fn transposed(q: Slices) -> Slices
     }
 }
 
-// Block i of a piece, as a vector.
+// The bytes of a block row after row, and the other way round.
+#[inline(always)]
+pub fn by_rows(block: u8x16) -> u8x16
+    ensures { result ≡ by_rows block }
+{
+    block.swizzle([0, 4, 8, 12, 1, 5, 9, 13, 2, 6, 10, 14, 3, 7, 11, 15])
+}
+
+// Block i of a piece, as a vector of its rows.
 #[inline(always)]
 fn vector_at(piece: &[u8; 128], i: usize) -> u8x16
     requires { i < 8 }
-    ensures holds { result ≡ block piece.now i }
+    ensures holds { result ≡ by_rows (block piece.now i) }
 {
-    u8x16::from_slice(&piece[16 * i..])
+    by_rows(u8x16::from_slice(&piece[16 * i..]))
 }
 
 // Writes a vector as block i of a piece.
@@ -136,12 +144,12 @@ pub fn to_blocks(q: Slices, piece: &mut [u8; 128])
     ensures gives { (k : ℕ) → k < 8 → block piece.new k ≡ block_of (slices_of q) k }
 {
     let blocks = transposed(q);
-    put_vector(piece, 0, blocks.s0);
-    put_vector(piece, 1, blocks.s1);
-    put_vector(piece, 2, blocks.s2);
-    put_vector(piece, 3, blocks.s3);
-    put_vector(piece, 4, blocks.s4);
-    put_vector(piece, 5, blocks.s5);
-    put_vector(piece, 6, blocks.s6);
-    put_vector(piece, 7, blocks.s7);
+    put_vector(piece, 0, by_rows(blocks.s0));
+    put_vector(piece, 1, by_rows(blocks.s1));
+    put_vector(piece, 2, by_rows(blocks.s2));
+    put_vector(piece, 3, by_rows(blocks.s3));
+    put_vector(piece, 4, by_rows(blocks.s4));
+    put_vector(piece, 5, by_rows(blocks.s5));
+    put_vector(piece, 6, by_rows(blocks.s6));
+    put_vector(piece, 7, by_rows(blocks.s7));
 }

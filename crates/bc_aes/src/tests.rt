@@ -145,12 +145,24 @@ const SUBSTITUTED: [u8; 128] = [
     0x3e, 0x17, 0x50, 0x76, 0xb6, 0x1c, 0x04, 0x67, 0x8d, 0xfc, 0x22, 0x95, 0xf6, 0xa8, 0xbf, 0xc0,
 ];
 
+// The constant of the S-box is added with the round keys.
+fn with_constant(piece: &[u8; 128]) -> [u8; 128] {
+    let mut raised = *piece;
+    for i in 0..128usize {
+        raised[i] ^= 0x63;
+    }
+    raised
+}
+
 #[test]
 fn sub_bytes_in_slices(rt: HostRuntime) {
     let mut piece = [0; 128];
     to_blocks(sub_bytes(from_blocks(&STARTS)), &mut piece);
-    assert_eq!(rt; piece, SUBSTITUTED);
-    to_blocks(inv_sub_bytes(from_blocks(&SUBSTITUTED)), &mut piece);
+    assert_eq!(rt; with_constant(&piece), SUBSTITUTED);
+    to_blocks(
+        inv_sub_bytes(from_blocks(&with_constant(&SUBSTITUTED))),
+        &mut piece,
+    );
     assert_eq!(rt; piece, STARTS);
 }
 

@@ -9,7 +9,7 @@ ghost use Rattle.bc_modes.specs.Xts.{first_tweak, tweaked, xts_encipher, xts_dec
 
 use crate::piece::{PIECE, add_blocks};
 use crate::tweak::tweaks_from;
-use bc_aes::Aes256;
+use bc_aes::{Aes256, Aes256Enc};
 use bc_key::Dun;
 use std::marker::Model;
 
@@ -17,7 +17,7 @@ use std::marker::Model;
 #[derive(Drop)]
 pub(crate) struct Xts {
     data_key: Aes256,
-    tweak_key: Aes256,
+    tweak_key: Aes256Enc,
 }
 
 impl Model for Xts {
@@ -41,7 +41,7 @@ impl Xts {
         tweak_key.copy_from_slice(&raw[32..]);
         Xts {
             data_key: Aes256::new(&data_key),
-            tweak_key: Aes256::new(&tweak_key),
+            tweak_key: Aes256Enc::new(&tweak_key),
         }
     }
 
