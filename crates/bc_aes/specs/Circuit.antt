@@ -1,5 +1,5 @@
--- Circuits of exclusive-ors and ands, and those of the S-box and of its inverse. A circuit computes with whatever has
--- both: with bits, or with slices, byte by byte. The contracts of private functions speak of these; no public one does.
+-- Private: the contracts of private functions alone speak of these. Circuits of exclusive-ors and ands, and those of the S-box
+-- and of its inverse. A circuit computes with whatever has both: with bits, or with slices, byte by byte.
 use Rattle.std.specs.Prelude.{ℕ, ◌+◌, ◌%◌, min, List, [], ◌∷◌, ◌++◌, Bool, true, false, if◌then◌else◌, map, slice_index_or, replicate, bit_xor, bit_and}
 use Rattle.std.specs.Simd.Lanes.{zip2}
 

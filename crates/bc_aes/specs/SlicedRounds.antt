@@ -1,9 +1,9 @@
--- What the parts of a round do to eight blocks in bit slices, and a key's round keys in slices. The contracts of private functions
--- speak of these; no public one does.
-use Rattle.std.specs.Prelude.{◌≡◌, ℕ, zero, suc, ◌+◌, ◌%◌, ◌<◌, List, length, map, take, replicate, slice_index_or, bit_xor}
+-- Private: the contracts of private functions alone speak of these. What the parts of a round do to eight blocks in bit slices,
+-- and a key's round keys in slices.
+use Rattle.std.specs.Prelude.{◌≡◌, ℕ, zero, suc, ◌+◌, ◌-◌, ◌%◌, ◌<◌, List, length, map, take, replicate, slice_index_or, bit_xor}
 use Rattle.bc_aes.specs.Field.{product}
 use Rattle.bc_aes.specs.State.{at, state_of, sub_byte, inv_sub_byte, add_round_key}
-use Rattle.bc_aes.specs.Cipher.{round, last_round, inv_round, inv_last_round}
+use Rattle.bc_aes.specs.Cipher.{round, last_round, inv_round, inv_last_round, encipher_by, decipher_by}
 use Rattle.bc_aes.specs.KeyExpansion.{key_expansion, round_key}
 use Rattle.bc_aes.specs.Columns.{schedule_bytes, IsUnmixed}
 use Rattle.bc_aes.specs.Slices.{slices_of, block_of}
@@ -60,6 +60,14 @@ pub record EachSlicedByKey (f : List ℕ → List ℕ → List ℕ) (old key new
 pub record AreRoundKeys (schedule : List ℕ) (keys : List Slices) : Type 0 where
   pub each : (round k : ℕ) (d : Slices) → round < length keys → k < 8
       → block_of (slices_of (slice_index_or keys round d)) k ≡ key_in_slices round (round_key schedule round)
+
+-- encipherment under a schedule of as many rounds as these round keys have
+abbrev pub encipher_by_keys : List Slices → List ℕ → List ℕ → List ℕ
+encipher_by_keys keys schedule = encipher_by (length keys - 1) schedule
+
+-- decipherment under such a schedule
+abbrev pub decipher_by_keys : List Slices → List ℕ → List ℕ → List ℕ
+decipher_by_keys keys schedule = decipher_by (length keys - 1) schedule
 
 -- a key of nk words, the first words of its schedule, in the forms that the rounds take
 pub record IsExpanded (nk : ℕ) (words unmixed : List ℕ) (sliced : List Slices) : Type 0 where

@@ -1,5 +1,5 @@
--- Eight blocks of 16 bytes in bit slices, row after row: bit k of byte 4r + c of slice j is bit j of row r, column c of
--- block k. The contracts of private functions speak of these; no public one does.
+-- Private: the contracts of private functions alone speak of these. Eight blocks of 16 bytes in bit slices, row after row: bit
+-- k of byte 4r + c of slice j is bit j of row r, column c of block k.
 use Rattle.std.specs.Prelude.{◌≡◌, ℕ, ◌+◌, ◌-◌, ◌*◌, ◌/◌, ◌%◌, ◌==◌, ◌<◌, if◌then◌else◌, List, [], ◌∷◌, map, slice_index, slice_index_or}
 use Rattle.std.specs.List.{range_with_len}
 use Rattle.std.specs.Int.{bit_at}

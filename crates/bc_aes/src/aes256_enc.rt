@@ -1,6 +1,6 @@
 //! AES under keys of 32 bytes, for encipherment of single blocks alone.
 
-ghost use Rattle.std.specs.Prelude.{◌≡◌};
+ghost use Rattle.std.specs.Prelude.{◌≡◌, length};
 ghost use Rattle.bc_aes.specs.Cipher.{encipher};
 
 use crate::rounds::encrypt;
@@ -39,6 +39,7 @@ impl Aes256Enc {
     /// Enciphers one block of 16 bytes in place (FIPS 197, 5.1).
     #[inline]
     pub fn encrypt_block(&self, block: &mut [u8; 16])
+        ensures size { length self.now ≡ 32 }
         ensures enciphers { block.new ≡ encipher 8 self.now block.old }
     {
         encrypt(&self.schedule, block);

@@ -86,7 +86,7 @@ macro_rules! products {
     };
 }
 
-// The gates of the S-box, in the order of the circuit.
+/// The gates of the S-box, in the order of the circuit.
 #[inline(always)]
 fn sub_byte_gates(q: Slices) -> Slices
     ensures computes { slices_of result ≡ results_of slice_logic sub_byte_circuit (slices_of q) }
@@ -168,7 +168,7 @@ fn sub_byte_gates(q: Slices) -> Slices
     }
 }
 
-// The gates of the inverse S-box, in the order of the circuit.
+/// The gates of the inverse S-box, in the order of the circuit.
 #[inline(always)]
 fn inv_sub_byte_gates(q: Slices) -> Slices
     ensures computes { slices_of result ≡ results_of slice_logic inv_sub_byte_circuit (slices_of q) }
@@ -253,7 +253,7 @@ fn inv_sub_byte_gates(q: Slices) -> Slices
 
 /// SubBytes of eight blocks without its constant (FIPS 197, 5.1.1).
 #[inline(always)]
-pub fn sub_bytes(q: Slices) -> Slices
+pub(crate) fn sub_bytes(q: Slices) -> Slices
     ensures substitutes { EachSlicedBlock bare_sub_bytes (slices_of q) (slices_of result) }
 {
     sub_byte_gates(q)
@@ -261,7 +261,7 @@ pub fn sub_bytes(q: Slices) -> Slices
 
 /// InvSubBytes of eight blocks that the constant was added to (FIPS 197, 5.3.2).
 #[inline(always)]
-pub fn inv_sub_bytes(q: Slices) -> Slices
+pub(crate) fn inv_sub_bytes(q: Slices) -> Slices
     ensures substitutes { EachSlicedBlock bare_inv_sub_bytes (slices_of q) (slices_of result) }
 {
     inv_sub_byte_gates(q)

@@ -13,7 +13,7 @@ use crate::columns::store;
 use crate::rounds::key_of_round;
 use crate::schedule::expand;
 
-// The product with x (FIPS 197, 4.2.1).
+/// The product with x (FIPS 197, 4.2.1).
 #[tactic(auto, using(crate::proofs::FieldLemmas::reduced_lt), unfolding(crate::specs::Field::times_x))]
 fn times_x(a: u8) -> u8
     ensures doubles { result ≡ times_x a }
@@ -25,14 +25,14 @@ fn times_x(a: u8) -> u8
     }
 }
 
-// What the lowest term of a byte adds to a product.
+/// What the lowest term of a byte adds to a product.
 fn term(rest: u8, power: u8) -> u8
     ensures picks { result ≡ (if rest % 2 == 1 then power else 0) }
 {
     if rest % 2 == 1 { power } else { 0 }
 }
 
-// The product of two bytes, by eight doublings (4.2).
+/// The product of two bytes, by eight doublings (4.2).
 fn product(a: u8, b: u8) -> u8
     ensures multiplies { result ≡ product a b }
 {
@@ -47,7 +47,7 @@ fn product(a: u8, b: u8) -> u8
     sum
 }
 
-// The byte whose product with this one is 1, or 0, by search (5.1.1).
+/// The byte whose product with this one is 1, or 0, by search (5.1.1).
 fn inverse(a: u8) -> u8
     ensures inverts { result ≡ inverse a }
 {
@@ -59,7 +59,7 @@ fn inverse(a: u8) -> u8
     0
 }
 
-// Bit i of a byte.
+/// Bit i of a byte.
 fn bit(b: u8, i: u32) -> u8
     requires { i < 8 }
     ensures reads { result ≡ bit_at b i }
@@ -68,10 +68,11 @@ fn bit(b: u8, i: u32) -> u8
     (b >> i) % 2
 }
 
-// Bit i of the affine map (5.1.1).
+/// Bit i of the affine map (5.1.1).
 fn affine_bit(b: u8, i: u32) -> u8
     requires { i < 8 }
-    ensures sums { result ≡ (bit_at b i + bit_at b ((i + 4) % 8) + bit_at b ((i + 5) % 8) + bit_at b ((i + 6) % 8) + bit_at b ((i + 7) % 8) + bit_at 0x63 i) % 2 }
+    ensures sums { result ≡ (bit_at b i + bit_at b ((i + 4) % 8) + bit_at b ((i + 5) % 8)
+        + bit_at b ((i + 6) % 8) + bit_at b ((i + 7) % 8) + bit_at 0x63 i) % 2 }
     ensures below { result < 2 }
 {
     (bit(b, i)
@@ -83,7 +84,7 @@ fn affine_bit(b: u8, i: u32) -> u8
         % 2
 }
 
-// The affine map (5.1.1).
+/// The affine map (5.1.1).
 #[tactic(auto, unfolding(crate::specs::State::affine))]
 fn affine(b: u8) -> u8
     ensures maps { result ≡ affine b }
@@ -96,16 +97,17 @@ fn affine(b: u8) -> u8
     low + 16 * high
 }
 
-// Bit i of what undoes the affine map (5.3.2).
+/// Bit i of what undoes the affine map (5.3.2).
 fn inv_affine_bit(b: u8, i: u32) -> u8
     requires { i < 8 }
-    ensures sums { result ≡ (bit_at b ((i + 2) % 8) + bit_at b ((i + 5) % 8) + bit_at b ((i + 7) % 8) + bit_at 0x05 i) % 2 }
+    ensures sums { result ≡
+        (bit_at b ((i + 2) % 8) + bit_at b ((i + 5) % 8) + bit_at b ((i + 7) % 8) + bit_at 0x05 i) % 2 }
     ensures below { result < 2 }
 {
     (bit(b, (i + 2) % 8) + bit(b, (i + 5) % 8) + bit(b, (i + 7) % 8) + bit(0x05, i)) % 2
 }
 
-// What undoes the affine map (5.3.2).
+/// What undoes the affine map (5.3.2).
 #[tactic(auto, unfolding(crate::specs::State::inv_affine))]
 fn inv_affine(b: u8) -> u8
     ensures maps_back { result ≡ inv_affine b }
@@ -121,7 +123,7 @@ fn inv_affine(b: u8) -> u8
     low + 16 * high
 }
 
-// The S-box (5.1.1).
+/// The S-box (5.1.1).
 #[tactic(auto, unfolding(crate::specs::State::sub_byte))]
 fn sub_byte(b: u8) -> u8
     ensures substitutes { result ≡ sub_byte b }
@@ -129,7 +131,7 @@ fn sub_byte(b: u8) -> u8
     affine(inverse(b))
 }
 
-// The inverse S-box (5.3.2).
+/// The inverse S-box (5.3.2).
 #[tactic(auto, unfolding(crate::specs::State::inv_sub_byte))]
 fn inv_sub_byte(b: u8) -> u8
     ensures substitutes_back { result ≡ inv_sub_byte b }
@@ -137,7 +139,7 @@ fn inv_sub_byte(b: u8) -> u8
     inverse(inv_affine(b))
 }
 
-// Each byte through the S-box (5.1.1).
+/// Each byte through the S-box (5.1.1).
 #[tactic(auto, unfolding(crate::specs::State::sub_bytes))]
 fn sub_bytes(state: &mut [u8; 16])
     ensures substitutes { state.new ≡ sub_bytes state.old }
@@ -147,7 +149,7 @@ fn sub_bytes(state: &mut [u8; 16])
     }
 }
 
-// Each byte through the inverse S-box (5.3.2).
+/// Each byte through the inverse S-box (5.3.2).
 #[tactic(auto, unfolding(crate::specs::State::inv_sub_bytes))]
 fn inv_sub_bytes(state: &mut [u8; 16])
     ensures substitutes_back { state.new ≡ inv_sub_bytes state.old }
@@ -157,7 +159,7 @@ fn inv_sub_bytes(state: &mut [u8; 16])
     }
 }
 
-// Row r moves left by r columns (5.1.2).
+/// Row r moves left by r columns (5.1.2).
 #[tactic(auto, unfolding(crate::specs::State::shift_rows))]
 fn shift_rows(s: &[u8; 16]) -> [u8; 16]
     ensures shifts { result ≡ shift_rows s.now }
@@ -168,7 +170,7 @@ fn shift_rows(s: &[u8; 16]) -> [u8; 16]
     ]
 }
 
-// Row r moves right by r columns (5.3.1).
+/// Row r moves right by r columns (5.3.1).
 #[tactic(auto, unfolding(crate::specs::State::inv_shift_rows))]
 fn inv_shift_rows(s: &[u8; 16]) -> [u8; 16]
     ensures shifts_back { result ≡ inv_shift_rows s.now }
@@ -179,11 +181,12 @@ fn inv_shift_rows(s: &[u8; 16]) -> [u8; 16]
     ]
 }
 
-// Row r of a column multiplied by the circulant matrix with this first row (5.1.3).
+/// Row r of a column multiplied by the circulant matrix with this first row (5.1.3).
 #[tactic(auto, unfolding(crate::specs::State::mixed))]
 fn mixed(first_row: &[u8; 4], r: usize, x: &[u8; 4]) -> u8
     requires { r < 4 }
-    ensures mixes { result ≡ mixed first_row.now r (slice_index x.now 0) (slice_index x.now 1) (slice_index x.now 2) (slice_index x.now 3) }
+    ensures mixes { result ≡ mixed first_row.now r
+        (slice_index x.now 0) (slice_index x.now 1) (slice_index x.now 2) (slice_index x.now 3) }
 {
     product(first_row[(4 - r) % 4], x[0])
         ^ product(first_row[(5 - r) % 4], x[1])
@@ -191,9 +194,10 @@ fn mixed(first_row: &[u8; 4], r: usize, x: &[u8; 4]) -> u8
         ^ product(first_row[(7 - r) % 4], x[3])
 }
 
-// A column multiplied by that matrix.
+/// A column multiplied by that matrix.
 fn mixed_column(first_row: &[u8; 4], x: &[u8; 4]) -> [u8; 4]
-    ensures mixes { result ≡ mixed_column first_row.now (slice_index x.now 0) (slice_index x.now 1) (slice_index x.now 2) (slice_index x.now 3) }
+    ensures mixes { result ≡ mixed_column first_row.now
+        (slice_index x.now 0) (slice_index x.now 1) (slice_index x.now 2) (slice_index x.now 3) }
 {
     [
         mixed(first_row, 0, x),
@@ -203,7 +207,7 @@ fn mixed_column(first_row: &[u8; 4], x: &[u8; 4]) -> [u8; 4]
     ]
 }
 
-// Each column multiplied by that matrix (5.1.3, 5.3.3).
+/// Each column multiplied by that matrix (5.1.3, 5.3.3).
 #[tactic(auto, unfolding(crate::specs::State::mix_columns_by))]
 fn mix_columns_by(first_row: &[u8; 4], s: &[u8; 16]) -> [u8; 16]
     ensures mixes { result ≡ mix_columns_by first_row.now s.now }
@@ -217,7 +221,7 @@ fn mix_columns_by(first_row: &[u8; 4], s: &[u8; 16]) -> [u8; 16]
     ]
 }
 
-// The state plus the round key (5.1.4).
+/// The state plus the round key (5.1.4).
 #[tactic(auto, unfolding(crate::specs::State::add_round_key))]
 fn add_round_key(s: &[u8; 16], k: &[u8; 16]) -> [u8; 16]
     ensures adds { result ≡ add_round_key s.now k.now }
@@ -234,14 +238,14 @@ fn add_round_key(s: &[u8; 16], k: &[u8; 16]) -> [u8; 16]
     ]
 }
 
-// A column plus a word of the round key.
+/// A column plus a word of the round key.
 fn added_column(x: &[u8; 4], k: &[u8; 4]) -> [u8; 4]
     ensures adds { result ≡ xor_word x.now k.now }
 {
     [x[0] ^ k[0], x[1] ^ k[1], x[2] ^ k[2], x[3] ^ k[3]]
 }
 
-// One round (5.1).
+/// One round (5.1).
 #[tactic(auto, unfolding(crate::specs::Cipher::round))]
 fn round(state: &[u8; 16], key: &[u8; 16]) -> [u8; 16]
     ensures goes_on { result ≡ round state.now key.now }
@@ -254,7 +258,7 @@ fn round(state: &[u8; 16], key: &[u8; 16]) -> [u8; 16]
     )
 }
 
-// The last round (5.1).
+/// The last round (5.1).
 #[tactic(auto, unfolding(crate::specs::Cipher::last_round))]
 fn last_round(state: &[u8; 16], key: &[u8; 16]) -> [u8; 16]
     ensures ends { result ≡ last_round state.now key.now }
@@ -264,7 +268,7 @@ fn last_round(state: &[u8; 16], key: &[u8; 16]) -> [u8; 16]
     add_round_key(&shift_rows(&substituted), key)
 }
 
-// One round of the inverse (5.3).
+/// One round of the inverse (5.3).
 #[tactic(auto, unfolding(crate::specs::Cipher::inv_round))]
 fn inv_round(state: &[u8; 16], key: &[u8; 16]) -> [u8; 16]
     ensures goes_on { result ≡ inv_round state.now key.now }
@@ -274,7 +278,7 @@ fn inv_round(state: &[u8; 16], key: &[u8; 16]) -> [u8; 16]
     mix_columns_by(&[0x0e, 0x0b, 0x0d, 0x09], &add_round_key(&moved, key))
 }
 
-// The last round of the inverse (5.3).
+/// The last round of the inverse (5.3).
 #[tactic(auto, unfolding(crate::specs::Cipher::inv_last_round))]
 fn inv_last_round(state: &[u8; 16], key: &[u8; 16]) -> [u8; 16]
     ensures ends { result ≡ inv_last_round state.now key.now }
@@ -284,7 +288,7 @@ fn inv_last_round(state: &[u8; 16], key: &[u8; 16]) -> [u8; 16]
     add_round_key(&moved, key)
 }
 
-// A round key.
+/// A round key.
 fn key_of_round_bytes(schedule: &[u32], round: usize) -> [u8; 16]
     requires { 4 * round + 4 ≤ length schedule.now }
     ensures holds { result ≡ round_key (schedule_bytes schedule.now) round }
@@ -292,7 +296,7 @@ fn key_of_round_bytes(schedule: &[u32], round: usize) -> [u8; 16]
     store(key_of_round(schedule, round))
 }
 
-// The cipher under an expanded key (5.1).
+/// The cipher under an expanded key (5.1).
 fn enciphered(schedule: &[u32], block: &[u8; 16]) -> [u8; 16]
     requires { 8 ≤ length schedule.now }
     ensures enciphers { result ≡ encipher_by (length schedule.now / 4 - 1) (schedule_bytes schedule.now) block.now }
@@ -309,7 +313,7 @@ fn enciphered(schedule: &[u32], block: &[u8; 16]) -> [u8; 16]
     last_round(&state, &last_key)
 }
 
-// The inverse cipher under an expanded key (5.3).
+/// The inverse cipher under an expanded key (5.3).
 fn deciphered(schedule: &[u32], block: &[u8; 16]) -> [u8; 16]
     requires { 8 ≤ length schedule.now }
     ensures deciphers { result ≡ decipher_by (length schedule.now / 4 - 1) (schedule_bytes schedule.now) block.now }

@@ -13,7 +13,7 @@ use crate::rounds::{added, key_of_round};
 use crate::slices::{Slices, by_rows};
 use std::simd::prelude::*;
 
-// The lowest bit of each byte, in all its bits.
+/// The lowest bit of each byte, in all its bits.
 #[inline(always)]
 fn spread(bits: u8x16) -> u8x16
     ensures spreads { (p k : ℕ) → p < 16 → k < 8 → bit_at (slice_index result p) k ≡ bit_at (slice_index bits p) 0 }
@@ -21,7 +21,7 @@ fn spread(bits: u8x16) -> u8x16
     u8x16::splat(0) - (bits & u8x16::splat(1))
 }
 
-// Eight times the same vector.
+/// Eight times the same vector.
 #[inline(always)]
 fn in_all_blocks(block: u8x16) -> Slices
     ensures holds { (k : ℕ) → k < 8 → vector_of (slices_of result) k ≡ block }
@@ -38,7 +38,7 @@ fn in_all_blocks(block: u8x16) -> Slices
     }
 }
 
-// The key of a round, with the constant but for the first.
+/// The key of a round, with the constant but for the first.
 fn key_with_constant(schedule: &[u32], round: usize) -> [u32; 4]
     requires { 4 * round + 4 ≤ length schedule.now }
     ensures holds { state_bytes result ≡ key_in_slices round (round_key (schedule_bytes schedule.now) round) }
@@ -52,7 +52,7 @@ fn key_with_constant(schedule: &[u32], round: usize) -> [u32; 4]
 }
 
 /// No block at all, to fill an array with before it takes round keys.
-pub fn zeros() -> Slices {
+pub(crate) fn zeros() -> Slices {
     let zeros = u8x16::splat(0);
     Slices {
         s0: zeros,
@@ -67,7 +67,7 @@ pub fn zeros() -> Slices {
 }
 
 /// Puts the round keys of a schedule of four words a round into slices.
-pub fn slice_keys(schedule: &[u32], keys: &mut [Slices])
+pub(crate) fn slice_keys(schedule: &[u32], keys: &mut [Slices])
     requires { length schedule.now ≡ 4 * length keys.old }
     ensures slices { AreRoundKeys (schedule_bytes schedule.now) keys.new }
 {

@@ -3,7 +3,7 @@ use Rattle.bc_aes.specs.State.{add_round_key}
 use Rattle.bc_aes.specs.Cipher.{last_round}
 use Rattle.bc_aes.specs.Columns.{state_bytes}
 use Rattle.bc_aes.proofs.RoundLemmas.{state_bytes-substituted}
-use Rattle.bc_aes.proofs.rounds.final_round.Goals as goal
+use Rattle.bc_aes.proofs.rounds.last_round.Goals as goal
 
 pub returns : goal.returns
 unfolding last_round
