@@ -11,14 +11,13 @@ pub record IsText (text : List ℕ) : Type 0 where
 -- under each valid key and each number, deciphering an enciphered text gives the text back
 abbrev pub DecipheringUndoes : Type 0
 DecipheringUndoes =
-    (key : KeyData) (number : ℕ) (text : List ℕ) → IsValid key.config key.raw
-    → All (λ b. b < 256) key.raw → IsText text → dec key number (enc key number text) ≡ text
+    (key : KeyData) (number : ℕ) (text : List ℕ) → IsValid key.config key.raw → IsText text
+    → dec key number (enc key number text) ≡ text
 
 -- an enciphered text has whole blocks of bytes too
 abbrev pub EncipheringMakesTexts : Type 0
 EncipheringMakesTexts =
-    (key : KeyData) (number : ℕ) (text : List ℕ) → IsValid key.config key.raw
-    → All (λ b. b < 256) key.raw → IsText text → IsText (enc key number text)
+    (key : KeyData) (number : ℕ) (text : List ℕ) → IsValid key.config key.raw → IsText text → IsText (enc key number text)
 
 -- it is as long as it was, whatever the key and the numbers that stand in it
 abbrev pub EncipheringKeepsLength : Type 0

@@ -29,11 +29,11 @@ returns c =
     let undoes = c.cipher_laws.ensures.decipherment_undoes in
     let makes = c.cipher_laws.ensures.encipherment_makes_blocks in
     record {
-      deciphering_undoes = λ key number text valid are is.
-          undone undoes makes key.config.mode key.raw number text valid.size are is;
-      enciphering_makes_texts = λ key number text valid are is. record {
+      deciphering_undoes = λ key number text valid is.
+          undone undoes makes key.config.mode key.raw number text valid.size valid.bytes is;
+      enciphering_makes_texts = λ key number text valid is. record {
         whole_blocks = (λ i. length-encipher_unit key.config.mode key.raw number text is.whole_blocks i % 16) ∙ is.whole_blocks;
-        bytes = bytes makes undoes key.config.mode key.raw number text valid.size are is.bytes;
+        bytes = bytes makes undoes key.config.mode key.raw number text valid.size valid.bytes is.bytes;
       };
       enciphering_keeps_length = λ key number text whole. length-encipher_unit key.config.mode key.raw number text whole;
       deciphering_keeps_length = λ key number text whole. length-decipher_unit key.config.mode key.raw number text whole;
