@@ -11,7 +11,7 @@ use crate::slices::Slices;
 
 /// The bytes from this place on.
 #[inline(always)]
-fn bytes_at<const N: usize>(text: &[u8], at: usize) -> [u8; N]
+pub(crate) fn bytes_at<const N: usize>(text: &[u8], at: usize) -> [u8; N]
     requires { at + N ≤ length text.now }
     ensures holds { result ≡ slice_range text.now at (at + N) }
 {
@@ -22,7 +22,7 @@ fn bytes_at<const N: usize>(text: &[u8], at: usize) -> [u8; N]
 
 /// Writes bytes from this place on.
 #[inline(always)]
-fn put_bytes(text: &mut [u8], at: usize, bytes: &[u8])
+pub(crate) fn put_bytes(text: &mut [u8], at: usize, bytes: &[u8])
     requires { at + length bytes.now ≤ length text.old }
     ensures before { take at text.new ≡ take at text.old }
     ensures here { slice_range text.new at (at + length bytes.now) ≡ bytes.now }
