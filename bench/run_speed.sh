@@ -1,7 +1,7 @@
 #!/bin/sh
 # Measures a run of the program beside the ciphers alone, by turns, and prints the middle time of each.
 #
-#     docs/run_speed.sh [ROUNDS]        15 rounds where no number is given
+#     bench/run_speed.sh [ROUNDS]        15 rounds where no number is given
 #
 # The run has as many operations as a script may have, half of them writes and half reads, spread over the largest disk.
 # A second run has as many over a disk of one block, so that the image costs it nothing. A third run has as many data units

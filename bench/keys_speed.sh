@@ -2,7 +2,7 @@
 # Measures what many keys cost a run: the same operations over the same disk, all of them under one key, and under 4096
 # keys by turns. It runs the two by turns and prints the middle time of each, and their ratio.
 #
-#     docs/keys_speed.sh [ROUNDS]        15 rounds where no number is given
+#     bench/keys_speed.sh [ROUNDS]        15 rounds where no number is given
 #
 # Each run has as many operations as a script may have, half of them writes and half reads, over 1024 blocks. All keys
 # are AES-256-XTS keys, and with 4096 of them neighbouring operations have keys far apart. It needs `rt`, or blkcrypt

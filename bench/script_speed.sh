@@ -1,7 +1,7 @@
 #!/bin/sh
 # Measures how fast a script's text is parsed and printed, and prints the middle and the best of each.
 #
-#     docs/script_speed.sh [ROUNDS]        5 rounds where no number is given
+#     bench/script_speed.sh [ROUNDS]        5 rounds where no number is given
 #
 # The text has as many operations as a script may have, and is just below the most bytes that one may have: writes of a
 # data unit by `hex`, and behind them reads. Each round takes the best of a few times. It needs `rt` or a
