@@ -1,5 +1,5 @@
 -- The steps of the plain program's loops.
-use Rattle.std.proofs.Common.{◌≡◌, ℕ, zero, suc, ◌+◌, ◌-◌, ◌/◌, ◌%◌, ◌<◌, ◌≤◌, ◌==◌, Bool, Option, Some, List, refl, sym, ap, ap₂, ◌∙◌, arith, bit_xor, eq-eqb}
+use Rattle.std.proofs.Common.{◌≡◌, ℕ, suc, ◌+◌, ◌-◌, ◌/◌, ◌%◌, ◌<◌, ◌≤◌, ◌==◌, Bool, Option, Some, List, refl, sym, ap, ap₂, ◌∙◌, arith, bit_xor, eq-eqb}
 use Rattle.std.specs.Prelude.{find, unwrap_or, if◌then◌else◌, slice_range, take, length, ◌*◌, ◌++◌}
 use Rattle.std.proofs.lemmas.List.{take-take}
 use Rattle.std.specs.List.{range_with_len}

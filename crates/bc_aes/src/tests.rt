@@ -108,6 +108,31 @@ fn plain_vectors(rt: HostRuntime) {
     );
 }
 
+/// A block of zeros under keys of equal bytes, as Python's `cryptography` enciphers it.
+#[test]
+fn keys_of_equal_bytes(rt: HostRuntime) {
+    for (byte, short, long) in [
+        (
+            0x00,
+            0x66e94bd4ef8a2c3b884cfa59ca342b2e,
+            0xdc95c078a2408989ad48a21492842087,
+        ),
+        (
+            0xff,
+            0xa1f6258c877d5fcd8964484538bfc92c,
+            0x4bf85f1b5d54adbc307b0a048389adcb,
+        ),
+    ] {
+        let mut block = [0; 16];
+        Aes128::new(&[byte; 16]).encrypt_block(&mut block);
+        assert_eq!(rt; u128::from_be_bytes(block), short);
+        let mut block = [0; 16];
+        Aes256::new(&[byte; 32]).encrypt_block(&mut block);
+        assert_eq!(rt; u128::from_be_bytes(block), long);
+        assert_eq!(rt; block, plain::encipher(&[byte; 32], &[0; 16]));
+    }
+}
+
 /// The fast program beside the plain one.
 #[test]
 fn fast_is_plain(rt: HostRuntime) {
