@@ -115,7 +115,7 @@ fn links_of(before: &[u8; 16], piece: &[u8]) -> ([u8; PIECE], [u8; 16])
     (links, next)
 }
 
-/// Puts a block, and the piece but for its last one behind it.
+/// Puts a block, and after it the piece but for its last one.
 #[inline(always)]
 fn put_links(links: &mut [u8], before: &[u8; 16], piece: &[u8])
     requires links { length links.old ≡ 128 }

@@ -32,7 +32,8 @@ impl Model for UnitCipher {
 
     ghost use Rattle.bc_modes.specs.Schedules.{mode_of, raw_of};
 
-    ghost view = { λ cipher. record { mode = mode_of cipher.schedules; unit = cipher.unit; raw = raw_of cipher.schedules } };
+    ghost view = { λ cipher.
+        record { mode = mode_of cipher.schedules; unit = cipher.unit; raw = raw_of cipher.schedules } };
 
     ghost use Rattle.std.specs.Prelude.{◌≡◌, length};
     ghost use Rattle.bc_key.specs.KeyData.{key_size};

@@ -39,7 +39,8 @@ pub fn text(alloc: Global, writes: u32, reads: u32) -> Result<Vec<u8>, AllocErro
 
 /// Appends the line of a write of these digits.
 fn put_write(text: &mut Vec<u8>, digits: &[u8]) -> Result<(), AllocError>
-    ensures { OnOk result (text.new.items ≡ ((text.old.items ++ codes "write - 0 1 - hex ") ++ digits.now) ++ codes "\n") }
+    ensures { OnOk result (text.new.items
+        ≡ ((text.old.items ++ codes "write - 0 1 - hex ") ++ digits.now) ++ codes "\n") }
 {
     text.extend_from_slice(b"write - 0 1 - hex ")?;
     text.extend_from_slice(digits)?;
