@@ -1,0 +1,3 @@
+pub mod SlotJournal
+pub mod Programmings
+pub mod OneCaller
