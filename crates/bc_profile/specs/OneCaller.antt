@@ -1,6 +1,6 @@
 -- The journal of a device that has one caller: it takes one hold at a time and gives it back before the next use, so
 -- every slot is free when one is wanted, and the first of the idle order is programmed without skips.
-use Rattle.std.specs.Prelude.{ℕ, ◌==◌, false, List, [], ◌∷◌, ◌++◌, position, Option, is_some, unwrap_or, slice_index_or, if◌then◌else◌}
+use Rattle.std.specs.Prelude.{ℕ, ◌==◌, Bool, false, List, [], ◌∷◌, ◌++◌, position, Option, is_some, unwrap_or, slice_index_or, if◌then◌else◌}
 use Rattle.std.specs.Option.{option_map_or}
 use Rattle.bc_profile.specs.declared.event.Event.{Event}
 use Rattle.bc_profile.specs.declared.event.Event.TheVariants as events
@@ -8,9 +8,13 @@ use Rattle.bc_profile.specs.declared.uses.Use.{Use}
 use Rattle.bc_profile.specs.declared.uses.Use.TheVariants as uses
 use Rattle.bc_profile.specs.SlotJournal.{Slots, idle_order, after_events}
 
+-- this is the key
+abbrev pub is_key : ℕ → Option ℕ → Bool
+is_key key has = option_map_or (λ other. other == key) has false
+
 -- the slot that has the key
 abbrev pub slot_with : Slots → ℕ → Option ℕ
-slot_with slots key = position (λ has. option_map_or (λ other. other == key) has false) slots.keys
+slot_with slots key = position (is_key key) slots.keys
 
 -- the least recently idle slot
 abbrev pub first_idle : Slots → ℕ
