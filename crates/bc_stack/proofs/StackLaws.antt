@@ -5,10 +5,9 @@ use Rattle.std.proofs.lemmas.Bool.{eqb-true, ne_eqb}
 use Rattle.std.proofs.lemmas.Bool.Decides.{nat_tests}
 use Rattle.bc_stack.specs.declared.stack.TheConstants.{MAX_DEVICES}
 use Rattle.bc_stack.specs.declared.target.Target.{Target}
-use Rattle.bc_stack.specs.declared.stack_error.StackError.{StackError}
 use Rattle.bc_stack.specs.declared.stack_error.StackError.TheVariants.{Gap, Empty, TooMany}
 use Rattle.bc_stack.specs.Devices.{end_of_target}
-use Rattle.bc_stack.specs.Targets.{refusal_from, refusal_of, HasSlots, LieBetween, CoverAll, IsStack}
+use Rattle.bc_stack.specs.Targets.{refusal_from, refusal_of, HasSlots, LieBetween, IsStack}
 
 -- a test that refuses was not met
 not_refused : {E : Type 0} (test : Bool) (error : E) (others : Option E) → cond test (Some error) others ≡ None → (test ≡ false) × (others ≡ None)

@@ -6,7 +6,7 @@ use Rattle.std.specs.List.{list_all}
 use Rattle.bc_key.specs.declared.config.Config.{Config}
 use Rattle.bc_key.specs.declared.caps.Caps.{Caps}
 use Rattle.bc_key.specs.Support.{supports, meet_of}
-use Rattle.bc_stack.specs.declared.target.TheConstants.{BLOCK_SECTORS}
+use Rattle.bc_base.specs.declared.geometry.TheConstants.{BLOCK_SECTORS}
 use Rattle.bc_stack.specs.declared.target.Target.{Target}
 
 -- the first block after a target

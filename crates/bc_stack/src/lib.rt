@@ -10,7 +10,7 @@ mod target;
 
 pub use stack::{MAX_DEVICES, Stack};
 pub use stack_error::StackError;
-pub use target::{BLOCK_SECTORS, Target};
+pub use target::Target;
 
 #[cfg(test)]
 mod tests;

@@ -2,10 +2,8 @@
 ghost use Rattle.std.specs.Prelude.{◌≡◌};
 ghost use Rattle.bc_stack.specs.Devices.{has_sector};
 
+use bc_base::BLOCK_SECTORS;
 use bc_key::Caps;
-
-/// How many sectors of 512 bytes a block of 4096 bytes has.
-pub const BLOCK_SECTORS: u32 = 8;
 
 /// A device of a stack: the blocks that it has, its keyslots, and what it supports.
 #[derive(Clone, Copy, Debug, PartialEq, Eq)]
