@@ -1,5 +1,5 @@
 -- In CBC-ESSIV deciphering undoes enciphering.
-use Rattle.std.proofs.Common.{◌≡◌, ℕ, zero, suc, ◌+◌, ◌*◌, ◌/◌, ◌%◌, ◌<◌, ◌≤◌, ◌^◌, List, [], ◌∷◌, ◌++◌, length, drop, refl, sym, ap, ap₂, ◌∙◌, subst, arith, slice_index}
+use Rattle.std.proofs.Common.{◌≡◌, ℕ, zero, suc, ◌+◌, ◌*◌, ◌/◌, ◌%◌, ◌<◌, ◌≤◌, ◌^◌, List, [], ◌∷◌, ◌++◌, length, drop, refl, sym, ap, ap₂, ◌∙◌, arith, slice_index}
 use Rattle.std.specs.List.{flat_map, range_with_len}
 use Rattle.std.specs.Int.{w32, to_be_bytes, bytes_high_first}
 use Rattle.std.proofs.lemmas.List.{length-drop, take-append-drop, take_at, drop_at}
@@ -13,7 +13,7 @@ use Rattle.bc_key.specs.DataUnitNumber.{iv_of}
 use Rattle.bc_modes.specs.ByBlocks.{by_blocks, xor_bytes}
 use Rattle.bc_modes.specs.CbcEssiv.{chained, unchained, link, essiv, essiv_encipher, essiv_decipher}
 use Rattle.bc_modes.proofs.Blocks.{block_is, block-suc, flat_map-blocks}
-use Rattle.bc_modes.proofs.Bytes.{AreBytes, IsBytes-take, AreBytes-drop, IsBytes-xor, IsBytes-le_bytes, byte_at-lt, xor_bytes-twice}
+use Rattle.bc_modes.proofs.Bytes.{AreBytes, IsBytes-xor, IsBytes-le_bytes, byte_at-lt, xor_bytes-twice}
 use Rattle.bc_modes.proofs.Links.{chain, chained_is}
 use Rattle.bc_modes.proofs.UnitLaws.{length-by_blocks, length-chained, IsBytes-block, AreBytes-by_blocks}
 

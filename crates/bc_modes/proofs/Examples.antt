@@ -1,5 +1,5 @@
 -- Computed from the definitions: tweak-doubling (IEEE 1619, section 5.2), and the first block of vector 10 of its annex B.
-use Rattle.std.proofs.Common.{◌≡◌, ℕ, ◌*◌, ◌^◌, List, [], ◌∷◌, refl}
+use Rattle.std.proofs.Common.{◌≡◌, ℕ, ◌^◌, List, [], ◌∷◌, refl}
 use Rattle.std.specs.List.{range_with_len}
 use Rattle.bc_aes.specs.Field.{times_x, product_by, product, inverse}
 use Rattle.bc_aes.specs.State.{affine, sub_byte, sub_bytes, shift_rows, mixed, mix_columns_by, add_round_key}

@@ -15,10 +15,9 @@ mod tweak;
 
 // a key's cipher, and its laws
 mod laws;
-mod unit_cipher;
-
 #[cfg(test)]
 mod tests;
+mod unit_cipher;
 
 pub use laws::unit_laws;
 pub use unit_cipher::UnitCipher;
