@@ -15,9 +15,10 @@ mod tweak;
 
 // a key's cipher, and its laws
 mod laws;
-#[cfg(test)]
-mod tests;
 mod unit_cipher;
 
 pub use laws::unit_laws;
 pub use unit_cipher::UnitCipher;
+
+#[cfg(test)]
+mod tests;
