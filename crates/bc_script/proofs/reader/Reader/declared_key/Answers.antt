@@ -1,6 +1,6 @@
 use Rattle.std.proofs.Common.{refl, sym}
 use Rattle.bc_script.proofs.Refusals.{declared, undeclared}
-use Rattle.bc_script.proofs.reader.Reader.declared.Goals as goal
+use Rattle.bc_script.proofs.reader.Reader.declared_key.Goals as goal
 
 pub returns-in-Some : goal.returns-in-Some
 returns-in-Some c =

@@ -1,13 +1,14 @@
-//! What one line of a script says.
+//! What one line of a script states.
 
 use crate::named_key::NamedKey;
 use crate::op::Op;
 use crate::script_error::ScriptWhy;
 use std::alloc::{AllocError, AllocFailed};
+use thiserror::Error;
 
-/// What one line says.
+/// What one line states.
 #[derive(Drop)]
-pub(crate) enum Item {
+pub(crate) enum Statement {
     Version,
     /// How many blocks the disk has.
     Disk(u32),
@@ -19,17 +20,19 @@ pub(crate) enum Item {
 }
 
 /// Why a line was not read.
-#[derive(Clone, Copy, Debug, PartialEq, Eq)]
+#[derive(Clone, Copy, Debug, PartialEq, Eq, Error)]
 pub(crate) enum Unread {
     /// It fails a test.
+    #[error("{0}")]
     Bad(ScriptWhy),
     /// There was no memory.
+    #[error("out of memory")]
     Memory,
 }
 
 impl<T: Drop> From<AllocFailed<T>> for Unread {
     ghost use Rattle.std.specs.Prelude.{◌≡◌};
-    ghost use Rattle.bc_script.specs.declared.item.Unread.TheVariants as unread;
+    ghost use Rattle.bc_script.specs.declared.statement.Unread.TheVariants as unread;
 
     ghost from_gives = { λ _ e. e ≡ unread.Memory };
 
@@ -40,7 +43,7 @@ impl<T: Drop> From<AllocFailed<T>> for Unread {
 
 impl From<AllocError> for Unread {
     ghost use Rattle.std.specs.Prelude.{◌≡◌};
-    ghost use Rattle.bc_script.specs.declared.item.Unread.TheVariants as unread;
+    ghost use Rattle.bc_script.specs.declared.statement.Unread.TheVariants as unread;
 
     ghost from_gives = { λ _ e. e ≡ unread.Memory };
 
