@@ -1,6 +1,8 @@
 -- What the command `serial` carries out: the script that its text says, over an image of zeros, with one
 -- shard.
 use Rattle.std.specs.Prelude.{◌≡◌, ℕ, ◌*◌, ◌≤◌, List, [], ◌∷◌, codes, length, replicate, Some}
+use Rattle.bc_base.specs.declared.geometry.TheConstants.{BLOCK_BYTES}
+use Rattle.bc_script.specs.declared.limits.TheConstants.{MAX_TEXT}
 use Rattle.bc_script.specs.Script.{Script}
 use Rattle.bc_script.specs.declared.script_error.ScriptError.{ScriptError}
 use Rattle.bc_script.specs.ScriptText.{Says, NoScriptHas}
@@ -13,13 +15,9 @@ use Rattle.bc_run.specs.LawfulRun.{LawfulRun, IsSerial}
 abbrev pub IsCommand : List (List ℕ) → Type 0
 IsCommand words = words ≡ codes "serial" ∷ []
 
--- the most bytes of a script's text, 16 MiB
-abbrev pub script_limit : ℕ
-script_limit = 16777216
-
--- a text has no more bytes than that
+-- a text has no more bytes than a script's may have, 16 MiB
 abbrev pub IsWithinLimit : List ℕ → Type 0
-IsWithinLimit text = length text ≤ script_limit
+IsWithinLimit text = length text ≤ MAX_TEXT
 
 -- the text is this script's, within the limit
 pub record IsTextOf (text : List ℕ) (script : Script) : Type 0 where
@@ -34,7 +32,7 @@ pub record IsNoScript (error : ScriptError) (text : List ℕ) : Type 0 where
 
 -- an image of zeros, of the length that the script asks for
 abbrev pub zeros_for : Script → List ℕ
-zeros_for script = replicate (4096 * script.blocks) 0
+zeros_for script = replicate (BLOCK_BYTES * script.blocks) 0
 
 -- the report is that of a lawful run of the script over zeros, one shard, section after section
 pub record IsReportOf (script : Script) (report : Report) : Type 0 where

@@ -4,7 +4,8 @@ use Rattle.std.specs.Io.KnownBytes.{Appends}
 use Rattle.bc_base.specs.Outside.{Rose, AppendsFront}
 use Rattle.bc_run.specs.declared.status.Status.{Status}
 use Rattle.bc_run.specs.declared.status.Status.TheVariants.{Ok, Usage, BadScript, ReadFault, WriteFault, TooLong, NoMemory}
-use Rattle.bc_run.specs.Command.{IsCommand, script_limit, IsNoScript, IsCarriedOut}
+use Rattle.bc_script.specs.declared.limits.TheConstants.{MAX_TEXT}
+use Rattle.bc_run.specs.Command.{IsCommand, IsNoScript, IsCarriedOut}
 
 -- the number that the process ends with
 abbrev pub code_of : Status → ℕ
@@ -50,7 +51,7 @@ abbrev pub EndsBy : CommandRun → Status → Type 0
 EndsBy run Usage = IsCommand run.words → ⊥
 EndsBy run ReadFault = IsCommand run.words × ReadRose run
 EndsBy run (TooLong limit) =
-    IsCommand run.words × (limit ≡ script_limit) × IfSome run.text (λ text. limit < length text)
+    IsCommand run.words × (limit ≡ MAX_TEXT) × IfSome run.text (λ text. limit < length text)
 EndsBy run (BadScript e) = IsCommand run.words × IfSome run.text (IsNoScript e)
 EndsBy run WriteFault =
     IsCommand run.words × IfSome run.text (IsCarriedOut (PrefixWritten run)) × WriteRose run

@@ -9,6 +9,7 @@ use crate::entries::lines_by_shard;
 use crate::report::Report;
 use bc_base::SECTOR_BYTES;
 use bc_script::Script;
+use bc_script::limits::{MAX_BIO_SECTORS, MAX_UNITS};
 use std::alloc::{AllocError, Global};
 
 /// What [`serial`] gives back.
@@ -20,11 +21,8 @@ pub struct Finished {
     pub report: Report,
 }
 
-/// The most bytes that a bio has: 256 sectors.
-const BIO_BYTES: usize = 256 * SECTOR_BYTES;
-
-/// The most data units that a script has.
-const UNITS: usize = 65536;
+/// The most bytes that a bio has.
+const BIO_BYTES: usize = MAX_BIO_SECTORS as usize * SECTOR_BYTES;
 
 /// Carries a script out by one caller: the section of thread 0, then that of thread 1, and so on. The data units of a bio
 /// that isn't refused are performed one after the other, and a plugged bio is submitted at once.
@@ -55,7 +53,7 @@ pub fn serial(
         ciphers: Ciphers::of_keys(alloc, script.keys())?,
         shards,
         image,
-        entries: Vec::with_capacity(alloc, UNITS)?,
+        entries: Vec::with_capacity(alloc, MAX_UNITS as usize)?,
         room: vec![in alloc; 0; BIO_BYTES]?,
     };
     let answers = course.carry_out_all(alloc)?;

@@ -6,7 +6,8 @@ ghost use Rattle.std.specs.Io.KnownBytes.{Consumes, Appends, IsAtEnd, Keeps};
 ghost use Rattle.bc_base.specs.Outside.{Rose, HasCause, AppendsFront};
 ghost use Rattle.bc_script.specs.ScriptText.{Says, NoScriptHas};
 ghost use Rattle.bc_run.specs.ReportText.{report_text};
-ghost use Rattle.bc_run.specs.Command.{IsCommand, script_limit, IsTextOf, IsReportOf, zeros_for};
+ghost use Rattle.bc_script.specs.declared.limits.TheConstants.{MAX_TEXT};
+ghost use Rattle.bc_run.specs.Command.{IsCommand, IsTextOf, IsReportOf, zeros_for};
 ghost use Rattle.bc_run.specs.Statuses.{EndsBy};
 ghost use Rattle.bc_run.specs.Stages.{status_of, IsNotRead};
 ghost use Rattle.bc_script.specs.Script as specs;
@@ -16,11 +17,9 @@ use crate::report::Report;
 use crate::report_text::print;
 use crate::status::Status;
 use bc_base::{BLOCK_BYTES, ReadError, Sink, Source, read_all, write_all};
+use bc_script::limits::MAX_TEXT;
 use bc_script::{ParseError, Script, parse};
 use std::alloc::{AllocError, Global};
-
-/// The most bytes of a script's text: 16 MiB.
-const SCRIPT_LIMIT: u64 = 16777216;
 
 /// Runs the command that the words say, and returns how that ended. The words are those after the program's name.
 ///
@@ -133,19 +132,19 @@ fn command(words: &[String]) -> Result<(), Status>
 fn read_script<S: Source>(alloc: Global, source: &mut S) -> Result<Vec<u8>, Status>
     ensures all { IfOk result (λ text. Consumes (S.left source.old) (S.left source.new) text.items) }
     ensures end { OnOk result (IsAtEnd (S.left source.new)) }
-    ensures within { IfOk result (λ text. length text.items ≤ script_limit) }
+    ensures within { IfOk result (λ text. length text.items ≤ MAX_TEXT) }
     ensures statuses { IfErr result (λ status.
-        (status ≡ Status.ReadFault) ⊎ ((status ≡ Status.TooLong script_limit) ⊎ (status ≡ Status.NoMemory))) }
-    ensures too_long { result ≡ Err (Status.TooLong script_limit)
-        → IfSome (S.left source.old) (λ left. script_limit < length left) }
+        (status ≡ Status.ReadFault) ⊎ ((status ≡ Status.TooLong MAX_TEXT) ⊎ (status ≡ Status.NoMemory))) }
+    ensures too_long { result ≡ Err (Status.TooLong MAX_TEXT)
+        → IfSome (S.left source.old) (λ left. MAX_TEXT < length left) }
     ensures cause { HasCause (S.faults source.old) (S.faults source.new)
         (result ≡ Err Status.ReadFault) }
 {
-    match read_all(alloc, source, SCRIPT_LIMIT) {
+    match read_all(alloc, source, MAX_TEXT) {
         Ok(bytes) => Ok(bytes),
         Err(ReadError::Failed) => Err(Status::ReadFault),
         Err(ReadError::TooLong) => Err(Status::TooLong {
-            limit: SCRIPT_LIMIT,
+            limit: MAX_TEXT,
         }),
         Err(ReadError::Memory) => Err(Status::NoMemory),
     }

@@ -9,7 +9,7 @@ ghost use Rattle.bc_run.specs.ReportText.{refusal_word, answer_line, via_word, e
 use crate::report::{Answer, Line, Report};
 use crate::via::Via;
 use bc_bio::{BioError, Refusal};
-use itoa::Buffer;
+use bc_text::{put_hex, put_number};
 use std::alloc::{AllocError, Global};
 
 /// The one text of a report, for a file or a terminal: the head `report 1`, a part for each thread with its answers, a
@@ -150,23 +150,4 @@ fn via_word(via: Via) -> &'static [u8]
         Via::Plain => b"plain",
         Via::Soft => b"soft",
     }
-}
-
-fn put_number(text: &mut Vec<u8>, n: u64) -> Result<(), AllocError>
-    ensures { OnOk result (text.new.items ≡ text.old.items ++ decimal n) }
-{
-    let mut buffer = Buffer::new();
-    text.extend_from_slice(buffer.format(n).as_bytes())
-}
-
-#[tactic(auto, using(crate::proofs::Printing::encode_lower_more, crate::proofs::Printing::encode_lower_none))]
-fn put_hex(text: &mut Vec<u8>, bytes: &[u8]) -> Result<(), AllocError>
-    ensures { OnOk result (text.new.items ≡ text.old.items ++ encode_lower bytes.now) }
-{
-    for byte in bytes {
-        let mut pair = [0; 2];
-        hex::encode_to_slice([*byte].as_slice(), &mut pair).unwrap();
-        text.extend_from_slice(&pair)?;
-    }
-    Ok(())
 }
