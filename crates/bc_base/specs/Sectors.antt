@@ -7,8 +7,8 @@ abbrev pub Sectors : Type 0
 Sectors = ℕ → List ℕ
 
 -- the sectors of an image
-abbrev pub sectors_of : List ℕ → Sectors
-sectors_of image s = slice_range image (512 * s) (512 * s + 512)
+abbrev pub image_sectors : List ℕ → Sectors
+image_sectors image s = slice_range image (512 * s) (512 * s + 512)
 
 -- the bytes of count sectors from first on
 abbrev pub bytes_at : Sectors → ℕ → ℕ → List ℕ
