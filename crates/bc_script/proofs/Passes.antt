@@ -37,6 +37,7 @@ use Rattle.bc_script.specs.ScriptErrors.{Why, first_of, is_number, is_number_tex
 use Rattle.bc_script.specs.Progress.{Progress, IsProgress, forms_read, sections_read}
 use Rattle.bc_script.proofs.Fields.{number_in-decimal, is_number-decimal, is_number_text-number_text, bytes_in-encode_lower, is_hex_text-encode_lower}
 use Rattle.bc_script.proofs.KeyNames.{named_too}
+use Rattle.bc_script.proofs.ByteLists.{IsBytes-All}
 use Rattle.bc_script.proofs.LineFields.{IsBytes-one}
 use Rattle.bc_script.proofs.Above.{key_fields, op_form, bio_form, text_form_of, last_sort-read, keys-read, threads-read, operations-read, units-read, is_open-read, is_declared-read, is_declared-none, sectors_under-read}
 use Rattle.bc_script.proofs.LineForms.{bytes_eq-other}
@@ -139,7 +140,7 @@ not_refused named is =
     let raw = named.key.raw in
     let few = unit_le config.unit in
     let most = is.valid.most in
-    let digits : bytes_in (encode_lower raw) ≡ raw = bytes_in-encode_lower raw is.bytes in
+    let digits : bytes_in (encode_lower raw) ≡ raw = bytes_in-encode_lower raw (IsBytes-All raw is.valid.bytes) in
     let unit : number_in (decimal (bytes_of config.unit)) ≡ bytes_of config.unit = number_in-decimal (bytes_of config.unit) (omega arith) in
     let dun : number_in (decimal config.dun_bytes) ≡ config.dun_bytes = number_in-decimal config.dun_bytes (omega arith) in
     let refusal : key_refusal config.mode (bytes_in (encode_lower raw)) (number_in (decimal (bytes_of config.unit))) (number_in (decimal config.dun_bytes)) ≡ None =
@@ -159,7 +160,7 @@ key_passed p named is valid fresh room =
     let least = key_size_least named.key.config.mode in
     let most = key_size_most named.key.config.mode in
     let name : (is_name named.name && not (is_declared named.name above)) ≡ true = and_from _ _ valid.name (not_from_false _ (is_declared-none p named.name is fresh)) in
-    let digits : is_hex_text 1 128 (encode_lower named.key.raw) ≡ true = is_hex_text-encode_lower 1 128 named.key.raw valid.bytes (omega arith) (omega arith) in
+    let digits : is_hex_text 1 128 (encode_lower named.key.raw) ≡ true = is_hex_text-encode_lower 1 128 named.key.raw (IsBytes-All named.key.raw valid.valid.bytes) (omega arith) (omega arith) in
     let limit : nat_lt (count_by is_key above) max_keys ≡ true = ap (λ (n : ℕ). nat_lt n max_keys) (keys-read p is) ∙ lt-ltb (length p.keys) max_keys room in
     passed (is_name named.name && not (is_declared named.name above)) why.Name _ name
     (number_passed 0 4294967295 (bytes_of named.key.config.unit) _ (omega arith) (omega arith) (omega arith)

@@ -35,6 +35,7 @@ use Rattle.bc_script.specs.Forms.{Form, KeyForm, BioForm, TextForm, Fill, Hex, V
 use Rattle.bc_script.specs.Order.{may_follow, is_unbuilt}
 use Rattle.bc_script.specs.ScriptErrors.{Why, first_of, is_number, is_number_text, number_in, bytes_in, is_hex_text, number_test, key_refused, key_test, is_declared, sectors_under, is_open, is_key, is_thread, is_operation, units_in, op_limit, bio_limits, bio_tests, is_text, size_of, last_sort, is_end, tests_of, error_of_form, error_at}
 use Rattle.bc_script.specs.Progress.{Progress, IsProgress, lines_read, forms_read, sections_read}
+use Rattle.bc_script.proofs.ByteLists.{All-IsBytes}
 use Rattle.bc_script.proofs.Fields.{number_in-decimal, decimal-number_in, number_text-is_number_text, IsBytes-bytes_in, encode_lower-bytes_in}
 use Rattle.bc_script.specs.Statements.{form_line, DashesAgree}
 use Rattle.bc_script.proofs.FormLines.{IsLineOf-form_of}
@@ -176,8 +177,7 @@ key_taken p key is follows e =
     let named : NamedKey = record { name = key.name; key = record { config = record { mode = key.mode; unit = made.unit; dun_bytes = number_in key.dun_bytes }; raw = bytes_in key.digits } } in
     let valid : IsNamedKey named = record {
       name = name.0;
-      valid = record { size = made.raw_size; least = made.least; most = made.most; halves = made.halves };
-      bytes = IsBytes-bytes_in key.digits;
+      valid = record { size = made.raw_size; bytes = All-IsBytes (bytes_in key.digits) (IsBytes-bytes_in key.digits); least = made.least; most = made.most; halves = made.halves };
     } in
     let unit_is : key.unit ≡ decimal (bytes_of made.unit) = unit.0 ∙ ap decimal (sym made.unit_is) in
     let line : key_line named ≡ form_line (Key key) = λ i. form_line (Key (record { name = key.name; mode = key.mode; unit = sym unit_is i; dun_bytes = sym dun.0 i; digits = sym digits.0 i })) in

@@ -95,7 +95,6 @@ IsDiskSize n = (1 ≤ n) × (n ≤ max_blocks)
 pub record IsNamedKey (named : NamedKey) : Type 0 where
   pub name : IsTrue (is_name named.name)
   pub valid : IsValid named.key.config named.key.raw
-  pub bytes : IsBytes named.key.raw
 
 -- few enough keys, of which no two have one name
 pub record AreKeys (keys : List NamedKey) : Type 0 where
