@@ -13,9 +13,9 @@ use Rattle.bc_run.specs.declared.report.Answer.{Answer}
 use Rattle.bc_run.specs.declared.report.Line.{Line}
 use Rattle.bc_run.specs.declared.entries.Entry.{Entry}
 use Rattle.bc_script.specs.Script.{Script, IsScript, keys_of, units_of as count_of, units_of_section as count_of_section}
-use Rattle.bc_run.specs.Bios.{bio_of}
-use Rattle.bc_run.specs.Plan.{unit_at, units_of, units_of_section}
-use Rattle.bc_run.specs.KeyedDisk.{Sectors}
+use Rattle.bc_script.specs.Bios.{bio_of}
+use Rattle.bc_script.specs.Plan.{unit_at, units_of, units_of_section}
+use Rattle.bc_medium.specs.KeyedDisk.{Sectors}
 use Rattle.bc_run.specs.Report.{IsReport}
 use Rattle.bc_run.specs.Serial.{disk_after, section_answers, entry_of, entries_in, lines_on, shard_lines}
 use Rattle.bc_run.proofs.Names.{all_map, all_every, by_bio}

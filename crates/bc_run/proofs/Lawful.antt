@@ -12,23 +12,23 @@ use Rattle.std.proofs.lemmas.List.Elements.{All-from_recursion}
 use Rattle.bc_key.specs.KeyData.{KeyData}
 use Rattle.bc_bio.specs.declared.context.Context.{Context}
 use Rattle.bc_bio.specs.PlannedUnit.{PlannedUnit}
-use Rattle.bc_run.specs.declared.orders.UnitName.{UnitName}
+use Rattle.bc_medium.specs.declared.unit_name.UnitName.{UnitName}
 use Rattle.bc_run.specs.declared.report.Line.{Line}
 use Rattle.bc_run.specs.declared.entries.Entry.{Entry}
 use Rattle.bc_script.specs.Script.{Script, IsScript, keys_of}
-use Rattle.bc_run.specs.Way.{way_of}
-use Rattle.bc_run.specs.Plan.{plan_of, units_of_section}
-use Rattle.bc_run.specs.Places.{shard_of}
-use Rattle.bc_run.specs.KeyedDisk.{Sectors, UnitAnswer, sectors_of, bytes_at, answers_along}
-use Rattle.bc_run.specs.LawfulOrders.{LawfulOrders, is_same, attempted_on}
-use Rattle.bc_run.specs.Outcome.{Run, planned, units_on, disk_of, answers_on, answers_of, unit_answer, fault_of, final_image, is_fault, is_unit_of}
+use Rattle.bc_script.specs.Way.{way_of}
+use Rattle.bc_script.specs.Plan.{plan_of, units_of_section}
+use Rattle.bc_medium.specs.Places.{shard_of}
+use Rattle.bc_medium.specs.KeyedDisk.{Sectors, UnitAnswer, image_sectors, bytes_at, answers_along}
+use Rattle.bc_medium.specs.LawfulOrders.{LawfulOrders, is_same, attempted_on}
+use Rattle.bc_medium.specs.Outcome.{Run, planned, units_on, disk_of, answers_on, answers_of, unit_answer, fault_of, final_image, is_fault, is_unit_of}
 use Rattle.bc_run.specs.Report.{Report}
 use Rattle.bc_run.specs.RunOf.{orders_of, run_of}
 use Rattle.bc_run.specs.Answers.{HasAnswers}
 use Rattle.bc_run.specs.Ways.{HasWay, HaveWays, way_in}
 use Rattle.bc_run.specs.LawfulRun.{LawfulRun, IsSerial}
 use Rattle.bc_run.specs.Serial.{disk_after, section_answers, serial_units, via_of, entries_in, lines_on, shard_lines}
-use Rattle.bc_run.proofs.Image.{image_of-sectors_of}
+use Rattle.bc_run.proofs.Image.{image_of-image_sectors}
 use Rattle.bc_run.proofs.Steps.{Step, name, lies_on, steps_from, steps_on, order_on, filter-map, map-map, lawful_orders, section_after_section, one_for_each, order_at}
 use Rattle.bc_run.proofs.Names.{Apart, all_of, all_every, all_map, apart_section, apart_steps, finds_steps}
 use Rattle.bc_run.proofs.Traces.{IsPlaced, trace, along_is, zip_is, own_disk, own_answer, no_answer, no_fault, find_only, find_nowhere}
@@ -54,10 +54,10 @@ all_back P f (x ∷ xs) all = (all.0, all_back P f xs all.1)
 -- what a report and an image tell of the units of a script, one after the other
 pub record TellsAll (script : Script) (shards : ℕ) (image : List ℕ) (report : Report) (entries : List Entry) (left : List ℕ) : Type 0 where
   pub long : length left ≡ length image
-  pub left_is : sectors_of left ≡ disk_after (keys_of script) (sectors_of image) (serial_units script script.threads)
+  pub left_is : image_sectors left ≡ disk_after (keys_of script) (image_sectors image) (serial_units script script.threads)
   pub entries_are : entries ≡ flat_map (entries_in script shards) (enumerate_from 0 script.threads)
   pub lines_are : report.shards ≡ shard_lines shards entries
-  pub answers_are : report.threads ≡ section_answers script (sectors_of image) script.threads
+  pub answers_are : report.threads ≡ section_answers script (image_sectors image) script.threads
 
 module _ (script : Script) (rules : IsScript script) (shards : ℕ) (some : 1 ≤ shards) (image : List ℕ) (whole : length image ≡ 4096 * script.blocks)
     (report : Report) (entries : List Entry) (left : List ℕ) (tells_all : TellsAll script shards image report entries left) where
@@ -71,7 +71,7 @@ module _ (script : Script) (rules : IsScript script) (shards : ℕ) (some : 1 �
   steps = steps_from 0 plan
 
   abbrev first : Sectors
-  first = sectors_of image
+  first = image_sectors image
 
   -- the run without faults, which is the script's
   abbrev run : Run
@@ -122,7 +122,7 @@ module _ (script : Script) (rules : IsScript script) (shards : ℕ) (some : 1 �
   shard_within : (s : ℕ) → shard_of shards s < shards
   shard_within s = mod_below (s / 8) shards (omega arith)
 
-  sector_left : (s : ℕ) → sectors_of left s ≡ disk_of run (shard_of (length (orders_of report)) s) s
+  sector_left : (s : ℕ) → image_sectors left s ≡ disk_of run (shard_of (length (orders_of report)) s) s
   sector_left s =
       let shard = shard_of shards s in
       let own : map (λ (step : Step). step.1) (steps_on shards shard steps) ≡ filter (lies_on shards shard) (serial_units script script.threads) =
@@ -137,7 +137,7 @@ module _ (script : Script) (rules : IsScript script) (shards : ℕ) (some : 1 �
   image_left =
       let n = length image / 512 in
       let long : length left ≡ 512 * n = let h = tells_all.long in omega arith in
-      sym (image_of-sectors_of left n long)
+      sym (image_of-image_sectors left n long)
       ∙ (λ i. bytes_at (λ s. sector_left s i) 0 n)
 
   -- ---- the ways

@@ -11,10 +11,10 @@ use Rattle.bc_key.specs.KeyData.{KeyData}
 use Rattle.bc_script.specs.declared.op.Op.{Op}
 use Rattle.bc_script.specs.declared.op.Op.TheVariants as ops
 use Rattle.bc_script.specs.Script.{Script, keys_of}
-use Rattle.bc_run.specs.Bios.{bio_of, refusal_of}
-use Rattle.bc_run.specs.Plan.{unit_at, units_of, units_of_bio, units_of_section}
-use Rattle.bc_run.specs.LawfulOrders.{name_of, is_same}
-use Rattle.bc_run.specs.Outcome.{is_named}
+use Rattle.bc_script.specs.Bios.{bio_of, refusal_of}
+use Rattle.bc_script.specs.Plan.{unit_at, units_of, units_of_bio, units_of_section}
+use Rattle.bc_medium.specs.LawfulOrders.{name_of, is_same}
+use Rattle.bc_medium.specs.Outcome.{is_named}
 use Rattle.bc_run.proofs.Steps.{Step, name, steps_of, steps_from}
 
 -- ---- facts of each element

@@ -25,9 +25,9 @@ use Rattle.bc_script.specs.declared.named_key.NamedKey.{NamedKey}
 use Rattle.bc_script.specs.declared.op.Text.{Text}
 use Rattle.bc_script.specs.declared.op.Text.TheVariants.{Fill, Bytes}
 use Rattle.bc_script.specs.Script.{Script, IsScript, IsNamedKey, IsText, IsOp, IsSection, keys_of, sectors_in}
-use Rattle.bc_run.specs.Bios.{bio_of, refusal_of}
-use Rattle.bc_run.specs.Plan.{text_at, unit_at, units_of, units_of_section, written_at}
-use Rattle.bc_run.specs.KeyedDisk.{enciphered}
+use Rattle.bc_script.specs.Bios.{bio_of, refusal_of}
+use Rattle.bc_script.specs.Plan.{text_at, unit_at, units_of, units_of_section, written_at}
+use Rattle.bc_medium.specs.KeyedDisk.{enciphered}
 use Rattle.bc_run.specs.Serial.{serial_units}
 use Rattle.bc_run.proofs.Parts.{part_within, length-part, all_within}
 use Rattle.bc_run.proofs.UnitLength.{length-enc}

@@ -10,8 +10,8 @@ use Rattle.bc_script.specs.declared.op.Op.{Op}
 use Rattle.bc_run.specs.declared.report.Answer.{Answer}
 use Rattle.bc_run.specs.declared.entries.Entry.{Entry}
 use Rattle.bc_script.specs.Script.{Script, keys_of}
-use Rattle.bc_run.specs.Plan.{units_of, units_of_section}
-use Rattle.bc_run.specs.KeyedDisk.{Sectors, accessed}
+use Rattle.bc_script.specs.Plan.{units_of, units_of_section}
+use Rattle.bc_medium.specs.KeyedDisk.{Sectors, accessed}
 use Rattle.bc_run.specs.Serial.{disk_after, answer_over, answers_over, section_answers, serial_units, entry_of, entries_in}
 
 -- units one after the other

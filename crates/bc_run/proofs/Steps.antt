@@ -8,9 +8,9 @@ use Rattle.std.proofs.lemmas.List.{map-append, get_or_past}
 use Rattle.std.proofs.lemmas.List.Elements.{filter-append}
 use Rattle.std.proofs.lemmas.List.FromFn.{get_or-map-range_with_len, length-map-range_with_len}
 use Rattle.bc_bio.specs.PlannedUnit.{PlannedUnit}
-use Rattle.bc_run.specs.declared.orders.UnitName.{UnitName}
-use Rattle.bc_run.specs.LawfulOrders.{name_of, is_attempted, attempted_on, entries_of, LawfulOrders}
-use Rattle.bc_run.specs.Places.{shard_of}
+use Rattle.bc_medium.specs.declared.unit_name.UnitName.{UnitName}
+use Rattle.bc_medium.specs.LawfulOrders.{name_of, is_attempted, attempted_on, entries_of, LawfulOrders}
+use Rattle.bc_medium.specs.Places.{shard_of}
 
 -- ---- filters
 

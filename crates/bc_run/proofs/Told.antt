@@ -12,15 +12,15 @@ use Rattle.bc_bio.specs.declared.extent.Extent.{Extent}
 use Rattle.bc_bio.specs.PlannedUnit.{PlannedUnit}
 use Rattle.bc_script.specs.declared.op.Op.{Op}
 use Rattle.bc_script.specs.declared.op.Op.TheVariants as ops
-use Rattle.bc_run.specs.declared.orders.UnitName.{UnitName}
+use Rattle.bc_medium.specs.declared.unit_name.UnitName.{UnitName}
 use Rattle.bc_run.specs.declared.report.Answer.TheVariants as answers
 use Rattle.bc_run.specs.declared.entries.Entry.{Entry}
 use Rattle.bc_script.specs.Script.{Script, keys_of}
-use Rattle.bc_run.specs.Bios.{refusal_of}
-use Rattle.bc_run.specs.Plan.{units_of, units_of_bio, units_of_section}
-use Rattle.bc_run.specs.KeyedDisk.{Sectors, UnitAnswer, accessed}
-use Rattle.bc_run.specs.LawfulOrders.{name_of, is_same}
-use Rattle.bc_run.specs.Outcome.{Run, unit_answer, answered, fault_of, bio_answer, without_fault, Fault}
+use Rattle.bc_script.specs.Bios.{refusal_of}
+use Rattle.bc_script.specs.Plan.{units_of, units_of_bio, units_of_section}
+use Rattle.bc_medium.specs.KeyedDisk.{Sectors, UnitAnswer, accessed}
+use Rattle.bc_medium.specs.LawfulOrders.{name_of, is_same}
+use Rattle.bc_medium.specs.Outcome.{Run, unit_answer, answered, fault_of, bio_answer, without_fault, Fault}
 use Rattle.bc_run.specs.Answers.{IsAnswer, AreAnswers, told}
 use Rattle.bc_run.specs.Serial.{disk_after, unit_answers, answer_over, answers_over, section_answers, serial_units, entry_of, entries_in, lines_on}
 use Rattle.bc_run.proofs.Steps.{Step, name, steps_of, steps_from, steps_on, filter-map, map-map}

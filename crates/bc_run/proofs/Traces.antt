@@ -12,11 +12,11 @@ use Rattle.bc_bio.specs.declared.access.Access.{Access}
 use Rattle.bc_bio.specs.declared.access.Access.TheVariants.{Read, Write}
 use Rattle.bc_bio.specs.Extent.{unit_sectors}
 use Rattle.bc_bio.specs.PlannedUnit.{PlannedUnit}
-use Rattle.bc_run.specs.declared.orders.UnitName.{UnitName}
-use Rattle.bc_run.specs.LawfulOrders.{is_same}
-use Rattle.bc_run.specs.Places.{shard_of}
-use Rattle.bc_run.specs.KeyedDisk.{Sectors, UnitAnswer, Text, bytes_at, with_bytes, enciphered, deciphered, accessed, disk_along, answers_along}
-use Rattle.bc_run.specs.Outcome.{is_fault, is_unit_of}
+use Rattle.bc_medium.specs.declared.unit_name.UnitName.{UnitName}
+use Rattle.bc_medium.specs.LawfulOrders.{is_same}
+use Rattle.bc_medium.specs.Places.{shard_of}
+use Rattle.bc_medium.specs.KeyedDisk.{Sectors, UnitAnswer, Text, bytes_at, with_bytes, enciphered, deciphered, accessed, disk_along, answers_along}
+use Rattle.bc_medium.specs.Outcome.{is_fault, is_unit_of}
 use Rattle.bc_run.specs.Serial.{disk_after}
 use Rattle.bc_run.proofs.Steps.{Step, name, lies_on, steps_on}
 

@@ -17,10 +17,10 @@ use Rattle.bc_script.specs.declared.op.Op.{Op}
 use Rattle.bc_run.specs.declared.entries.Entry.{Entry}
 use Rattle.bc_run.specs.declared.via.Via.{Via}
 use Rattle.bc_script.specs.Script.{Script, keys_of}
-use Rattle.bc_run.specs.Plan.{unit_at, units_of_bio}
-use Rattle.bc_run.specs.Places.{shard_of}
-use Rattle.bc_run.specs.KeyedDisk.{Sectors, UnitAnswer, Text, bytes_at, deciphered, accessed}
-use Rattle.bc_run.specs.Outcome.{text_of}
+use Rattle.bc_script.specs.Plan.{unit_at, units_of_bio}
+use Rattle.bc_medium.specs.Places.{shard_of}
+use Rattle.bc_medium.specs.KeyedDisk.{Sectors, UnitAnswer, Text, bytes_at, deciphered, accessed}
+use Rattle.bc_medium.specs.Outcome.{answer_text}
 use Rattle.bc_run.specs.Serial.{disk_after, unit_answers, first_units, via_of, entry_of}
 use Rattle.bc_run.proofs.Names.{accepted_or}
 use Rattle.bc_run.proofs.Sections.{disk_after-append}
@@ -87,8 +87,8 @@ module _ (keys : List KeyData) (op : ℕ) (operation : Op) (bio : Extent) where
 
     -- one unit more answers what stands at its sectors, deciphered
     pub read_more : (disk : Sectors) (n : ℕ)
-        → flat_map text_of (unit_answers keys disk (first_units keys op operation bio (n + 1)))
-        ≡ flat_map text_of (unit_answers keys disk (first_units keys op operation bio n))
+        → flat_map answer_text (unit_answers keys disk (first_units keys op operation bio (n + 1)))
+        ≡ flat_map answer_text (unit_answers keys disk (first_units keys op operation bio n))
         ++ deciphered keys (context_after n bio.context) (bytes_at disk (bio.sector + n * unit_sectors keys bio.context) (unit_sectors keys bio.context))
     read_more disk n =
         let units = first_units keys op operation bio n in
@@ -98,10 +98,10 @@ module _ (keys : List KeyData) (op : ℕ) (operation : Op) (bio : Extent) where
         ap (λ (act : Access). (accessed act keys (disk_after keys disk units) u).answer) reads
         ∙ ap (λ (d : Sectors). (accessed Read keys d u).answer) (read_leaves disk 0 n)
         ∙ ap (λ (count : ℕ). Text (raw count)) (sectors_after keys bio.context n) in
-        ap (flat_map text_of) (answers_more disk n)
-        ∙ flat_map-append text_of (unit_answers keys disk units) ((accessed bio.access keys (disk_after keys disk units) u).answer ∷ [])
-        ∙ ap (λ (answer : UnitAnswer). flat_map text_of (unit_answers keys disk units) ++ (text_of answer ++ [])) last
-        ∙ ap (λ (l : List ℕ). flat_map text_of (unit_answers keys disk units) ++ l) (append-nil (raw (unit_sectors keys bio.context)))
+        ap (flat_map answer_text) (answers_more disk n)
+        ∙ flat_map-append answer_text (unit_answers keys disk units) ((accessed bio.access keys (disk_after keys disk units) u).answer ∷ [])
+        ∙ ap (λ (answer : UnitAnswer). flat_map answer_text (unit_answers keys disk units) ++ (answer_text answer ++ [])) last
+        ∙ ap (λ (l : List ℕ). flat_map answer_text (unit_answers keys disk units) ++ l) (append-nil (raw (unit_sectors keys bio.context)))
 
 -- a bio that reads leaves the disk as it was, accepted or not
 pub read_bio_leaves : (script : Script) (op : ℕ) (operation : Op) (bio : Extent) → bio.access ≡ Read → (disk : Sectors)

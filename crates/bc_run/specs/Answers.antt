@@ -4,11 +4,11 @@ use Rattle.std.specs.List.{list_all, enumerate_from, AllZip}
 use Rattle.std.specs.Option.{option_map_or}
 use Rattle.sha2.specs.Sha256.{sha256}
 use Rattle.bc_bio.specs.declared.extent.Extent.{Extent}
-use Rattle.bc_run.specs.Outcome.{Run, BioAnswer, Wrote, Bytes, Fault, bio_answer}
+use Rattle.bc_medium.specs.Outcome.{Run, BioAnswer, Wrote, Bytes, Fault, bio_answer}
 use Rattle.bc_script.specs.declared.op.Op.{Op}
 use Rattle.bc_script.specs.declared.op.Op.TheVariants as ops
 use Rattle.bc_script.specs.Script.{Script}
-use Rattle.bc_run.specs.Bios.{bio_of, refusal_of}
+use Rattle.bc_script.specs.Bios.{bio_of, refusal_of}
 use Rattle.bc_run.specs.declared.report.Answer.{Answer}
 use Rattle.bc_run.specs.declared.report.Answer.TheVariants as answers
 

@@ -1,11 +1,11 @@
 -- A lawful run of a script from an image, with a number of shards: what a report and a final image must meet.
 use Rattle.std.specs.Prelude.{◌≡◌, ℕ, List, map, flat_map, length}
 use Rattle.std.specs.List.{range_with_len}
-use Rattle.bc_run.specs.declared.orders.UnitName.{UnitName}
-use Rattle.bc_run.specs.LawfulOrders.{LawfulOrders, attempted_on}
-use Rattle.bc_run.specs.Outcome.{final_image}
+use Rattle.bc_medium.specs.declared.unit_name.UnitName.{UnitName}
+use Rattle.bc_medium.specs.LawfulOrders.{LawfulOrders, attempted_on}
+use Rattle.bc_medium.specs.Outcome.{final_image}
 use Rattle.bc_script.specs.Script.{Script}
-use Rattle.bc_run.specs.Plan.{plan_of}
+use Rattle.bc_script.specs.Plan.{plan_of}
 use Rattle.bc_run.specs.RunOf.{orders_of, faults_of, run_of}
 use Rattle.bc_run.specs.Answers.{HasAnswers}
 use Rattle.bc_run.specs.Ways.{HaveWays}

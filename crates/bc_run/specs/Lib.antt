@@ -1,10 +1,3 @@
-pub mod Bios
-pub mod Way
-pub mod Plan
-pub mod Places
-pub mod KeyedDisk
-pub mod LawfulOrders
-pub mod Outcome
 pub mod Report
 pub mod ReportText
 pub mod RunOf

@@ -1,9 +1,9 @@
 -- The run of the keyed disk that a report tells of.
 use Rattle.std.specs.Prelude.{ℕ, List, map}
-use Rattle.bc_run.specs.declared.orders.UnitName.{UnitName}
-use Rattle.bc_run.specs.Outcome.{Run}
+use Rattle.bc_medium.specs.declared.unit_name.UnitName.{UnitName}
+use Rattle.bc_medium.specs.Outcome.{Run}
 use Rattle.bc_script.specs.Script.{Script, keys_of}
-use Rattle.bc_run.specs.Plan.{plan_of}
+use Rattle.bc_script.specs.Plan.{plan_of}
 use Rattle.bc_run.specs.Report.{Report}
 
 -- the orders that a report lists

@@ -21,12 +21,12 @@ use Rattle.bc_run.specs.declared.report.Answer.TheVariants as answers
 use Rattle.bc_run.specs.declared.report.Line.{Line}
 use Rattle.bc_run.specs.declared.entries.Entry.{Entry}
 use Rattle.bc_script.specs.Script.{Script, IsScript, keys_of}
-use Rattle.bc_run.specs.Bios.{bio_of, refusal_of}
-use Rattle.bc_run.specs.Plan.{unit_at, units_of, units_of_bio, units_of_section}
-use Rattle.bc_run.specs.Places.{shard_of}
-use Rattle.bc_run.specs.KeyedDisk.{Sectors, UnitAnswer, accessed}
-use Rattle.bc_run.specs.LawfulOrders.{name_of}
-use Rattle.bc_run.specs.Outcome.{without_fault}
+use Rattle.bc_script.specs.Bios.{bio_of, refusal_of}
+use Rattle.bc_script.specs.Plan.{unit_at, units_of, units_of_bio, units_of_section}
+use Rattle.bc_medium.specs.Places.{shard_of}
+use Rattle.bc_medium.specs.KeyedDisk.{Sectors, UnitAnswer, accessed}
+use Rattle.bc_medium.specs.LawfulOrders.{name_of}
+use Rattle.bc_medium.specs.Outcome.{without_fault}
 use Rattle.bc_run.specs.Answers.{told}
 
 -- the disk after these units

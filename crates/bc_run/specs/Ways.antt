@@ -2,8 +2,8 @@
 use Rattle.std.specs.Prelude.{◌≡◌, List, IsSomeAnd, All}
 use Rattle.bc_run.specs.declared.via.Via.{Via}
 use Rattle.bc_run.specs.declared.via.Via.TheVariants as vias
-use Rattle.bc_run.specs.Outcome.{Run, planned}
-use Rattle.bc_run.specs.Way.{Way, plain, soft, way_of}
+use Rattle.bc_medium.specs.Outcome.{Run, planned}
+use Rattle.bc_script.specs.Way.{Way, plain, soft, way_of}
 use Rattle.bc_run.specs.declared.report.Line.{Line}
 
 -- the way that an entry tells

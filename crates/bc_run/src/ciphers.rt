@@ -7,7 +7,7 @@ ghost use Rattle.bc_modes.specs.UnitCipher.{parts_of};
 ghost use Rattle.bc_bio.specs.Extent.{unit_sectors};
 ghost use Rattle.bc_bio.specs.Conditions.{HasKey};
 ghost use Rattle.bc_script.specs.Script.{bare_keys};
-ghost use Rattle.bc_run.specs.KeyedDisk.{enciphered, deciphered};
+ghost use Rattle.bc_medium.specs.KeyedDisk.{enciphered, deciphered};
 
 use bc_bio::Context;
 use bc_key::{KeyNo, Keys};

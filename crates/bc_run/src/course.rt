@@ -8,10 +8,10 @@ ghost use Rattle.bc_bio.specs.Conditions.{HasKey};
 ghost use Rattle.bc_bio.specs.BioUnits.{context_wrapped};
 ghost use Rattle.bc_script.specs.declared.op.Op.{Op};
 ghost use Rattle.bc_script.specs.Script.{keys_of, IsOp, IsSection};
-ghost use Rattle.bc_run.specs.Bios.{refusal_of};
-ghost use Rattle.bc_run.specs.Plan.{units_of, units_of_bio, units_of_section};
-ghost use Rattle.bc_run.specs.KeyedDisk.{sectors_of};
-ghost use Rattle.bc_run.specs.Outcome.{text_of};
+ghost use Rattle.bc_script.specs.Bios.{refusal_of};
+ghost use Rattle.bc_script.specs.Plan.{units_of, units_of_bio, units_of_section};
+ghost use Rattle.bc_medium.specs.KeyedDisk.{image_sectors};
+ghost use Rattle.bc_medium.specs.Outcome.{answer_text};
 ghost use Rattle.bc_run.specs.Answers.{read_answer};
 ghost use Rattle.bc_run.specs.Serial.{disk_after, unit_answers, first_units, IsAccepted, bio_answer_over, answer_over, answers_over, section_answers, serial_units, entry_of, entries_in, IsUnderway};
 
@@ -62,7 +62,7 @@ fn read_bio(image: &[u8], ciphers: &Ciphers, bio: &Extent, room: &mut [u8]) -> A
     requires on_disk { 512 * end_of ciphers.now bio.now ≤ length image.now }
     requires room { bio.now.units * (512 * unit_sectors ciphers.now bio.now.context) ≤ length room.old }
     ensures room { length room.new ≡ length room.old }
-    ensures answer { (op : ℕ) → result ≡ read_answer (flat_map text_of (unit_answers ciphers.now (sectors_of image.now) (first_units ciphers.now op (Op.Read bio.now.context bio.now.sector bio.now.units) bio.now bio.now.units))) }
+    ensures answer { (op : ℕ) → result ≡ read_answer (flat_map answer_text (unit_answers ciphers.now (image_sectors image.now) (first_units ciphers.now op (Op.Read bio.now.context bio.now.sector bio.now.units) bio.now bio.now.units))) }
 {
     let length = bio.units as usize * unit_bytes(bio, ciphers);
     read_units(image, ciphers, bio, &mut room[..length]);
@@ -77,9 +77,9 @@ impl Course<'_> {
         ensures underway { OnOk result (IsUnderway self.new.script.now self.new.ciphers self.new.shards self.new.image.items self.new.room.items) }
         ensures script { OnOk result (self.new.script.now ≡ self.old.script.now) }
         ensures shards { OnOk result (self.new.shards ≡ self.old.shards) }
-        ensures disk { OnOk result (sectors_of self.new.image.items ≡ disk_after (keys_of self.old.script.now) (sectors_of self.old.image.items) (units_of self.old.script.now (op, operation.now))) }
+        ensures disk { OnOk result (image_sectors self.new.image.items ≡ disk_after (keys_of self.old.script.now) (image_sectors self.old.image.items) (units_of self.old.script.now (op, operation.now))) }
         ensures entries { OnOk result (self.new.entries.items ≡ self.old.entries.items ++ map (entry_of self.old.shards thread) (units_of self.old.script.now (op, operation.now))) }
-        ensures answer { IfOk result (λ answer. answer ≡ answer_over self.old.script.now (sectors_of self.old.image.items) (op, operation.now)) }
+        ensures answer { IfOk result (λ answer. answer ≡ answer_over self.old.script.now (image_sectors self.old.image.items) (op, operation.now)) }
     {
         match operation {
             Op::Write {
@@ -130,9 +130,9 @@ impl Course<'_> {
         ensures underway { OnOk result (IsUnderway self.new.script.now self.new.ciphers self.new.shards self.new.image.items self.new.room.items) }
         ensures script { OnOk result (self.new.script.now ≡ self.old.script.now) }
         ensures shards { OnOk result (self.new.shards ≡ self.old.shards) }
-        ensures disk { OnOk result (sectors_of self.new.image.items ≡ disk_after (keys_of self.old.script.now) (sectors_of self.old.image.items) (units_of_bio self.old.script.now op (Op.Write bio.now.context bio.now.sector bio.now.units text.now) bio.now)) }
+        ensures disk { OnOk result (image_sectors self.new.image.items ≡ disk_after (keys_of self.old.script.now) (image_sectors self.old.image.items) (units_of_bio self.old.script.now op (Op.Write bio.now.context bio.now.sector bio.now.units text.now) bio.now)) }
         ensures entries { OnOk result (self.new.entries.items ≡ self.old.entries.items ++ map (entry_of self.old.shards thread) (units_of_bio self.old.script.now op (Op.Write bio.now.context bio.now.sector bio.now.units text.now) bio.now)) }
-        ensures answer { IfOk result (λ answer. answer ≡ bio_answer_over self.old.script.now (sectors_of self.old.image.items) op (Op.Write bio.now.context bio.now.sector bio.now.units text.now) bio.now) }
+        ensures answer { IfOk result (λ answer. answer ≡ bio_answer_over self.old.script.now (image_sectors self.old.image.items) op (Op.Write bio.now.context bio.now.sector bio.now.units text.now) bio.now) }
     {
         if let Some(refusal) = refusal_of(self.script, &self.ciphers, bio) {
             return Ok(Answer::Refused(refusal));
@@ -157,9 +157,9 @@ impl Course<'_> {
         ensures underway { OnOk result (IsUnderway self.new.script.now self.new.ciphers self.new.shards self.new.image.items self.new.room.items) }
         ensures script { OnOk result (self.new.script.now ≡ self.old.script.now) }
         ensures shards { OnOk result (self.new.shards ≡ self.old.shards) }
-        ensures disk { OnOk result (sectors_of self.new.image.items ≡ disk_after (keys_of self.old.script.now) (sectors_of self.old.image.items) (units_of_bio self.old.script.now op (Op.Read bio.now.context bio.now.sector bio.now.units) bio.now)) }
+        ensures disk { OnOk result (image_sectors self.new.image.items ≡ disk_after (keys_of self.old.script.now) (image_sectors self.old.image.items) (units_of_bio self.old.script.now op (Op.Read bio.now.context bio.now.sector bio.now.units) bio.now)) }
         ensures entries { OnOk result (self.new.entries.items ≡ self.old.entries.items ++ map (entry_of self.old.shards thread) (units_of_bio self.old.script.now op (Op.Read bio.now.context bio.now.sector bio.now.units) bio.now)) }
-        ensures answer { IfOk result (λ answer. answer ≡ bio_answer_over self.old.script.now (sectors_of self.old.image.items) op (Op.Read bio.now.context bio.now.sector bio.now.units) bio.now) }
+        ensures answer { IfOk result (λ answer. answer ≡ bio_answer_over self.old.script.now (image_sectors self.old.image.items) op (Op.Read bio.now.context bio.now.sector bio.now.units) bio.now) }
     {
         if let Some(refusal) = refusal_of(self.script, &self.ciphers, bio) {
             return Ok(Answer::Refused(refusal));
@@ -194,9 +194,9 @@ impl Course<'_> {
         ensures underway { OnOk result (IsUnderway self.new.script.now self.new.ciphers self.new.shards self.new.image.items self.new.room.items) }
         ensures script { OnOk result (self.new.script.now ≡ self.old.script.now) }
         ensures shards { OnOk result (self.new.shards ≡ self.old.shards) }
-        ensures disk { OnOk result (sectors_of self.new.image.items ≡ disk_after (keys_of self.old.script.now) (sectors_of self.old.image.items) (units_of_section self.old.script.now section.now)) }
+        ensures disk { OnOk result (image_sectors self.new.image.items ≡ disk_after (keys_of self.old.script.now) (image_sectors self.old.image.items) (units_of_section self.old.script.now section.now)) }
         ensures entries { OnOk result (self.new.entries.items ≡ self.old.entries.items ++ map (entry_of self.old.shards thread) (units_of_section self.old.script.now section.now)) }
-        ensures answers { IfOk result (λ answers. answers ≡ answers_over self.old.script.now (sectors_of self.old.image.items) (enumerate_from 0 section.now)) }
+        ensures answers { IfOk result (λ answers. answers ≡ answers_over self.old.script.now (image_sectors self.old.image.items) (enumerate_from 0 section.now)) }
     {
         let mut answers = Vec::with_capacity(alloc, section.len())?;
         for (op, operation) in section.iter().enumerate() {
@@ -213,9 +213,9 @@ impl Course<'_> {
     ) -> Result<Items<Items<Answer>>, AllocError>
         requires underway { IsUnderway self.old.script.now self.old.ciphers self.old.shards self.old.image.items self.old.room.items }
         ensures length { OnOk result (length self.new.image.items ≡ length self.old.image.items) }
-        ensures disk { OnOk result (sectors_of self.new.image.items ≡ disk_after (keys_of self.old.script.now) (sectors_of self.old.image.items) (serial_units self.old.script.now self.old.script.now.threads)) }
+        ensures disk { OnOk result (image_sectors self.new.image.items ≡ disk_after (keys_of self.old.script.now) (image_sectors self.old.image.items) (serial_units self.old.script.now self.old.script.now.threads)) }
         ensures entries { OnOk result (self.new.entries.items ≡ self.old.entries.items ++ flat_map (entries_in self.old.script.now self.old.shards) (enumerate_from 0 self.old.script.now.threads)) }
-        ensures answers { IfOk result (λ answers. answers ≡ section_answers self.old.script.now (sectors_of self.old.image.items) self.old.script.now.threads) }
+        ensures answers { IfOk result (λ answers. answers ≡ section_answers self.old.script.now (image_sectors self.old.image.items) self.old.script.now.threads) }
     {
         let sections = self.script.threads();
         let mut answers = Vec::with_capacity(alloc, sections.len())?;

@@ -2,16 +2,16 @@
 
 ghost use Rattle.std.specs.Prelude.{◌≡◌, ◌++◌, ◌≤◌, ◌<◌, ◌^◌, ◌*◌, ◌==◌, [], ◌∷◌, map, IfOk, OnOk};
 ghost use Rattle.bc_script.specs.declared.op.Op.{Op};
-ghost use Rattle.bc_run.specs.Places.{shard_of};
+ghost use Rattle.bc_medium.specs.Places.{shard_of};
 ghost use Rattle.bc_run.specs.Serial.{entry_of, via_of, first_units, lines_on, shard_lines, IsAccepted};
 
 use crate::ciphers::Ciphers;
-use crate::orders::UnitName;
 use crate::places::sector_of;
 use crate::report::Line;
 use crate::via::Via;
 use bc_base::Items;
 use bc_bio::{Context, Extent};
+use bc_medium::UnitName;
 use std::alloc::{AllocError, Global};
 
 /// A data unit that was performed: the shard that it lies in, and its line there.

@@ -9,7 +9,6 @@ mod ciphers;
 mod course;
 mod entries;
 mod one_caller;
-mod orders;
 mod places;
 mod program;
 mod read_answer;
@@ -19,8 +18,8 @@ mod status;
 mod unit_access;
 mod via;
 
+pub use bc_medium::UnitName;
 pub use one_caller::{Finished, serial};
-pub use orders::UnitName;
 pub use program::run;
 pub use report::{Answer, Line, Report};
 pub use report_text::print;

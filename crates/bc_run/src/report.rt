@@ -2,10 +2,10 @@
 
 ghost use Rattle.std.specs.Prelude.{◌≡◌};
 
-use crate::orders::UnitName;
 use crate::via::Via;
 use bc_base::Items;
 use bc_bio::Refusal;
+use bc_medium::UnitName;
 use std::marker::Model;
 
 /// What an operation was answered.

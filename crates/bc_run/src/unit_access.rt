@@ -6,9 +6,9 @@ ghost use Rattle.bc_bio.specs.Extent.{unit_sectors, context_after, end_of};
 ghost use Rattle.bc_bio.specs.Conditions.{HasKey};
 ghost use Rattle.bc_script.specs.declared.op.Op.{Op};
 ghost use Rattle.bc_script.specs.Script.{IsText};
-ghost use Rattle.bc_run.specs.Plan.{text_at};
-ghost use Rattle.bc_run.specs.KeyedDisk.{sectors_of, bytes_at, with_bytes, enciphered, deciphered};
-ghost use Rattle.bc_run.specs.Outcome.{text_of};
+ghost use Rattle.bc_script.specs.Plan.{text_at};
+ghost use Rattle.bc_medium.specs.KeyedDisk.{image_sectors, bytes_at, with_bytes, enciphered, deciphered};
+ghost use Rattle.bc_medium.specs.Outcome.{answer_text};
 ghost use Rattle.bc_run.specs.Serial.{disk_after, unit_answers, first_units, HasUnit, IsAccepted};
 
 use crate::ciphers::Ciphers;
@@ -23,7 +23,7 @@ pub(crate) fn write_units(image: &mut [u8], ciphers: &Ciphers, bio: &Extent, tex
     requires on_disk { 512 * end_of ciphers.now bio.now ≤ length image.old }
     requires text { IsText ciphers.now bio.now.context bio.now.units text.now }
     ensures length { length image.new ≡ length image.old }
-    ensures disk { (op : ℕ) → sectors_of image.new ≡ disk_after ciphers.now (sectors_of image.old) (first_units ciphers.now op (Op.Write bio.now.context bio.now.sector bio.now.units text.now) bio.now bio.now.units) }
+    ensures disk { (op : ℕ) → image_sectors image.new ≡ disk_after ciphers.now (image_sectors image.old) (first_units ciphers.now op (Op.Write bio.now.context bio.now.sector bio.now.units text.now) bio.now bio.now.units) }
 {
     for unit in 0..bio.units as u32 {
         write_unit(image, ciphers, bio, text, unit);
@@ -37,7 +37,7 @@ fn write_unit(image: &mut [u8], ciphers: &Ciphers, bio: &Extent, text: &Text, un
     requires text { IsText ciphers.now bio.now.context bio.now.units text.now }
     requires unit { unit < bio.now.units }
     ensures length { length image.new ≡ length image.old }
-    ensures disk { sectors_of image.new ≡ with_bytes (sectors_of image.old) (bio.now.sector + unit * unit_sectors ciphers.now bio.now.context)
+    ensures disk { image_sectors image.new ≡ with_bytes (image_sectors image.old) (bio.now.sector + unit * unit_sectors ciphers.now bio.now.context)
         (enciphered ciphers.now (context_after unit bio.now.context) (text_at text.now (512 * unit_sectors ciphers.now bio.now.context) unit)) }
 {
     let start = SECTOR * sector_of(bio, ciphers, unit) as usize;
@@ -95,7 +95,7 @@ pub(crate) fn read_units(image: &[u8], ciphers: &Ciphers, bio: &Extent, room: &m
     requires accepted { IsAccepted ciphers.now bio.now }
     requires on_disk { 512 * end_of ciphers.now bio.now ≤ length image.now }
     requires room { length room.old ≡ bio.now.units * (512 * unit_sectors ciphers.now bio.now.context) }
-    ensures { (op : ℕ) → room.new ≡ flat_map text_of (unit_answers ciphers.now (sectors_of image.now) (first_units ciphers.now op (Op.Read bio.now.context bio.now.sector bio.now.units) bio.now bio.now.units)) }
+    ensures { (op : ℕ) → room.new ≡ flat_map answer_text (unit_answers ciphers.now (image_sectors image.now) (first_units ciphers.now op (Op.Read bio.now.context bio.now.sector bio.now.units) bio.now bio.now.units)) }
 {
     let size = unit_bytes(bio, ciphers);
     for unit in 0..bio.units as u32 {
@@ -110,7 +110,7 @@ fn read_unit(image: &[u8], ciphers: &Ciphers, bio: &Extent, unit: u32, place: &m
     requires on_disk { 512 * end_of ciphers.now bio.now ≤ length image.now }
     requires unit { unit < bio.now.units }
     requires length { length place.old ≡ 512 * unit_sectors ciphers.now bio.now.context }
-    ensures { place.new ≡ deciphered ciphers.now (context_after unit bio.now.context) (bytes_at (sectors_of image.now) (bio.now.sector + unit * unit_sectors ciphers.now bio.now.context) (unit_sectors ciphers.now bio.now.context)) }
+    ensures { place.new ≡ deciphered ciphers.now (context_after unit bio.now.context) (bytes_at (image_sectors image.now) (bio.now.sector + unit * unit_sectors ciphers.now bio.now.context) (unit_sectors ciphers.now bio.now.context)) }
 {
     let start = SECTOR * sector_of(bio, ciphers, unit) as usize;
     place.copy_from_slice(&image[start..start + place.len()]);

@@ -11,3 +11,6 @@ pub mod Items
 pub mod BioFields
 pub mod Reading
 pub mod Parsing
+pub mod Bios
+pub mod Way
+pub mod Plan

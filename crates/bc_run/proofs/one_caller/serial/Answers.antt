@@ -1,6 +1,6 @@
 use Rattle.std.proofs.Common.{ap, ◌∙◌, rules}
 use Rattle.bc_run.specs.Report.{Report}
-use Rattle.bc_run.specs.KeyedDisk.{sectors_of}
+use Rattle.bc_medium.specs.KeyedDisk.{image_sectors}
 use Rattle.bc_run.proofs.Counts.{is_report}
 use Rattle.bc_run.proofs.Lawful.{TellsAll, lawful_run, is_serial}
 use Rattle.bc_run.proofs.one_caller.serial.Goals as goal
@@ -19,7 +19,7 @@ carry_out_all-requires c = record {
 
 pub new-requires : goal.new-requires
 new-requires c =
-    is_report c.args.script.now c.keys.ensures.rules c.args.shards c.requires.shards.1 (sectors_of c.args.image.items) c.carry_out_all.new.self.entries.items
+    is_report c.args.script.now c.keys.ensures.rules c.args.shards c.requires.shards.1 (image_sectors c.args.image.items) c.carry_out_all.new.self.entries.items
     c.in_ok-answers.answers c.in_ok-lines.lines
     (rw c.in_ok-with_capacity.ensures.items at c.in_ok-answers.ensures.entries)
     (rw c.as_slice.ensures.value at c.in_ok-lines.ensures)

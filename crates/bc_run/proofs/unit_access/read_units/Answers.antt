@@ -2,8 +2,8 @@ use Rattle.std.proofs.Common.{◌≡◌, ◌+◌, ◌-◌, ◌*◌, ◌++◌, Li
 use Rattle.std.proofs.lemmas.Slice.{take-put_mid}
 use Rattle.bc_script.specs.declared.op.Op.TheVariants as ops
 use Rattle.std.specs.Prelude.{flat_map}
-use Rattle.bc_run.specs.KeyedDisk.{sectors_of}
-use Rattle.bc_run.specs.Outcome.{text_of}
+use Rattle.bc_medium.specs.KeyedDisk.{image_sectors}
+use Rattle.bc_medium.specs.Outcome.{answer_text}
 use Rattle.bc_run.specs.Serial.{unit_answers, first_units}
 use Rattle.bc_run.proofs.Parts.{next_part}
 use Rattle.bc_run.proofs.Units.{read_more}
@@ -25,6 +25,6 @@ loop-unit-preserved c =
       read = λ op.
           take-put_mid (i * size) (i * size + size - i * size) room part ((i + 1) * size) (omega arith) (search rules)
           ∙ ap (λ (l : List ℕ). l ++ part) (c.loop-unit.invariant.read op)
-          ∙ ap (λ (l : List ℕ). flat_map text_of (unit_answers keys (sectors_of c.args.image.now) (first_units keys op operation bio i)) ++ l) c.read_unit.ensures
-          ∙ sym (read_more keys op operation bio c.requires.access (sectors_of c.args.image.now) i);
+          ∙ ap (λ (l : List ℕ). flat_map answer_text (unit_answers keys (image_sectors c.args.image.now) (first_units keys op operation bio i)) ++ l) c.read_unit.ensures
+          ∙ sym (read_more keys op operation bio c.requires.access (image_sectors c.args.image.now) i);
     }

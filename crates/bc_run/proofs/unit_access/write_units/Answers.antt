@@ -2,8 +2,8 @@ use Rattle.std.proofs.Common.{◌+◌, ◌*◌, sym, ap, ◌∙◌}
 use Rattle.bc_bio.specs.declared.access.Access.{Access}
 use Rattle.bc_bio.specs.Extent.{unit_sectors, context_after}
 use Rattle.bc_script.specs.declared.op.Op.TheVariants as ops
-use Rattle.bc_run.specs.Plan.{text_at, unit_at}
-use Rattle.bc_run.specs.KeyedDisk.{Sectors, sectors_of, with_bytes, enciphered, accessed}
+use Rattle.bc_script.specs.Plan.{text_at, unit_at}
+use Rattle.bc_medium.specs.KeyedDisk.{Sectors, image_sectors, with_bytes, enciphered, accessed}
 use Rattle.bc_run.specs.Serial.{disk_after, first_units}
 use Rattle.bc_run.proofs.Units.{disk_more}
 use Rattle.bc_run.proofs.unit_access.write_units.Goals as goal
@@ -15,7 +15,7 @@ loop-unit-preserved c =
     let n = unit_sectors keys bio.context in
     let i = c.loop-unit.unit in
     let operation = ops.Write bio.context bio.sector bio.units c.args.text.now in
-    let image = sectors_of c.args.image.now in
+    let image = image_sectors c.args.image.now in
     record {
       length = c.write_unit.ensures.length ∙ c.loop-unit.invariant.length;
       disk = λ op.

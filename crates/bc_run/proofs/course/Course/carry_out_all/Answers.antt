@@ -1,5 +1,5 @@
 use Rattle.std.proofs.Common.{◌∙◌}
-use Rattle.bc_run.specs.KeyedDisk.{sectors_of}
+use Rattle.bc_medium.specs.KeyedDisk.{image_sectors}
 use Rattle.bc_run.proofs.Sections.{going_on_more}
 use Rattle.bc_run.proofs.course.Course.carry_out_all.Goals as goal
 
@@ -14,8 +14,8 @@ loop-thread-preserved c =
       underway = c.in_ok-answered.ensures.underway;
       script = c.in_ok-answered.ensures.script ∙ same;
       shards = c.in_ok-answered.ensures.shards ∙ c.loop-thread.invariant.shards;
-      going = going_on_more before.script.now before.shards before.script.now.threads (sectors_of before.image.items) before.entries.items
-          (sectors_of here.image.items) (sectors_of after.image.items) here.entries.items after.entries.items c.loop-thread.answers.items c.push.new.self.items
+      going = going_on_more before.script.now before.shards before.script.now.threads (image_sectors before.image.items) before.entries.items
+          (image_sectors here.image.items) (image_sectors after.image.items) here.entries.items after.entries.items c.loop-thread.answers.items c.push.new.self.items
           c.in_ok-answered.answered c.loop-thread.thread section
           c.loop-thread.invariant.going (rw c.threads-sections.ensures.value at c.loop-thread-test.true) (rw c.threads-sections.ensures.value at c.index-sections-thread.is)
           (record {

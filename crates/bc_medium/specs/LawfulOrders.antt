@@ -2,8 +2,8 @@
 use Rattle.std.specs.Prelude.{◌≡◌, ℕ, ◌<◌, Bool, not, ◌&&◌, ◌==◌, nat_lt, List, [], map, length, filter, filter_map, slice_get, slice_index_or, Option, option_and_then}
 use Rattle.std.specs.List.{list_any}
 use Rattle.bc_bio.specs.PlannedUnit.{PlannedUnit}
-use Rattle.bc_run.specs.declared.orders.UnitName.{UnitName}
-use Rattle.bc_run.specs.Places.{shard_of}
+use Rattle.bc_medium.specs.declared.unit_name.UnitName.{UnitName}
+use Rattle.bc_medium.specs.Places.{shard_of}
 
 -- a unit of a thread's plan, by name
 abbrev pub name_of : ℕ → PlannedUnit → UnitName

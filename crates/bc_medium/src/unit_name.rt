@@ -1,4 +1,4 @@
-//! The orders of a run.
+//! The name of a data unit in the orders of a run.
 
 /// A data unit of a script by name: its thread, the operation of that thread and the unit of that operation's bio,
 /// each from 0.

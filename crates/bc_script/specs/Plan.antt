@@ -11,7 +11,7 @@ use Rattle.bc_script.specs.declared.op.Op.TheVariants as ops
 use Rattle.bc_script.specs.declared.op.Text.{Text}
 use Rattle.bc_script.specs.declared.op.Text.TheVariants.{Fill, Bytes}
 use Rattle.bc_script.specs.Script.{Script, keys_of}
-use Rattle.bc_run.specs.Bios.{bio_of, refusal_of}
+use Rattle.bc_script.specs.Bios.{bio_of, refusal_of}
 
 -- the bytes of unit i of a text, of so many bytes each
 abbrev pub text_at : Text → ℕ → ℕ → List ℕ

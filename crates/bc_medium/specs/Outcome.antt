@@ -1,6 +1,6 @@
 -- The outcome of a run: what the keyed disk answers and leaves where the units of each shard are performed in its order.
 -- Shards have no common sector, so each shard's order is performed from the opening image, without the others.
-use Rattle.bc_run.specs.declared.orders.UnitName.{UnitName}
+use Rattle.bc_medium.specs.declared.unit_name.UnitName.{UnitName}
 use Rattle.std.specs.Prelude.{ℕ, ◌/◌, Bool, true, false, ◌&&◌, ◌==◌, List, [], length, find, filter, filter_map, flat_map, zip, slice_index_or, Option, option_map}
 use Rattle.std.specs.List.{range_with_len}
 use Rattle.std.specs.Option.{option_map_or}
@@ -8,9 +8,9 @@ use Rattle.bc_key.specs.KeyData.{KeyData}
 use Rattle.bc_bio.specs.declared.access.Access.{Access}
 use Rattle.bc_bio.specs.declared.access.Access.TheVariants.{Read, Write}
 use Rattle.bc_bio.specs.PlannedUnit.{PlannedUnit}
-use Rattle.bc_run.specs.Places.{shard_of}
-use Rattle.bc_run.specs.KeyedDisk.{Sectors, sectors_of, bytes_at, UnitAnswer, Faulted, Text, disk_along, answers_along}
-use Rattle.bc_run.specs.LawfulOrders.{name_of, is_same}
+use Rattle.bc_medium.specs.Places.{shard_of}
+use Rattle.bc_medium.specs.KeyedDisk.{Sectors, image_sectors, bytes_at, UnitAnswer, Faulted, Text, disk_along, answers_along}
+use Rattle.bc_medium.specs.LawfulOrders.{name_of, is_same}
 
 -- all that an outcome depends on
 pub record Run : Type 0 where
@@ -33,11 +33,11 @@ units_on run shard = filter_map (planned run) (slice_index_or run.orders shard [
 
 -- what a shard's order leaves on the disk, and what its units answer
 abbrev pub disk_of : Run → ℕ → Sectors
-disk_of run shard = disk_along run.keys run.faults shard 0 (sectors_of run.image) (units_on run shard)
+disk_of run shard = disk_along run.keys run.faults shard 0 (image_sectors run.image) (units_on run shard)
 
 abbrev pub answers_on : Run → ℕ → List (UnitName × UnitAnswer)
 answers_on run shard =
-    zip (slice_index_or run.orders shard []) (answers_along run.keys run.faults shard 0 (sectors_of run.image) (units_on run shard))
+    zip (slice_index_or run.orders shard []) (answers_along run.keys run.faults shard 0 (image_sectors run.image) (units_on run shard))
 
 -- the answers of all units that were attempted
 abbrev pub answers_of : Run → List (UnitName × UnitAnswer)
@@ -58,9 +58,9 @@ abbrev pub is_fault : UnitAnswer → Bool
 is_fault Faulted = true
 is_fault _ = false
 
-abbrev pub text_of : UnitAnswer → List ℕ
-text_of (Text bytes) = bytes
-text_of _ = []
+abbrev pub answer_text : UnitAnswer → List ℕ
+answer_text (Text bytes) = bytes
+answer_text _ = []
 
 abbrev pub is_unit_of : ℕ → ℕ → UnitName × UnitAnswer → Bool
 is_unit_of thread op (name, answer) = (name.thread == thread) && (name.op == op)
@@ -82,7 +82,7 @@ fault_of run thread op =
 
 abbrev pub without_fault : Access → List UnitAnswer → BioAnswer
 without_fault Write answers = Wrote
-without_fault Read answers = Bytes (flat_map text_of answers)
+without_fault Read answers = Bytes (flat_map answer_text answers)
 
 -- the answer of an accepted bio: the unit that met a fault, or all its bytes
 abbrev pub bio_answer : Run → Access → ℕ → ℕ → BioAnswer
