@@ -33,7 +33,7 @@ with_first together x ([] ∷ second ∷ chunks) y = refl
 with_first together x ((z ∷ zs) ∷ []) y = one_chunk together x z zs y (together x z) (joins_last together (z ∷ zs) y) refl refl
 with_first together x ((z ∷ zs) ∷ second ∷ chunks) y =
     elim (together x z) as (λ (a : Bool). cond a ((x ∷ z ∷ zs) ∷ chunks_and together (second ∷ chunks) y) ((x ∷ []) ∷ (z ∷ zs) ∷ chunks_and together (second ∷ chunks) y)
-      ≡ chunks_and together (cond a ((x ∷ z ∷ zs) ∷ second ∷ chunks) ((x ∷ []) ∷ (z ∷ zs) ∷ second ∷ chunks)) y) [ true ↦ refl | false ↦ refl ]
+    ≡ chunks_and together (cond a ((x ∷ z ∷ zs) ∷ second ∷ chunks) ((x ∷ []) ∷ (z ∷ zs) ∷ second ∷ chunks)) y) [ true ↦ refl | false ↦ refl ]
 
 -- the chunks of a list with one more element
 pub chunk_by-more : {X : Type 0} (together : X → X → Bool) (xs : List X) (x : X) → chunk_by together (xs ++ x ∷ []) ≡ chunks_and together (chunk_by together xs) x

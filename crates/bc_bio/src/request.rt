@@ -133,8 +133,8 @@ impl Request {
         ensures same_bios { tagged_bios self.new.bios ≡ tagged_bios self.old.bios }
     {
         let place = self.place(n);
-        let marked = &mut self.bios[place.bio];
-        marked.fault = Some(first_fault(place.unit, marked.fault));
+        let faulted = &mut self.bios[place.bio];
+        faulted.fault = Some(first_fault(place.unit, faulted.fault));
     }
 
     /// Whether an earlier unit of the bio of unit number `n` met a fault.

@@ -1,7 +1,7 @@
 //! Requests: which bios join, and what becomes of their units.
 ghost use Rattle.std.specs.Prelude.{◌≡◌, ◌<◌, [], ◌∷◌, length, IfOk, IsSomeAnd};
 ghost use Rattle.bc_bio.specs.BioUnits.{extent_of};
-ghost use Rattle.bc_bio.specs.Conditions.{IsPlaced};
+ghost use Rattle.bc_bio.specs.Conditions.{HasKey, IsPlaced};
 ghost use Rattle.bc_bio.specs.Requests.{unmarked};
 
 use crate::{Access, Bio, Context, Reply, Request, Unit};
@@ -66,69 +66,59 @@ fn request_of(alloc: Global, keys: &Keys, first: Bio) -> Result<Request, AllocEr
     Ok(request)
 }
 
+/// Whether the second bio joins a request of the first. A request that refuses it is as it was, and gives it back.
+fn joins(alloc: Global, keys: &Keys, first: Bio, second: Bio) -> Result<bool, Fail>
+    requires first { IsPlaced keys.now.keys (extent_of first) }
+    requires second { IsPlaced keys.now.keys (extent_of second) }
+{
+    let tag = second.tag;
+    let mut request = request_of(alloc, keys, first)?;
+    let before = request.units();
+    match request.push_back(keys, second) {
+        Ok(()) => Ok(true),
+        Err(refused) => {
+            if refused.tag != tag || request.units() != before {
+                return Err("a refused bio changes nothing".into());
+            }
+            Ok(false)
+        }
+    }
+}
+
+/// Whether a bio of one unit joins a write of two units in sector 4 under the first key, with the numbers 7 and 8.
+fn joins_seven(
+    alloc: Global,
+    keys: &Keys,
+    access: Access,
+    sector: u32,
+    second: Option<Context>,
+) -> Result<bool, Fail>
+    requires keys { length keys.now.keys ≡ 2 }
+    requires key { HasKey keys.now.keys second }
+    requires sector { sector < 100 }
+{
+    let first = bio(alloc, Access::Write, 4, 2, context(false, [7, 0, 0, 0]))?;
+    joins(alloc, keys, first, bio(alloc, access, sector, 1, second)?)
+}
+
 #[test]
 fn a_bio_joins_where_it_runs_on(rt: HostRuntime) -> Result<(), Fail> {
     let alloc = rt.alloc();
     let keys = two_keys(alloc)?;
-    let seven = [7, 0, 0, 0];
-    let nine = [9, 0, 0, 0];
-    let top = [u64::MAX; 4];
-    let cases = [
-        (
-            context(false, seven),
-            Access::Write,
-            6,
-            context(false, nine),
-            true,
-        ),
-        (
-            context(false, seven),
-            Access::Read,
-            6,
-            context(false, nine),
-            false,
-        ),
-        (
-            context(false, seven),
-            Access::Write,
-            7,
-            context(false, nine),
-            false,
-        ),
-        (
-            context(false, seven),
-            Access::Write,
-            6,
-            context(true, nine),
-            false,
-        ),
-        (
-            context(false, seven),
-            Access::Write,
-            6,
-            context(false, [8, 0, 0, 0]),
-            false,
-        ),
-        (
-            context(false, top),
-            Access::Write,
-            6,
-            context(false, [1, 0, 0, 0]),
-            false,
-        ),
-        (context(false, seven), Access::Write, 6, None, false),
-        (None, Access::Write, 6, context(false, nine), false),
-        (None, Access::Write, 6, None, true),
-    ];
-    for (first, access, sector, second, joins) in cases {
-        let first = bio(alloc, Access::Write, 4, 2, first)?;
-        let mut request = request_of(alloc, &keys, first)?;
-        let second = bio(alloc, access, sector, 3, second)?;
-        match request.push_back(&keys, second) {
-            Ok(()) => assert!(rt; joins && request.units() == 5, "{sector}"),
-            Err(refused) => assert!(rt; !joins && request.units() == 2 && refused.tag == sector),
-        }
-    }
+    let nine = context(false, [9, 0, 0, 0]);
+    assert!(rt; joins_seven(alloc, &keys, Access::Write, 6, nine)?);
+    assert!(rt; !joins_seven(alloc, &keys, Access::Read, 6, nine)?);
+    assert!(rt; !joins_seven(alloc, &keys, Access::Write, 7, nine)?);
+    assert!(rt; !joins_seven(alloc, &keys, Access::Write, 6, None)?);
+    let other_key = context(true, [9, 0, 0, 0]);
+    assert!(rt; !joins_seven(alloc, &keys, Access::Write, 6, other_key)?);
+    let gap = context(false, [8, 0, 0, 0]);
+    assert!(rt; !joins_seven(alloc, &keys, Access::Write, 6, gap)?);
+
+    // A number that wraps doesn't run on.
+    let top = bio(alloc, Access::Write, 4, 2, context(false, [u64::MAX; 4]))?;
+    let one = bio(alloc, Access::Write, 6, 1, context(false, [1, 0, 0, 0]))?;
+    assert!(rt; !joins(alloc, &keys, top, one)?);
     Ok(())
 }
 

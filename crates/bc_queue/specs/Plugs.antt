@@ -43,6 +43,7 @@ pub record IsWaiting (request : RequestParts) : Type 0 where
 pub record IsPlug (plug : PlugParts) : Type 0 where
   pub waiting : AllByRecursion IsWaiting plug.requests
   pub count : plug.count ≡ count_bios plug.requests
+  pub most : plug.count ≤ MAX_PLUGGED
 
 -- each request is one under these keys
 abbrev pub AreRequests : List KeyData → List RequestParts → Type 0

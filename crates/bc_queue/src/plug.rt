@@ -30,16 +30,14 @@ pub struct Plug {
 }
 
 impl Model for Plug {
-    ghost use Rattle.std.specs.Prelude.{◌≤◌, vec_capacity};
-    ghost use Rattle.bc_queue.specs.declared.plug.TheConstants.{MAX_PLUGGED};
+    ghost use Rattle.std.specs.Prelude.{vec_capacity};
     ghost use Rattle.bc_queue.specs.Plugs.{PlugParts, HasReady};
 
     ghost Value = { PlugParts };
 
     ghost view = { λ p. record { requests = p.requests.items; count = p.count } };
 
-    ghost invariant = { λ p. (p.count ≤ MAX_PLUGGED)
-        × HasReady p.requests.items p.ready.items (vec_capacity p.requests) (vec_capacity p.ready) };
+    ghost invariant = { λ p. HasReady p.requests.items p.ready.items (vec_capacity p.requests) (vec_capacity p.ready) };
 }
 
 impl Plug {
