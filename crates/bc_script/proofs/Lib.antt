@@ -1,4 +1,5 @@
 pub mod Examples
+pub mod ByteLists
 pub mod Fields
 pub mod KeyNames
 pub mod LineFields

@@ -24,6 +24,7 @@ use Rattle.bc_script.specs.declared.op.Text.TheVariants.{Fill, Bytes}
 use Rattle.bc_script.specs.Name.{is_name, is_name_byte, is_lower_letter}
 use Rattle.bc_script.specs.Script.{Script, IsScript, AreKeys, IsNamedKey, IsContext, IsBio, IsText, IsOp, IsSection, bare_keys}
 use Rattle.bc_script.specs.ScriptText.{script_lines, key_line, op_line, name_of, section_lines, mode_text, fault_line, on_off, key_field, number_field, bio_fields, text_fields}
+use Rattle.bc_script.proofs.ByteLists.{IsBytes-All}
 use Rattle.bc_script.proofs.KeyNames.{is_name_of}
 
 -- ---- fields
@@ -110,7 +111,7 @@ key_line_is named is =
       omega arith,
       (
         IsField-from_test (codes "key") refl,
-        (IsField-name named.name is.name, (IsField-mode named.key.config.mode, (IsField-decimal _ (small_unit named.key.config.unit), (IsField-decimal _ (omega arith), (IsField-encode_lower named.key.raw is.bytes, tt))))),
+        (IsField-name named.name is.name, (IsField-mode named.key.config.mode, (IsField-decimal _ (small_unit named.key.config.unit), (IsField-decimal _ (omega arith), (IsField-encode_lower named.key.raw (IsBytes-All named.key.raw is.valid.bytes), tt))))),
       ),
     )
 

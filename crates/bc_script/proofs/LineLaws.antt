@@ -26,6 +26,7 @@ use Rattle.bc_script.specs.Name.{is_name}
 use Rattle.bc_script.specs.Script.{AreKeys, IsNamedKey, IsContext, IsBio, IsText, IsOp, bare_keys}
 use Rattle.bc_script.specs.ScriptText.{key_line, op_line, name_of, dash, mode_text, key_field, number_field, text_fields}
 use Rattle.bc_script.proofs.KeyNames.{is_name_of, same_key, named_too}
+use Rattle.bc_script.proofs.ByteLists.{IsBytes-All}
 use Rattle.bc_script.proofs.LineFields.{IsBytes-one, small_unit}
 
 -- ---- fields
@@ -79,7 +80,7 @@ key_line_injective a b p q e =
     let p_most = p.valid.most in
     let q_most = q.valid.most in
     let dun_bytes = decimal_injective a.key.config.dun_bytes b.key.config.dun_bytes (omega arith) (omega arith) fields.3 in
-    let raw = encode_lower_injective a.key.raw b.key.raw p.bytes q.bytes fields.4 in
+    let raw = encode_lower_injective a.key.raw b.key.raw (IsBytes-All a.key.raw p.valid.bytes) (IsBytes-All b.key.raw q.valid.bytes) fields.4 in
     λ i. record { name = fields.0 i; key = record { config = record { mode = mode i; unit = unit i; dun_bytes = dun_bytes i }; raw = raw i } }
 
 -- ---- an operation's line

@@ -19,7 +19,7 @@ pub returns-then-not-back_runs_on-clause-joins : goal.returns-then-not-back_runs
 returns-then-not-back_runs_on-clause-joins c =
     let same = ap (λ (p : RequestParts). p.bios) c.self.view_is in
     let some = ap length same in
-    sym c.if-not-back_runs_on.true ∙ c.back_runs_on.ensures
+    sym c.if-not-back_runs_on.true ∙ c.back_runs_on.ensures.runs_on
     ∙ sym (joined_at c.args.keys.now.keys c.self.inside.bios.items c.args.bio (c.len.result - 1) c.index-last.result.now (omega (arith, some)) c.index-last.ensures)
     ∙ ap (λ (bs : List MarkedBio). joins_last (joins c.args.keys.now.keys) (tagged_bios bs) (tagged_of c.args.bio)) same
 
@@ -30,7 +30,7 @@ append-requires-clause-fits c =
     let joined : joins_last (joins c.args.keys.now.keys) (tagged_bios c.args.self.now.bios) (tagged_of c.args.bio) ≡ true =
     sym (ap (λ (bs : List MarkedBio). joins_last (joins c.args.keys.now.keys) (tagged_bios bs) (tagged_of c.args.bio)) same)
     ∙ joined_at c.args.keys.now.keys c.self.inside.bios.items c.args.bio (c.len.result - 1) c.index-last.result.now (omega (arith, some)) c.index-last.ensures
-    ∙ sym c.back_runs_on.ensures ∙ c.if-not-back_runs_on.false in
+    ∙ sym c.back_runs_on.ensures.runs_on ∙ c.if-not-back_runs_on.false in
     let len = length-tagged_bios c.args.self.now.bios in
     fits_behind c.args.keys.now.keys (tagged_bios c.args.self.now.bios) (tagged_of c.args.bio) (omega (arith, len)) c.requires.request.joined joined c.requires.placed
 
@@ -38,7 +38,7 @@ pub returns-clause-joins : goal.returns-clause-joins
 returns-clause-joins c =
     let same = ap (λ (p : RequestParts). p.bios) c.self.view_is in
     let some = ap length same in
-    sym c.if-not-back_runs_on.false ∙ c.back_runs_on.ensures
+    sym c.if-not-back_runs_on.false ∙ c.back_runs_on.ensures.runs_on
     ∙ sym (joined_at c.args.keys.now.keys c.self.inside.bios.items c.args.bio (c.len.result - 1) c.index-last.result.now (omega (arith, some)) c.index-last.ensures)
     ∙ ap (λ (bs : List MarkedBio). joins_last (joins c.args.keys.now.keys) (tagged_bios bs) (tagged_of c.args.bio)) same
 
@@ -49,5 +49,5 @@ returns-clause-still c =
     let joined : joins_last (joins c.args.keys.now.keys) (tagged_bios c.args.self.now.bios) (tagged_of c.args.bio) ≡ true =
     sym (ap (λ (bs : List MarkedBio). joins_last (joins c.args.keys.now.keys) (tagged_bios bs) (tagged_of c.args.bio)) same)
     ∙ joined_at c.args.keys.now.keys c.self.inside.bios.items c.args.bio (c.len.result - 1) c.index-last.result.now (omega (arith, some)) c.index-last.ensures
-    ∙ sym c.back_runs_on.ensures ∙ c.if-not-back_runs_on.false in
+    ∙ sym c.back_runs_on.ensures.runs_on ∙ c.if-not-back_runs_on.false in
     rw c.append.ensures (request_with c.args.keys.now.keys c.args.self.now.bios c.args.bio c.requires.request joined c.requires.placed)
