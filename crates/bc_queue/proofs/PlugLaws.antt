@@ -83,16 +83,16 @@ joined keys old new others last last' bio old_is new_is last_is runs_on spare wa
     let here : IsWaiting last' = record { some = omega arith; room = omega arith } in
     record {
       bios = ap bios_of new_is ∙ bios_of-more others last' ∙ ap (λ (bs : List MarkedBio). bios_of others ++ bs) bios_is
-        ∙ sym (append_assoc (bios_of others) last.bios (unmarked bio ∷ []))
-        ∙ ap (λ (bs : List MarkedBio). bs ++ unmarked bio ∷ []) (sym (ap bios_of old_is ∙ bios_of-more others last));
+          ∙ sym (append_assoc (bios_of others) last.bios (unmarked bio ∷ []))
+          ∙ ap (λ (bs : List MarkedBio). bs ++ unmarked bio ∷ []) (sym (ap bios_of old_is ∙ bios_of-more others last));
       merges = ap tagged_requests new_is ∙ tagged-more others last'
-        ∙ ap (λ (ts : List TaggedBio). tagged_requests others ++ ts ∷ []) (ap tagged_bios bios_is ∙ tagged_bios-append last.bios (unmarked bio))
-        ∙ sym (chunks_and-joined (joins keys) (tagged_requests others) (tagged_bios last.bios) (tagged_of bio) runs_on)
-        ∙ ap (λ (cs : List (List TaggedBio)). chunks_and (joins keys) cs (tagged_of bio)) (sym (ap tagged_requests old_is ∙ tagged-more others last));
+          ∙ ap (λ (ts : List TaggedBio). tagged_requests others ++ ts ∷ []) (ap tagged_bios bios_is ∙ tagged_bios-append last.bios (unmarked bio))
+          ∙ sym (chunks_and-joined (joins keys) (tagged_requests others) (tagged_bios last.bios) (tagged_of bio) runs_on)
+          ∙ ap (λ (cs : List (List TaggedBio)). chunks_and (joins keys) cs (tagged_of bio)) (sym (ap tagged_requests old_is ∙ tagged-more others last));
       waiting = subst (λ (rs : List RequestParts). AllByRecursion IsWaiting rs) (sym new_is)
-        (all_and IsWaiting others last' (all_but_last IsWaiting others last (subst (λ (rs : List RequestParts). AllByRecursion IsWaiting rs) old_is waiting)) here);
+          (all_and IsWaiting others last' (all_but_last IsWaiting others last (subst (λ (rs : List RequestParts). AllByRecursion IsWaiting rs) old_is waiting)) here);
       requests = subst (λ (rs : List RequestParts). AreRequests keys rs) (sym new_is)
-        (all_and (λ (r : RequestParts). IsRequest keys (tagged_bios r.bios)) others last' (all_but_last (λ (r : RequestParts). IsRequest keys (tagged_bios r.bios)) others last (subst (λ (rs : List RequestParts). AreRequests keys rs) old_is requests)) still);
+          (all_and (λ (r : RequestParts). IsRequest keys (tagged_bios r.bios)) others last' (all_but_last (λ (r : RequestParts). IsRequest keys (tagged_bios r.bios)) others last (subst (λ (rs : List RequestParts). AreRequests keys rs) old_is requests)) still);
       count = omega (arith, many, before, len);
     }
 
@@ -102,7 +102,7 @@ pub apart : (keys : List KeyData) (old others : List RequestParts) (last : Reque
 apart keys old others last bio old_is stops =
     subst (λ (rs : List RequestParts). StandsApart keys rs bio) (sym old_is)
     (subst (λ (cs : List (List TaggedBio)). chunks_and (joins keys) cs (tagged_of bio) ≡ cs ++ (tagged_of bio ∷ []) ∷ []) (sym (tagged-more others last))
-      (chunks_and-apart (joins keys) (tagged_requests others) (tagged_bios last.bios) (tagged_of bio) stops))
+    (chunks_and-apart (joins keys) (tagged_requests others) (tagged_bios last.bios) (tagged_of bio) stops))
 
 -- a bio starts a request of its own
 pub started : (keys : List KeyData) (old new : List RequestParts) (ready request : RequestParts) (bio : Bio) → new ≡ old ++ request ∷ [] → request ≡ with_bio bio ready
@@ -120,7 +120,7 @@ started keys old new ready request bio new_is request_is is_ready stands placed 
       merges = ap tagged_requests new_is ∙ tagged-more old request ∙ ap (λ (bs : List MarkedBio). tagged_requests old ++ tagged_bios bs ∷ []) bios_is ∙ sym stands;
       waiting = subst (λ (rs : List RequestParts). AllByRecursion IsWaiting rs) (sym new_is) (all_and IsWaiting old request waiting here);
       requests = subst (λ (rs : List RequestParts). AreRequests keys rs) (sym new_is)
-        (all_and (λ (r : RequestParts). IsRequest keys (tagged_bios r.bios)) old request requests (subst (λ (bs : List MarkedBio). IsRequest keys (tagged_bios bs)) (sym bios_is) alone));
+          (all_and (λ (r : RequestParts). IsRequest keys (tagged_bios r.bios)) old request requests (subst (λ (bs : List MarkedBio). IsRequest keys (tagged_bios bs)) (sym bios_is) alone));
       count = omega (arith, many, len);
     }
 

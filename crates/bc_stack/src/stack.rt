@@ -128,7 +128,13 @@ fn device_of(targets: &[Target], keys: &Keys, request: &Request, n: u32) -> usiz
 }
 
 /// The number of the first unit after `first` that lies on another device, or of all units.
-fn end_of_piece(targets: &[Target], keys: &Keys, request: &Request, first: u32, device: usize) -> u32
+fn end_of_piece(
+    targets: &[Target],
+    keys: &Keys,
+    request: &Request,
+    first: u32,
+    device: usize,
+) -> u32
     requires request { IsRequest keys.now.keys (tagged_bios request.now.bios) }
     requires within { first < count_units (tagged_bios request.now.bios) }
     requires device { option_map (device_of targets.now)

@@ -8,8 +8,7 @@ use Rattle.bc_queue.proofs.plug.finish_all.Goals as goal
 
 pub loop-request-init : goal.loop-request-init
 loop-request-init c =
-    let turned = ap reverse c.reverse.ensures.items ∙ reverse-reverse c.args.requests.now.items in
-    (
+    let turned = ap reverse c.reverse.ensures.items ∙ reverse-reverse c.args.requests.now.items in (
       ap (λ (rs : List RequestParts). c.args.out.now.items ++ map reply_of (bios_of rs)) turned,
       ap (λ n. vec_len c.args.out.now + n) (count_reversed _ _ c.reverse.ensures.permutation),
       ap (λ n. n + vec_len c.args.ready.now) c.reverse.ensures.len,
@@ -27,17 +26,16 @@ loop-request-preserved c =
     let waiting = subst (λ (rs : List RequestParts). AllByRecursion IsWaiting rs) split here.3 in
     let many = ap count_bios split ∙ count_bios-more c.pop.new.self.items c.in-Some.request in
     let out = ap length c.finish.ensures.replies ∙ length-append c.loop-request.out.items (map reply_of c.in-Some.request.bios) in
-    let replies = length-map c.in-Some.request.bios reply_of in
-    (
+    let replies = length-map c.in-Some.request.bios reply_of in (
       ap (λ rs. rs ++ map reply_of (bios_of (reverse c.pop.new.self.items))) c.finish.ensures.replies
-        ∙ replies_more c.loop-request.out.items c.pop.new.self.items c.in-Some.request
-        ∙ ap (λ (rs : List RequestParts). c.loop-request.out.items ++ map reply_of (bios_of (reverse rs))) (sym split)
-        ∙ here.0,
+          ∙ replies_more c.loop-request.out.items c.pop.new.self.items c.in-Some.request
+          ∙ ap (λ (rs : List RequestParts). c.loop-request.out.items ++ map reply_of (bios_of (reverse rs))) (sym split)
+          ∙ here.0,
       omega (arith, many, out, replies, here.1, c.finish.new.out.ok.0, c.loop-request.out.ok.0),
       omega (arith, here.2, c.in-Some.ensures.len, c.push_reserved.ensures.len),
       all_but_last IsWaiting c.pop.new.self.items c.in-Some.request waiting,
       subst (λ (rs : List RequestParts). AllByRecursion IsReady rs) (sym c.push_reserved.ensures.items)
-        (ready_and c.loop-request.ready.items c.finish.new.self here.4 (ready_again c.in-Some.request c.finish.new.self (last_of_all IsWaiting c.pop.new.self.items c.in-Some.request waiting) c.finish.ensures.empty)),
+          (ready_and c.loop-request.ready.items c.finish.new.self here.4 (ready_again c.in-Some.request c.finish.new.self (last_of_all IsWaiting c.pop.new.self.items c.in-Some.request waiting) c.finish.ensures.empty)),
       c.finish.ensures.room ∙ here.5,
       c.pop.ensures.capacity ∙ here.6,
       c.push_reserved.ensures.capacity ∙ here.7,
