@@ -5,8 +5,10 @@ set -u
 cd "$(dirname "$0")/.." || exit 1
 python3 -c 'import cryptography' 2>/dev/null || { echo "units_independent: skipped, no Python with cryptography"; exit 0; }
 program=crates/bc_speed/out/bc_speed
-if ! [ -x "$program" ]; then
-    command -v rt >/dev/null || { echo "units_independent: skipped, no rt and no program"; exit 0; }
+if command -v rt >/dev/null; then
     (cd crates/bc_speed && rt run -- digest xts 512 1) >/dev/null || exit 1
+elif ! [ -x "$program" ]; then
+    echo "units_independent: skipped, no rt and no program"
+    exit 0
 fi
 exec python3 checks/units_independent.py "$program" "${1:-200}"

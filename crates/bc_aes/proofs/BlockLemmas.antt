@@ -52,7 +52,7 @@ pub ciphered-none : (cipher : List ℕ → List ℕ) (n : ℕ) (text : List ℕ)
 ciphered-none cipher zero text e = record { done = record { same_length = omega arith; ciphered = λ i lt. absurd (omega arith) }; rest = refl }
 ciphered-none cipher (suc n) text e = absurd (omega arith)
 
-take-add : (n m : ℕ) (xs : List ℕ) → n ≤ length xs → take (n + m) xs ≡ take n xs ++ slice_range xs n (n + m)
+pub take-add : (n m : ℕ) (xs : List ℕ) → n ≤ length xs → take (n + m) xs ≡ take n xs ++ slice_range xs n (n + m)
 take-add n m xs h =
     sym (take-append-drop n (take (n + m) xs)) ∙ ap₂ (λ (v w : List ℕ). v ++ w) (take-take n (n + m) xs (omega arith)) (sym (between_is xs n (n + m)))
 

@@ -17,3 +17,4 @@ pub mod TransposeLemmas
 pub mod SliceLemmas
 pub mod MixLemmas
 pub mod RoundKeyLemmas
+pub mod FoldLemmas

@@ -1,11 +1,13 @@
 -- The steps of the plain program's loops.
-use Rattle.std.proofs.Common.{◌≡◌, ℕ, suc, ◌+◌, ◌-◌, ◌/◌, ◌%◌, ◌<◌, ◌≤◌, ◌==◌, Bool, Option, Some, List, refl, sym, ap, ◌∙◌, arith, bit_xor, eq-eqb}
-use Rattle.std.specs.Prelude.{find, unwrap_or, if◌then◌else◌}
+use Rattle.std.proofs.Common.{◌≡◌, ℕ, suc, ◌+◌, ◌-◌, ◌/◌, ◌%◌, ◌<◌, ◌≤◌, ◌==◌, Bool, Option, Some, List, refl, sym, ap, ap₂, ◌∙◌, arith, bit_xor, eq-eqb}
+use Rattle.std.specs.Prelude.{find, unwrap_or, if◌then◌else◌, slice_range, take, length, ◌*◌, ◌++◌}
+use Rattle.std.proofs.lemmas.List.{take-take}
 use Rattle.std.specs.List.{range_with_len}
 use Rattle.std.specs.Int.Bits.{xor_zero_r}
 use borrow.Author.Tests.{ne_eqb}
 use Rattle.bc_aes.specs.Field.{times_x, product_by, product, inverse}
-use Rattle.bc_aes.specs.KeyExpansion.{round_key}
+use Rattle.bc_aes.specs.KeyExpansion.{round_key, word, xor_word, power_of_x, added_word, with_word, expanded}
+use Rattle.bc_aes.proofs.BlockLemmas.{kept, take-add}
 use Rattle.bc_aes.specs.Cipher.{inv_round, after_inv_round}
 use Rattle.bc_aes.proofs.FieldLemmas.{xor_assoc}
 
@@ -61,3 +63,36 @@ after_inv_round-plain nr schedule block n =
     let e : n + 1 ≡ suc n = omega arith in
     ap (λ (m : ℕ). after_inv_round nr schedule block m) e
     ∙ ap (λ (m : ℕ). inv_round (after_inv_round nr schedule block n) (round_key schedule (nr - m))) (sym e)
+
+-- ---- the key expansion
+
+pub power_of_x-none : 1 ≡ power_of_x 0
+unfolding power_of_x
+power_of_x-none = refl
+
+pub power_of_x-more : (n : ℕ) → times_x (power_of_x n) ≡ power_of_x (n + 1)
+unfolding power_of_x
+power_of_x-more n = let e : n + 1 ≡ suc n = omega arith in sym (ap (λ (m : ℕ). power_of_x m) e)
+
+-- a word of the bytes before is a word of all
+word-before : (n j : ℕ) (bytes : List ℕ) → 4 * j + 4 ≤ n → word (take n bytes) j ≡ word bytes j
+word-before n j bytes h = kept (take n bytes) bytes n (4 * j) (4 * j + 4) (take-take n n bytes (omega arith)) h
+
+-- one more word of the schedule
+pub bytes-more : (nk : ℕ) (key old new next : List ℕ) (i : ℕ) → 1 ≤ nk → nk ≤ i → 4 * i + 4 ≤ length old → length new ≡ length old
+    → take (4 * i) old ≡ expanded nk key (i - nk)
+    → next ≡ xor_word (word old (i - nk)) (added_word nk i (word old (i - 1)))
+    → take (4 * i) new ≡ take (4 * i) old → slice_range new (4 * i) (4 * i + 4) ≡ next
+    → take (4 * (i + 1)) new ≡ expanded nk key (i + 1 - nk)
+unfolding expanded with_word
+bytes-more nk key old new next i p q room long so_far e before here =
+    let n : ℕ = i - nk in
+    let place : nk + n ≡ i = omega arith in
+    let later : i + 1 - nk ≡ suc n = omega arith in
+    let end : 4 * (i + 1) ≡ 4 * i + 4 = omega arith in
+    let made : take (4 * (i + 1)) new ≡ with_word nk i (take (4 * i) old) =
+    ap (λ (k : ℕ). take k new) end ∙ take-add (4 * i) 4 new (omega arith)
+    ∙ ap₂ (λ (xs ys : List ℕ). xs ++ ys) before
+    (here ∙ e ∙ ap₂ (λ (a b : List ℕ). xor_word a (added_word nk i b))
+    (sym (word-before (4 * i) (i - nk) old (omega arith))) (sym (word-before (4 * i) (i - 1) old (omega arith)))) in
+    made ∙ ap₂ (λ (k : ℕ) (s : List ℕ). with_word nk k s) (sym place) so_far ∙ ap (λ (k : ℕ). expanded nk key k) (sym later)

@@ -10,7 +10,8 @@ use Rattle.std.proofs.lemmas.Simd.{get_or-zip2, length-zip2, get_or-replicate, E
 use borrow.Author.Count.{below_more}
 use Rattle.bc_aes.specs.State.{byte_of_bits}
 use Rattle.bc_aes.specs.KeyExpansion.{round_key}
-use Rattle.bc_aes.specs.Slices.{slices_of, byte_of, block_of}
+use Rattle.bc_aes.specs.SlicedRounds.{key_in_slices}
+use Rattle.bc_aes.specs.Slices.{slices_of, byte_of, vector_of, block_of}
 use Rattle.bc_aes.specs.declared.slices.Slices.{Slices}
 use Rattle.bc_aes.proofs.SliceLemmas.{byte_of_bits-lt, bit_at-byte_of_bits}
 
@@ -56,11 +57,11 @@ byte-from_bits n h =
     same_from_bits_below 8 (byte_of_bits (bit_at n)) n (byte_of_bits-lt (bit_at n) (bit_at-lt n)) h
     (λ i lt. bit_at-byte_of_bits (bit_at n) (bit_at-lt n) i lt)
 
-pub block_of-spread : (q : Slices) (block : List ℕ) → length block ≡ 16 → Each1 (Fits w8) block
+pub vector_of-spread : (q : Slices) (block : List ℕ) → length block ≡ 16 → Each1 (Fits w8) block
     → Spreads block 0 q.s0 → Spreads block 1 q.s1 → Spreads block 2 q.s2 → Spreads block 3 q.s3
     → Spreads block 4 q.s4 → Spreads block 5 q.s5 → Spreads block 6 q.s6 → Spreads block 7 q.s7
-    → (k : ℕ) → k < 8 → block_of (slices_of q) k ≡ block
-block_of-spread q block long fits h0 h1 h2 h3 h4 h5 h6 h7 k lt =
+    → (k : ℕ) → k < 8 → vector_of (slices_of q) k ≡ block
+vector_of-spread q block long fits h0 h1 h2 h3 h4 h5 h6 h7 k lt =
     sym (fill_by_all (byte_of (slices_of q) k) block 16 0 long
     (λ p below.
     let small : slice_index block p < 256 = (Each1-get_or (Fits w8) block p 0 (omega arith) fits).fits in
@@ -80,11 +81,11 @@ block_of-spread q block long fits h0 h1 h2 h3 h4 h5 h6 h7 k lt =
 -- the first n of them are round keys
 abbrev pub FirstAreRoundKeys : List ℕ → List Slices → ℕ → Type 0
 FirstAreRoundKeys schedule keys n =
-    (round : ℕ) → round < n → (k : ℕ) (d : Slices) → k < 8 → block_of (slices_of (slice_index_or keys round d)) k ≡ round_key schedule round
+    (round : ℕ) → round < n → (k : ℕ) (d : Slices) → k < 8 → block_of (slices_of (slice_index_or keys round d)) k ≡ key_in_slices round (round_key schedule round)
 
 pub round_keys-more : (schedule : List ℕ) (keys : List Slices) (n : ℕ) (key : Slices) → n < length keys → FirstAreRoundKeys schedule keys n
-    → ((k : ℕ) → k < 8 → block_of (slices_of key) k ≡ round_key schedule n) → FirstAreRoundKeys schedule (set keys n key) (n + 1)
+    → ((k : ℕ) → k < 8 → block_of (slices_of key) k ≡ key_in_slices n (round_key schedule n)) → FirstAreRoundKeys schedule (set keys n key) (n + 1)
 round_keys-more schedule keys n key h first next =
-    below_more (λ round. (k : ℕ) (d : Slices) → k < 8 → block_of (slices_of (slice_index_or (set keys n key) round d)) k ≡ round_key schedule round) n
+    below_more (λ round. (k : ℕ) (d : Slices) → k < 8 → block_of (slices_of (slice_index_or (set keys n key) round d)) k ≡ key_in_slices round (round_key schedule round)) n
     (λ round lt k d below. ap (λ (q : Slices). block_of (slices_of q) k) (get_or-set_other keys n round key d (omega arith)) ∙ first round lt k d below)
     (λ k d below. ap (λ (q : Slices). block_of (slices_of q) k) (get_or-set_same keys n key d h) ∙ next k below)

@@ -115,6 +115,17 @@ key-of_schedule nk key words long e =
     let whole = begins nk key (4 * (rounds nk + 1) - nk) in
     take-schedule words nk ∙ ap (λ (s : List ℕ). take (4 * nk) s) (e ∙ whole.1) ∙ take_at key whole.0 (4 * nk) long
 
+length-schedule : (ws : List ℕ) → length (schedule_bytes ws) ≡ 4 * length ws
+length-schedule [] = refl
+length-schedule (w ∷ ws) =
+    let e : 4 * suc (length ws) ≡ suc (suc (suc (suc (4 * length ws)))) = omega arith in
+    ap (λ (n : ℕ). suc (suc (suc (suc n)))) (length-schedule ws) ∙ sym e
+
+-- a key that is the first words of a schedule has their length
+pub key_length : (nk : ℕ) (words key : List ℕ) → nk ≤ length words → schedule_bytes (take nk words) ≡ key → length key ≡ 4 * nk
+key_length nk words key h e =
+    ap (λ (k : List ℕ). length k) (sym e) ∙ length-schedule (take nk words) ∙ ap (λ (n : ℕ). 4 * n) (length-take-le nk words h)
+
 -- ---- the cipher under a schedule that is the key's
 
 pub encipher-by : (nk nr : ℕ) (schedule key : List ℕ) → nr ≡ rounds nk → schedule ≡ key_expansion nk key

@@ -60,22 +60,22 @@ abbrev moved : List ℕ → List (List ℕ) → List (List ℕ)
 moved places slices = map (λ s. pick_l 0 s places) slices
 
 pub block_of-shifted : (q : Slices) (k : ℕ)
-    → block_of (moved (0 ∷ 5 ∷ 10 ∷ 15 ∷ 4 ∷ 9 ∷ 14 ∷ 3 ∷ 8 ∷ 13 ∷ 2 ∷ 7 ∷ 12 ∷ 1 ∷ 6 ∷ 11 ∷ []) (slices_of q)) k ≡ shift_rows (block_of (slices_of q) k)
+    → block_of (moved (0 ∷ 1 ∷ 2 ∷ 3 ∷ 5 ∷ 6 ∷ 7 ∷ 4 ∷ 10 ∷ 11 ∷ 8 ∷ 9 ∷ 15 ∷ 12 ∷ 13 ∷ 14 ∷ []) (slices_of q)) k ≡ shift_rows (block_of (slices_of q) k)
 unfolding shift_rows
 block_of-shifted q k = refl
 
 pub block_of-unshifted : (q : Slices) (k : ℕ)
-    → block_of (moved (0 ∷ 13 ∷ 10 ∷ 7 ∷ 4 ∷ 1 ∷ 14 ∷ 11 ∷ 8 ∷ 5 ∷ 2 ∷ 15 ∷ 12 ∷ 9 ∷ 6 ∷ 3 ∷ []) (slices_of q)) k ≡ inv_shift_rows (block_of (slices_of q) k)
+    → block_of (moved (0 ∷ 1 ∷ 2 ∷ 3 ∷ 7 ∷ 4 ∷ 5 ∷ 6 ∷ 10 ∷ 11 ∷ 8 ∷ 9 ∷ 13 ∷ 14 ∷ 15 ∷ 12 ∷ []) (slices_of q)) k ≡ inv_shift_rows (block_of (slices_of q) k)
 unfolding inv_shift_rows
 block_of-unshifted q k = refl
 
 pub block_of-turned : (q : Slices) (k : ℕ)
-    → block_of (moved (1 ∷ 2 ∷ 3 ∷ 0 ∷ 5 ∷ 6 ∷ 7 ∷ 4 ∷ 9 ∷ 10 ∷ 11 ∷ 8 ∷ 13 ∷ 14 ∷ 15 ∷ 12 ∷ []) (slices_of q)) k ≡ turned 1 (block_of (slices_of q) k)
+    → block_of (moved (4 ∷ 5 ∷ 6 ∷ 7 ∷ 8 ∷ 9 ∷ 10 ∷ 11 ∷ 12 ∷ 13 ∷ 14 ∷ 15 ∷ 0 ∷ 1 ∷ 2 ∷ 3 ∷ []) (slices_of q)) k ≡ turned 1 (block_of (slices_of q) k)
 unfolding turned
 block_of-turned q k = refl
 
 pub block_of-turned_twice : (q : Slices) (k : ℕ)
-    → block_of (moved (2 ∷ 3 ∷ 0 ∷ 1 ∷ 6 ∷ 7 ∷ 4 ∷ 5 ∷ 10 ∷ 11 ∷ 8 ∷ 9 ∷ 14 ∷ 15 ∷ 12 ∷ 13 ∷ []) (slices_of q)) k ≡ turned 2 (block_of (slices_of q) k)
+    → block_of (moved (8 ∷ 9 ∷ 10 ∷ 11 ∷ 12 ∷ 13 ∷ 14 ∷ 15 ∷ 0 ∷ 1 ∷ 2 ∷ 3 ∷ 4 ∷ 5 ∷ 6 ∷ 7 ∷ []) (slices_of q)) k ≡ turned 2 (block_of (slices_of q) k)
 unfolding turned
 block_of-turned_twice q k = refl
 
@@ -98,19 +98,23 @@ byte_of-sum xs ys k p e hx hy h =
     (λ i _. ap (λ (n : ℕ). bit_at n k) (index_sum xs ys i p e hx hy h)
     ∙ bit_at_xor (slice_index (slice_index_or xs i []) p) (slice_index (slice_index_or ys i []) p) k)
 
-index_block : (xs : List (List ℕ)) (k p : ℕ) → p < 16 → slice_index (block_of xs k) p ≡ byte_of xs k p
-index_block xs k p h = get_or-map-range_with_len (byte_of xs k) 0 16 p p 0 h (omega arith)
+-- where the byte at this place of a block stands, row after row
+abbrev pub place : ℕ → ℕ
+place i = 4 * (i % 4) + i / 4
+
+index_block : (xs : List (List ℕ)) (k i : ℕ) → i < 16 → slice_index (block_of xs k) i ≡ byte_of xs k (place i)
+index_block xs k i h = get_or-map-range_with_len (λ i. byte_of xs k (place i)) 0 16 i i 0 h (omega arith)
 
 pub block_of-sum : (xs ys : List (List ℕ)) (k : ℕ) → length xs ≡ length ys → Each1 (λ x. length x ≡ 16) xs → Each1 (λ y. length y ≡ 16) ys
     → block_of (zip2 (zip2 bit_xor) xs ys) k ≡ add_round_key (block_of xs k) (block_of ys k)
 unfolding add_round_key
 block_of-sum xs ys k e hx hy =
-    same_below (byte_of (zip2 (zip2 bit_xor) xs ys) k) (λ i. bit_xor (at (block_of xs k) (i % 4) (i / 4)) (at (block_of ys k) (i % 4) (i / 4))) 16
-    (λ i h. let place : i ≡ i % 4 + 4 * (i / 4) = omega arith in
-    byte_of-sum xs ys k i e hx hy h
+    same_below (λ i. byte_of (zip2 (zip2 bit_xor) xs ys) k (place i)) (λ i. bit_xor (at (block_of xs k) (i % 4) (i / 4)) (at (block_of ys k) (i % 4) (i / 4))) 16
+    (λ i h. let here : i ≡ i % 4 + 4 * (i / 4) = omega arith in
+    byte_of-sum xs ys k (place i) e hx hy (omega arith)
     ∙ ap₂ (λ (x y : ℕ). bit_xor x y)
-    (sym (index_block xs k i h) ∙ ap (λ (n : ℕ). slice_index (block_of xs k) n) place)
-    (sym (index_block ys k i h) ∙ ap (λ (n : ℕ). slice_index (block_of ys k) n) place))
+    (sym (index_block xs k i h) ∙ ap (λ (n : ℕ). slice_index (block_of xs k) n) here)
+    (sym (index_block ys k i h) ∙ ap (λ (n : ℕ). slice_index (block_of ys k) n) here))
 
 -- ---- doubling
 
@@ -150,8 +154,10 @@ pub block_of-doubled : (q : Slices) (k : ℕ) → Each1 (λ x. length x ≡ 16) 
 unfolding doubled
 block_of-doubled q k long =
     let new : List (List ℕ) = q.s7 ∷ zip2 bit_xor q.s0 q.s7 ∷ q.s1 ∷ zip2 bit_xor q.s2 q.s7 ∷ zip2 bit_xor q.s3 q.s7 ∷ q.s4 ∷ q.s5 ∷ q.s6 ∷ [] in
-    same_below (byte_of new k) (λ p. product 2 (byte_of (slices_of q) k p)) 16
-    (λ p h.
+    same_below (λ i. byte_of new k (place i)) (λ i. product 2 (byte_of (slices_of q) k (place i))) 16
+    (λ i h.
+    let p : ℕ = place i in
+    let inside : p < 16 = omega arith in
     let bit : ℕ → ℕ = λ i. bit_at (slice_index (slice_index_or (slices_of q) i []) p) k in
     let sum : (x y : List ℕ) → length x ≡ 16 → length y ≡ 16 → bit_at (slice_index (zip2 bit_xor x y) p) k ≡ (bit_at (slice_index x p) k + bit_at (slice_index y p) k) % 2 =
     λ x y hx hy. ap (λ (n : ℕ). bit_at n k) (get_or-zip2 bit_xor x y p 0 0 0 (omega arith) (omega arith)) ∙ bit_at_xor (slice_index x p) (slice_index y p) k in
@@ -167,5 +173,5 @@ block_of-doubled q k long =
 
 pub small-block_of : (slices : List (List ℕ)) (k : ℕ) → Small (block_of slices k)
 small-block_of slices k =
-    small_map (byte_of slices k) (range_with_len 0 16)
-    (λ p. byte_of_bits-lt (λ j. bit_at (slice_index (slice_index_or slices j []) p) k) (λ j. bit_at-lt (slice_index (slice_index_or slices j []) p) k))
+    small_map (λ i. byte_of slices k (place i)) (range_with_len 0 16)
+    (λ i. byte_of_bits-lt (λ j. bit_at (slice_index (slice_index_or slices j []) (place i)) k) (λ j. bit_at-lt (slice_index (slice_index_or slices j []) (place i)) k))

@@ -9,9 +9,10 @@ use Rattle.std.specs.Int.{bit_at}
 use Rattle.bc_aes.specs.State.{byte_of_bits}
 use Rattle.bc_aes.specs.Blocks.{block}
 use Rattle.bc_aes.specs.declared.slices.Slices.{Slices}
-use Rattle.bc_aes.specs.Slices.{slices_of, byte_of, block_of, AreBytes, bits_at, lower_bits, upper_bits, Exchanged}
+use Rattle.bc_aes.specs.Slices.{slices_of, byte_of, vector_of, by_rows, block_of, AreBytes, bits_at, lower_bits, upper_bits, Exchanged}
 use Rattle.bc_aes.proofs.BlockLemmas.{kept}
 use Rattle.bc_aes.proofs.CircuitLemmas.{Long, bit_of, byte_from}
+use Rattle.bc_aes.proofs.UndoLemmas.{state_of-at}
 
 eight : {a b c d e f g h a' b' c' d' e' f' g' h' : List ℕ} → a ≡ a' → b ≡ b' → c ≡ c' → d ≡ d' → e ≡ e' → f ≡ f' → g ≡ g' → h ≡ h'
     → (a ∷ b ∷ c ∷ d ∷ e ∷ f ∷ g ∷ h ∷ []) ≡ (a' ∷ b' ∷ c' ∷ d' ∷ e' ∷ f' ∷ g' ∷ h' ∷ [])
@@ -73,7 +74,7 @@ abbrev pub AreTransposed : Slices → Slices → Type 0
 AreTransposed old new = (p : ℕ) → p < 16 → map (bits_at p) (slices_of new) ≡ columns p (slices_of old)
 
 pub slices-transposed : (old new : Slices) → AreTransposed old new → Each1 Bytes (slices_of old)
-    → (k : ℕ) → k < 8 → block_of (slices_of new) k ≡ slice_index_or (slices_of old) k []
+    → (k : ℕ) → k < 8 → vector_of (slices_of new) k ≡ slice_index_or (slices_of old) k []
 slices-transposed old new rows bytes k lt =
     let v : List ℕ = slice_index_or (slices_of old) k [] in
     let of_v : Bytes v = Each1-get_or Bytes (slices_of old) k [] lt bytes in
@@ -83,7 +84,7 @@ slices-transposed old new rows bytes k lt =
     ∙ byte_of_its_bits (slice_index v p) (of_v.1 p pt))))
 
 pub blocks-transposed : (old new : Slices) → AreTransposed old new → Each1 Bytes (slices_of new)
-    → (k : ℕ) → k < 8 → slice_index_or (slices_of new) k [] ≡ block_of (slices_of old) k
+    → (k : ℕ) → k < 8 → slice_index_or (slices_of new) k [] ≡ vector_of (slices_of old) k
 blocks-transposed old new rows bytes k lt =
     let v : List ℕ = slice_index_or (slices_of new) k [] in
     let of_v : Bytes v = Each1-get_or Bytes (slices_of new) k [] lt bytes in
@@ -94,26 +95,39 @@ blocks-transposed old new rows bytes k lt =
     (sym (get_or-map (bits_at p) (slices_of new) k [] [] lt) ∙ ap (λ (m : List (List ℕ)). slice_index_or m k []) (rows p pt)
     ∙ get_or-map-range_with_len (λ j. map (bit_of p j) (slices_of old)) 0 8 k k [] lt (omega arith)))
 
+-- ---- rows
+
+-- the block of a vector
+pub block_of-vector : (slices : List (List ℕ)) (k : ℕ) → block_of slices k ≡ by_rows (vector_of slices k)
+block_of-vector slices k = refl
+
+-- and twice is not at all
+pub by_rows-twice : (bytes : List ℕ) → length bytes ≡ 16 → by_rows (by_rows bytes) ≡ bytes
+by_rows-twice bytes long = state_of-at bytes long
+
 -- ---- a text of eight blocks
 
 below_8 : (P : ℕ → Type 0) → P 0 → P 1 → P 2 → P 3 → P 4 → P 5 → P 6 → P 7 → (k : ℕ) → k < 8 → P k
 below_8 P p0 p1 p2 p3 p4 p5 p6 p7 =
     below_more P 7 (below_more P 6 (below_more P 5 (below_more P 4 (below_more P 3 (below_more P 2 (below_more P 1 (below_more P 0 (λ k lt. absurd (omega (arith, lt))) p0) p1) p2) p3) p4) p5) p6) p7
 
-pub loaded : (q : Slices) (text : List ℕ) → q.s0 ≡ block text 0 → q.s1 ≡ block text 1 → q.s2 ≡ block text 2 → q.s3 ≡ block text 3
-    → q.s4 ≡ block text 4 → q.s5 ≡ block text 5 → q.s6 ≡ block text 6 → q.s7 ≡ block text 7
-    → (k : ℕ) → k < 8 → slice_index_or (slices_of q) k [] ≡ block text k
-loaded q text = below_8 (λ k. slice_index_or (slices_of q) k [] ≡ block text k)
+abbrev HasRows : List ℕ → ℕ → List ℕ → Type 0
+HasRows text k vector = vector ≡ by_rows (block text k)
 
--- the first i blocks of a text are these
+pub loaded : (q : Slices) (text : List ℕ) → HasRows text 0 q.s0 → HasRows text 1 q.s1 → HasRows text 2 q.s2 → HasRows text 3 q.s3
+    → HasRows text 4 q.s4 → HasRows text 5 q.s5 → HasRows text 6 q.s6 → HasRows text 7 q.s7
+    → (k : ℕ) → k < 8 → slice_index_or (slices_of q) k [] ≡ by_rows (block text k)
+loaded q text = below_8 (λ k. slice_index_or (slices_of q) k [] ≡ by_rows (block text k))
+
+-- the first i blocks of a text are those of these vectors
 abbrev pub Holds : List (List ℕ) → ℕ → List ℕ → Type 0
-Holds blocks i text = (k : ℕ) → k < i → block text k ≡ slice_index_or blocks k []
+Holds vectors i text = (k : ℕ) → k < i → block text k ≡ by_rows (slice_index_or vectors k [])
 
 pub held-none : (blocks : List (List ℕ)) (text : List ℕ) → Holds blocks 0 text
 held-none blocks text k lt = absurd (omega (arith, lt))
 
 pub held-more : (blocks : List (List ℕ)) (i : ℕ) (old new : List ℕ) → Holds blocks i old → take (16 * i) new ≡ take (16 * i) old
-    → block new i ≡ slice_index_or blocks i [] → Holds blocks (i + 1) new
+    → block new i ≡ by_rows (slice_index_or blocks i []) → Holds blocks (i + 1) new
 held-more blocks i old new held before here =
-    below_more (λ k. block new k ≡ slice_index_or blocks k []) i
+    below_more (λ k. block new k ≡ by_rows (slice_index_or blocks k [])) i
     (λ k lt. kept new old (16 * i) (16 * k) (16 * k + 16) before (omega (arith, lt)) ∙ held k lt) here

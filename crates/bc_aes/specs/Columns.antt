@@ -1,10 +1,11 @@
--- The state and the schedule as words of 32 bits, one for each column, with row 0 in the lowest byte. The contracts of
--- the private functions speak of these; no public one does.
-use Rattle.std.specs.Prelude.{◌≡◌, ℕ, ◌+◌, ◌<◌, ◌≤◌, List, [], ◌∷◌, ◌++◌, length, slice_index}
+-- Private: the contracts of private functions alone speak of these. The state and the schedule as words of 32 bits, one for
+-- each column, with row 0 in the lowest byte.
+use Rattle.std.specs.Prelude.{◌≡◌, ℕ, ◌+◌, ◌-◌, ◌/◌, ◌<◌, ◌≤◌, List, [], ◌∷◌, ◌++◌, length, slice_index}
 use Rattle.std.specs.List.{flat_map}
 use Rattle.std.specs.Int.{w32, to_le_bytes, from_le_bytes}
 use Rattle.bc_aes.specs.Field.{product}
 use Rattle.bc_aes.specs.State.{circulant, mixed, inv_mixing_row}
+use Rattle.bc_aes.specs.Cipher.{encipher_by, decipher_by}
 
 -- the bytes of a word, row 0 first
 abbrev pub column : ℕ → List ℕ
@@ -21,6 +22,14 @@ state_bytes s = column (slice_index s 0) ++ (column (slice_index s 1) ++ (column
 -- the schedule of a list of words
 abbrev pub schedule_bytes : List ℕ → List ℕ
 schedule_bytes words = flat_map column words
+
+-- encipherment under a schedule of words, four to a round key
+abbrev pub encipher_by_words : List ℕ → List ℕ → List ℕ
+encipher_by_words words = encipher_by (length words / 4 - 1) (schedule_bytes words)
+
+-- decipherment under a schedule of words
+abbrev pub decipher_by_words : List ℕ → List ℕ → List ℕ
+decipher_by_words words = decipher_by (length words / 4 - 1) (schedule_bytes words)
 
 -- what a byte in row j adds to its column, under the circulant matrix with this first row
 abbrev pub part : List ℕ → ℕ → ℕ → ℕ

@@ -50,6 +50,7 @@ impl Aes128 {
     /// Enciphers one block of 16 bytes in place (FIPS 197, 5.1).
     #[inline]
     pub fn encrypt_block(&self, block: &mut [u8; 16])
+        ensures size { length self.now ≡ 16 }
         ensures enciphers { block.new ≡ encipher 4 self.now block.old }
     {
         encrypt(&self.schedule, block);
@@ -58,6 +59,7 @@ impl Aes128 {
     /// Deciphers one block of 16 bytes in place (FIPS 197, 5.3).
     #[inline]
     pub fn decrypt_block(&self, block: &mut [u8; 16])
+        ensures size { length self.now ≡ 16 }
         ensures deciphers { block.new ≡ decipher 4 self.now block.old }
     {
         decrypt(&self.schedule, &self.unmixed, block);
@@ -66,6 +68,7 @@ impl Aes128 {
     /// Enciphers a text of whole blocks in place, each block by itself.
     pub fn encrypt_blocks(&self, text: &mut [u8])
         requires { length text.old % 16 ≡ 0 }
+        ensures size { length self.now ≡ 16 }
         ensures enciphers { EachBlock (encipher 4 self.now) text.old text.new }
     {
         encrypt_each(&self.schedule, &self.sliced, text);
@@ -74,6 +77,7 @@ impl Aes128 {
     /// Deciphers a text of whole blocks in place, each block by itself.
     pub fn decrypt_blocks(&self, text: &mut [u8])
         requires { length text.old % 16 ≡ 0 }
+        ensures size { length self.now ≡ 16 }
         ensures deciphers { EachBlock (decipher 4 self.now) text.old text.new }
     {
         decrypt_each(&self.schedule, &self.unmixed, &self.sliced, text);

@@ -2,14 +2,91 @@
 //! that a key or a text chooses.
 
 ghost use Rattle.std.specs.Prelude.{◌≡◌};
-ghost use Rattle.bc_aes.specs.State as state;
 ghost use Rattle.bc_aes.specs.Slices.{slices_of, EachSlicedBlock};
+ghost use Rattle.bc_aes.specs.SlicedRounds.{bare_sub_bytes, bare_inv_sub_bytes};
 ghost use Rattle.bc_aes.specs.Circuit.{slice_logic, results_of, sub_byte_circuit, inv_sub_byte_circuit};
 
 use crate::slices::Slices;
 use std::simd::prelude::*;
 
-// The gates of the S-box, in the order of the circuit.
+// The gates that both circuits share: the inverse of a byte, from the sums of its bits that the first gates make, to the
+// products of which the last gates are sums.
+macro_rules! products {
+    ([
+            $x:ident $y1:ident $y2:ident $y3:ident $y4:ident $y5:ident $y6:ident $y7:ident $y8:ident
+            $y9:ident $y10:ident $y11:ident $y12:ident $y13:ident $y14:ident $y15:ident $y16:ident
+            $y17:ident $y18:ident $y19:ident $y20:ident $y21:ident
+    ] -> [
+            $z0:ident $z1:ident $z2:ident $z3:ident $z4:ident $z5:ident $z6:ident $z7:ident
+            $z8:ident $z9:ident $z10:ident $z11:ident $z12:ident $z13:ident $z14:ident $z15:ident
+            $z16:ident $z17:ident
+    ]) => {
+        let t2 = $y12 & $y15;
+        let t3 = $y3 & $y6;
+        let t4 = t3 ^ t2;
+        let t5 = $y4 & $x;
+        let t6 = t5 ^ t2;
+        let t7 = $y13 & $y16;
+        let t8 = $y5 & $y1;
+        let t9 = t8 ^ t7;
+        let t10 = $y2 & $y7;
+        let t11 = t10 ^ t7;
+        let t12 = $y9 & $y11;
+        let t13 = $y14 & $y17;
+        let t14 = t13 ^ t12;
+        let t15 = $y8 & $y10;
+        let t16 = t15 ^ t12;
+        let t17 = t4 ^ t14;
+        let t18 = t6 ^ t16;
+        let t19 = t9 ^ t14;
+        let t20 = t11 ^ t16;
+        let t21 = t17 ^ $y20;
+        let t22 = t18 ^ $y19;
+        let t23 = t19 ^ $y21;
+        let t24 = t20 ^ $y18;
+        let t25 = t21 ^ t22;
+        let t26 = t21 & t23;
+        let t27 = t24 ^ t26;
+        let t28 = t25 & t27;
+        let t29 = t28 ^ t22;
+        let t30 = t23 ^ t24;
+        let t31 = t22 ^ t26;
+        let t32 = t31 & t30;
+        let t33 = t32 ^ t24;
+        let t34 = t23 ^ t33;
+        let t35 = t27 ^ t33;
+        let t36 = t24 & t35;
+        let t37 = t36 ^ t34;
+        let t38 = t27 ^ t36;
+        let t39 = t29 & t38;
+        let t40 = t25 ^ t39;
+        let t41 = t40 ^ t37;
+        let t42 = t29 ^ t33;
+        let t43 = t29 ^ t40;
+        let t44 = t33 ^ t37;
+        let t45 = t42 ^ t41;
+        let $z0 = t44 & $y15;
+        let $z1 = t37 & $y6;
+        let $z2 = t33 & $x;
+        let $z3 = t43 & $y16;
+        let $z4 = t40 & $y1;
+        let $z5 = t29 & $y7;
+        let $z6 = t42 & $y11;
+        let $z7 = t45 & $y17;
+        let $z8 = t41 & $y10;
+        let $z9 = t44 & $y12;
+        let $z10 = t37 & $y3;
+        let $z11 = t33 & $y4;
+        let $z12 = t43 & $y13;
+        let $z13 = t40 & $y5;
+        let $z14 = t29 & $y2;
+        let $z15 = t42 & $y9;
+        let $z16 = t45 & $y14;
+        let $z17 = t41 & $y8;
+    };
+}
+
+/// The gates of the S-box, in the order of the circuit.
 #[inline(always)]
 fn sub_byte_gates(q: Slices) -> Slices
     ensures computes { slices_of result ≡ results_of slice_logic sub_byte_circuit (slices_of q) }
@@ -24,7 +101,6 @@ fn sub_byte_gates(q: Slices) -> Slices
         s6: x6,
         s7: x7,
     } = q;
-    let ones = u8x16::splat(255);
     let y14 = x4 ^ x2;
     let y13 = x7 ^ x1;
     let y9 = x7 ^ x4;
@@ -48,68 +124,8 @@ fn sub_byte_gates(q: Slices) -> Slices
     let y16 = t0 ^ y11;
     let y21 = y13 ^ y16;
     let y18 = x7 ^ y16;
-    let t2 = y12 & y15;
-    let t3 = y3 & y6;
-    let t4 = t3 ^ t2;
-    let t5 = y4 & x0;
-    let t6 = t5 ^ t2;
-    let t7 = y13 & y16;
-    let t8 = y5 & y1;
-    let t9 = t8 ^ t7;
-    let t10 = y2 & y7;
-    let t11 = t10 ^ t7;
-    let t12 = y9 & y11;
-    let t13 = y14 & y17;
-    let t14 = t13 ^ t12;
-    let t15 = y8 & y10;
-    let t16 = t15 ^ t12;
-    let t17 = t4 ^ t14;
-    let t18 = t6 ^ t16;
-    let t19 = t9 ^ t14;
-    let t20 = t11 ^ t16;
-    let t21 = t17 ^ y20;
-    let t22 = t18 ^ y19;
-    let t23 = t19 ^ y21;
-    let t24 = t20 ^ y18;
-    let t25 = t21 ^ t22;
-    let t26 = t21 & t23;
-    let t27 = t24 ^ t26;
-    let t28 = t25 & t27;
-    let t29 = t28 ^ t22;
-    let t30 = t23 ^ t24;
-    let t31 = t22 ^ t26;
-    let t32 = t31 & t30;
-    let t33 = t32 ^ t24;
-    let t34 = t23 ^ t33;
-    let t35 = t27 ^ t33;
-    let t36 = t24 & t35;
-    let t37 = t36 ^ t34;
-    let t38 = t27 ^ t36;
-    let t39 = t29 & t38;
-    let t40 = t25 ^ t39;
-    let t41 = t40 ^ t37;
-    let t42 = t29 ^ t33;
-    let t43 = t29 ^ t40;
-    let t44 = t33 ^ t37;
-    let t45 = t42 ^ t41;
-    let z0 = t44 & y15;
-    let z1 = t37 & y6;
-    let z2 = t33 & x0;
-    let z3 = t43 & y16;
-    let z4 = t40 & y1;
-    let z5 = t29 & y7;
-    let z6 = t42 & y11;
-    let z7 = t45 & y17;
-    let z8 = t41 & y10;
-    let z9 = t44 & y12;
-    let z10 = t37 & y3;
-    let z11 = t33 & y4;
-    let z12 = t43 & y13;
-    let z13 = t40 & y5;
-    let z14 = t29 & y2;
-    let z15 = t42 & y9;
-    let z16 = t45 & y14;
-    let z17 = t41 & y8;
+    products!([x0 y1 y2 y3 y4 y5 y6 y7 y8 y9 y10 y11 y12 y13 y14 y15 y16 y17 y18 y19 y20 y21] ->
+        [z0 z1 z2 z3 z4 z5 z6 z7 z8 z9 z10 z11 z12 z13 z14 z15 z16 z17]);
     let t46 = z15 ^ z16;
     let t47 = z10 ^ z11;
     let t48 = z5 ^ z13;
@@ -140,23 +156,19 @@ fn sub_byte_gates(q: Slices) -> Slices
     let r2 = t47 ^ t65;
     let r6 = t64 ^ r4;
     let r5 = t55 ^ t67;
-    let c0 = r0 ^ ones;
-    let c1 = r1 ^ ones;
-    let c5 = r5 ^ ones;
-    let c6 = r6 ^ ones;
     Slices {
-        s0: c0,
-        s1: c1,
+        s0: r0,
+        s1: r1,
         s2: r2,
         s3: r3,
         s4: r4,
-        s5: c5,
-        s6: c6,
+        s5: r5,
+        s6: r6,
         s7: r7,
     }
 }
 
-// The gates of the inverse S-box, in the order of the circuit.
+/// The gates of the inverse S-box, in the order of the circuit.
 #[inline(always)]
 fn inv_sub_byte_gates(q: Slices) -> Slices
     ensures computes { slices_of result ≡ results_of slice_logic inv_sub_byte_circuit (slices_of q) }
@@ -171,96 +183,31 @@ fn inv_sub_byte_gates(q: Slices) -> Slices
         s6: x6,
         s7: x7,
     } = q;
-    let ones = u8x16::splat(255);
-    let a0 = x0 ^ ones;
-    let a1 = x1 ^ ones;
-    let a5 = x5 ^ ones;
-    let a6 = x6 ^ ones;
     let y3 = x7 ^ x4;
-    let y5 = a6 ^ x4;
+    let y5 = x6 ^ x4;
     let y6 = x7 ^ y5;
-    let y8 = x7 ^ a6;
+    let y8 = x7 ^ x6;
     let y9 = x4 ^ x3;
-    let y1 = a0 ^ y9;
+    let y1 = x0 ^ y9;
     let y10 = y6 ^ y1;
-    let y13 = a1 ^ y1;
+    let y13 = x1 ^ y1;
     let y2 = y5 ^ y13;
     let y4 = y9 ^ y2;
-    let y7 = a5 ^ y4;
+    let y7 = x5 ^ y4;
     let y12 = y3 ^ y4;
     let y14 = x3 ^ y6;
     let y16 = y1 ^ y7;
-    let y18 = a5 ^ y9;
+    let y18 = x5 ^ y9;
     let y19 = x4 ^ y1;
-    let y21 = a1 ^ y7;
+    let y21 = x1 ^ y7;
     let p17 = x7 ^ x2;
     let y11 = y4 ^ p17;
     let y17 = y10 ^ y11;
     let y15 = y16 ^ y17;
     let y20 = y9 ^ y11;
-    let w7 = a5 ^ p17;
-    let t2 = y12 & y15;
-    let t3 = y3 & y6;
-    let t4 = t3 ^ t2;
-    let t5 = y4 & w7;
-    let t6 = t5 ^ t2;
-    let t7 = y13 & y16;
-    let t8 = y5 & y1;
-    let t9 = t8 ^ t7;
-    let t10 = y2 & y7;
-    let t11 = t10 ^ t7;
-    let t12 = y9 & y11;
-    let t13 = y14 & y17;
-    let t14 = t13 ^ t12;
-    let t15 = y8 & y10;
-    let t16 = t15 ^ t12;
-    let t17 = t4 ^ t14;
-    let t18 = t6 ^ t16;
-    let t19 = t9 ^ t14;
-    let t20 = t11 ^ t16;
-    let t21 = t17 ^ y20;
-    let t22 = t18 ^ y19;
-    let t23 = t19 ^ y21;
-    let t24 = t20 ^ y18;
-    let t25 = t21 ^ t22;
-    let t26 = t21 & t23;
-    let t27 = t24 ^ t26;
-    let t28 = t25 & t27;
-    let t29 = t28 ^ t22;
-    let t30 = t23 ^ t24;
-    let t31 = t22 ^ t26;
-    let t32 = t31 & t30;
-    let t33 = t32 ^ t24;
-    let t34 = t23 ^ t33;
-    let t35 = t27 ^ t33;
-    let t36 = t24 & t35;
-    let t37 = t36 ^ t34;
-    let t38 = t27 ^ t36;
-    let t39 = t29 & t38;
-    let t40 = t25 ^ t39;
-    let t41 = t40 ^ t37;
-    let t42 = t29 ^ t33;
-    let t43 = t29 ^ t40;
-    let t44 = t33 ^ t37;
-    let t45 = t42 ^ t41;
-    let z0 = t44 & y15;
-    let z1 = t37 & y6;
-    let z2 = t33 & w7;
-    let z3 = t43 & y16;
-    let z4 = t40 & y1;
-    let z5 = t29 & y7;
-    let z6 = t42 & y11;
-    let z7 = t45 & y17;
-    let z8 = t41 & y10;
-    let z9 = t44 & y12;
-    let z10 = t37 & y3;
-    let z11 = t33 & y4;
-    let z12 = t43 & y13;
-    let z13 = t40 & y5;
-    let z14 = t29 & y2;
-    let z15 = t42 & y9;
-    let z16 = t45 & y14;
-    let z17 = t41 & y8;
+    let w7 = x5 ^ p17;
+    products!([w7 y1 y2 y3 y4 y5 y6 y7 y8 y9 y10 y11 y12 y13 y14 y15 y16 y17 y18 y19 y20 y21] ->
+        [z0 z1 z2 z3 z4 z5 z6 z7 z8 z9 z10 z11 z12 z13 z14 z15 z16 z17]);
     let b18 = z12 ^ z13;
     let b19 = z6 ^ z15;
     let b20 = z16 ^ b18;
@@ -304,18 +251,18 @@ fn inv_sub_byte_gates(q: Slices) -> Slices
     }
 }
 
-/// SubBytes of eight blocks (FIPS 197, 5.1.1).
+/// SubBytes of eight blocks without its constant (FIPS 197, 5.1.1).
 #[inline(always)]
-pub fn sub_bytes(q: Slices) -> Slices
-    ensures substitutes { EachSlicedBlock state.sub_bytes (slices_of q) (slices_of result) }
+pub(crate) fn sub_bytes(q: Slices) -> Slices
+    ensures substitutes { EachSlicedBlock bare_sub_bytes (slices_of q) (slices_of result) }
 {
     sub_byte_gates(q)
 }
 
-/// InvSubBytes of eight blocks (FIPS 197, 5.3.2).
+/// InvSubBytes of eight blocks that the constant was added to (FIPS 197, 5.3.2).
 #[inline(always)]
-pub fn inv_sub_bytes(q: Slices) -> Slices
-    ensures substitutes { EachSlicedBlock state.inv_sub_bytes (slices_of q) (slices_of result) }
+pub(crate) fn inv_sub_bytes(q: Slices) -> Slices
+    ensures substitutes { EachSlicedBlock bare_inv_sub_bytes (slices_of q) (slices_of result) }
 {
     inv_sub_byte_gates(q)
 }

@@ -11,9 +11,9 @@ use crate::tables::{
     UNMIXED_ROW_1, UNMIXED_ROW_2, UNMIXED_ROW_3,
 };
 
-// The byte at this shift, as an index of a table.
+/// The byte at this shift, as an index of a table.
 #[inline(always)]
-pub fn byte(word: u32, shift: u32) -> usize
+pub(crate) fn byte(word: u32, shift: u32) -> usize
     requires { shift < 32 }
     ensures value { result ≡ word / 2 ^ shift % 256 }
     ensures below { result < 256 }
@@ -21,7 +21,7 @@ pub fn byte(word: u32, shift: u32) -> usize
     ((word >> shift) & 0xff) as usize
 }
 
-// What row 0 of this word adds to its column by SubBytes and MixColumns.
+/// What row 0 of this word adds to its column by SubBytes and MixColumns.
 #[inline(always)]
 fn mixed_row_0(word: u32) -> u32
     ensures adds { result ≡ part mixing_row 0 (sub_byte (byte_at 0 word)) }
@@ -29,7 +29,7 @@ fn mixed_row_0(word: u32) -> u32
     MIXED_ROW_0[byte(word, 0)]
 }
 
-// What row 1 of this word adds to its column by SubBytes and MixColumns.
+/// What row 1 of this word adds to its column by SubBytes and MixColumns.
 #[inline(always)]
 fn mixed_row_1(word: u32) -> u32
     ensures adds { result ≡ part mixing_row 1 (sub_byte (byte_at 1 word)) }
@@ -37,7 +37,7 @@ fn mixed_row_1(word: u32) -> u32
     MIXED_ROW_1[byte(word, 8)]
 }
 
-// What row 2 of this word adds to its column by SubBytes and MixColumns.
+/// What row 2 of this word adds to its column by SubBytes and MixColumns.
 #[inline(always)]
 fn mixed_row_2(word: u32) -> u32
     ensures adds { result ≡ part mixing_row 2 (sub_byte (byte_at 2 word)) }
@@ -45,7 +45,7 @@ fn mixed_row_2(word: u32) -> u32
     MIXED_ROW_2[byte(word, 16)]
 }
 
-// What row 3 of this word adds to its column by SubBytes and MixColumns.
+/// What row 3 of this word adds to its column by SubBytes and MixColumns.
 #[inline(always)]
 fn mixed_row_3(word: u32) -> u32
     ensures adds { result ≡ part mixing_row 3 (sub_byte (byte_at 3 word)) }
@@ -53,7 +53,7 @@ fn mixed_row_3(word: u32) -> u32
     MIXED_ROW_3[byte(word, 24)]
 }
 
-// What row 0 of this word adds to its column by InvSubBytes and InvMixColumns.
+/// What row 0 of this word adds to its column by InvSubBytes and InvMixColumns.
 #[inline(always)]
 fn unmixed_row_0(word: u32) -> u32
     ensures adds { result ≡ part inv_mixing_row 0 (inv_sub_byte (byte_at 0 word)) }
@@ -61,7 +61,7 @@ fn unmixed_row_0(word: u32) -> u32
     UNMIXED_ROW_0[byte(word, 0)]
 }
 
-// What row 1 of this word adds to its column by InvSubBytes and InvMixColumns.
+/// What row 1 of this word adds to its column by InvSubBytes and InvMixColumns.
 #[inline(always)]
 fn unmixed_row_1(word: u32) -> u32
     ensures adds { result ≡ part inv_mixing_row 1 (inv_sub_byte (byte_at 1 word)) }
@@ -69,7 +69,7 @@ fn unmixed_row_1(word: u32) -> u32
     UNMIXED_ROW_1[byte(word, 8)]
 }
 
-// What row 2 of this word adds to its column by InvSubBytes and InvMixColumns.
+/// What row 2 of this word adds to its column by InvSubBytes and InvMixColumns.
 #[inline(always)]
 fn unmixed_row_2(word: u32) -> u32
     ensures adds { result ≡ part inv_mixing_row 2 (inv_sub_byte (byte_at 2 word)) }
@@ -77,7 +77,7 @@ fn unmixed_row_2(word: u32) -> u32
     UNMIXED_ROW_2[byte(word, 16)]
 }
 
-// What row 3 of this word adds to its column by InvSubBytes and InvMixColumns.
+/// What row 3 of this word adds to its column by InvSubBytes and InvMixColumns.
 #[inline(always)]
 fn unmixed_row_3(word: u32) -> u32
     ensures adds { result ≡ part inv_mixing_row 3 (inv_sub_byte (byte_at 3 word)) }
@@ -85,7 +85,7 @@ fn unmixed_row_3(word: u32) -> u32
     UNMIXED_ROW_3[byte(word, 24)]
 }
 
-// SubBytes of the byte at this shift.
+/// SubBytes of the byte at this shift.
 #[inline(always)]
 fn substituted_byte(word: u32, shift: u32) -> u8
     requires { shift < 32 }
@@ -94,7 +94,7 @@ fn substituted_byte(word: u32, shift: u32) -> u8
     SBOX[byte(word, shift)]
 }
 
-// InvSubBytes of the byte at this shift.
+/// InvSubBytes of the byte at this shift.
 #[inline(always)]
 fn unsubstituted_byte(word: u32, shift: u32) -> u8
     requires { shift < 32 }
@@ -103,26 +103,29 @@ fn unsubstituted_byte(word: u32, shift: u32) -> u8
     INV_SBOX[byte(word, shift)]
 }
 
-// SubBytes and MixColumns of the column that has row r from the r-th of these words.
+/// SubBytes and MixColumns of the column that has row r from the r-th of these words.
 #[inline(always)]
-pub fn mixed(a: u32, b: u32, c: u32, d: u32) -> u32
-    ensures mixes { column result ≡ mixed_column mixing_row (sub_byte (byte_at 0 a)) (sub_byte (byte_at 1 b)) (sub_byte (byte_at 2 c)) (sub_byte (byte_at 3 d)) }
+pub(crate) fn mixed(a: u32, b: u32, c: u32, d: u32) -> u32
+    ensures mixes { column result ≡ mixed_column mixing_row
+        (sub_byte (byte_at 0 a)) (sub_byte (byte_at 1 b)) (sub_byte (byte_at 2 c)) (sub_byte (byte_at 3 d)) }
 {
     mixed_row_0(a) ^ mixed_row_1(b) ^ mixed_row_2(c) ^ mixed_row_3(d)
 }
 
-// InvSubBytes and InvMixColumns of the column that has row r from the r-th of these words.
+/// InvSubBytes and InvMixColumns of the column that has row r from the r-th of these words.
 #[inline(always)]
-pub fn unmixed(a: u32, b: u32, c: u32, d: u32) -> u32
-    ensures unmixes { column result ≡ mixed_column inv_mixing_row (inv_sub_byte (byte_at 0 a)) (inv_sub_byte (byte_at 1 b)) (inv_sub_byte (byte_at 2 c)) (inv_sub_byte (byte_at 3 d)) }
+pub(crate) fn unmixed(a: u32, b: u32, c: u32, d: u32) -> u32
+    ensures unmixes { column result ≡ mixed_column inv_mixing_row
+        (inv_sub_byte (byte_at 0 a)) (inv_sub_byte (byte_at 1 b)) (inv_sub_byte (byte_at 2 c)) (inv_sub_byte (byte_at 3 d)) }
 {
     unmixed_row_0(a) ^ unmixed_row_1(b) ^ unmixed_row_2(c) ^ unmixed_row_3(d)
 }
 
-// SubBytes of the column that has row r from the r-th of these words.
+/// SubBytes of the column that has row r from the r-th of these words.
 #[inline(always)]
-pub fn substituted(a: u32, b: u32, c: u32, d: u32) -> u32
-    ensures substitutes { column result ≡ sub_byte (byte_at 0 a) ∷ sub_byte (byte_at 1 b) ∷ sub_byte (byte_at 2 c) ∷ sub_byte (byte_at 3 d) ∷ [] }
+pub(crate) fn substituted(a: u32, b: u32, c: u32, d: u32) -> u32
+    ensures substitutes { column result ≡ sub_byte (byte_at 0 a) ∷ sub_byte (byte_at 1 b)
+        ∷ sub_byte (byte_at 2 c) ∷ sub_byte (byte_at 3 d) ∷ [] }
 {
     u32::from_le_bytes([
         substituted_byte(a, 0),
@@ -132,9 +135,9 @@ pub fn substituted(a: u32, b: u32, c: u32, d: u32) -> u32
     ])
 }
 
-// SubWord of RotWord.
+/// SubWord of RotWord.
 #[inline(always)]
-pub fn substituted_turned(word: u32) -> u32
+pub(crate) fn substituted_turned(word: u32) -> u32
     ensures substitutes { column result ≡ sub_word (rot_word (column word)) }
 {
     u32::from_le_bytes([
@@ -145,10 +148,11 @@ pub fn substituted_turned(word: u32) -> u32
     ])
 }
 
-// InvSubBytes of the column that has row r from the r-th of these words.
+/// InvSubBytes of the column that has row r from the r-th of these words.
 #[inline(always)]
-pub fn unsubstituted(a: u32, b: u32, c: u32, d: u32) -> u32
-    ensures substitutes { column result ≡ inv_sub_byte (byte_at 0 a) ∷ inv_sub_byte (byte_at 1 b) ∷ inv_sub_byte (byte_at 2 c) ∷ inv_sub_byte (byte_at 3 d) ∷ [] }
+pub(crate) fn unsubstituted(a: u32, b: u32, c: u32, d: u32) -> u32
+    ensures substitutes { column result ≡ inv_sub_byte (byte_at 0 a) ∷ inv_sub_byte (byte_at 1 b)
+        ∷ inv_sub_byte (byte_at 2 c) ∷ inv_sub_byte (byte_at 3 d) ∷ [] }
 {
     u32::from_le_bytes([
         unsubstituted_byte(a, 0),
@@ -158,18 +162,19 @@ pub fn unsubstituted(a: u32, b: u32, c: u32, d: u32) -> u32
     ])
 }
 
-// The word of four bytes of a list.
+/// The word of four bytes of a list.
 #[inline(always)]
-pub fn word_at(bytes: &[u8], at: usize) -> u32
+pub(crate) fn word_at(bytes: &[u8], at: usize) -> u32
     requires { at + 4 ≤ length bytes.now }
-    ensures holds { column result ≡ slice_index bytes.now at ∷ slice_index bytes.now (at + 1) ∷ slice_index bytes.now (at + 2) ∷ slice_index bytes.now (at + 3) ∷ [] }
+    ensures holds { column result ≡ slice_index bytes.now at ∷ slice_index bytes.now (at + 1)
+        ∷ slice_index bytes.now (at + 2) ∷ slice_index bytes.now (at + 3) ∷ [] }
 {
     u32::from_le_bytes([bytes[at], bytes[at + 1], bytes[at + 2], bytes[at + 3]])
 }
 
-// The columns of a block.
+/// The columns of a block.
 #[inline(always)]
-pub fn load(block: &[u8; 16]) -> [u32; 4]
+pub(crate) fn load(block: &[u8; 16]) -> [u32; 4]
     ensures holds { state_bytes result ≡ block.now }
 {
     [
@@ -180,9 +185,9 @@ pub fn load(block: &[u8; 16]) -> [u32; 4]
     ]
 }
 
-// The block of these columns.
+/// The block of these columns.
 #[inline(always)]
-pub fn store(state: [u32; 4]) -> [u8; 16]
+pub(crate) fn store(state: [u32; 4]) -> [u8; 16]
     ensures holds { result ≡ state_bytes state }
 {
     let [a0, a1, a2, a3] = state[0].to_le_bytes();

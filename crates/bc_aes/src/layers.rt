@@ -1,6 +1,6 @@
 //! The parts of a round on eight blocks in bit slices, but for the S-box.
 //!
-//! Byte r + 4c of a slice is row r, column c, so that rows and columns move as bytes of each slice.
+//! Byte 4r + c of a slice is row r, column c, so that a turn of all columns moves words of 32 bits.
 
 ghost use Rattle.std.specs.Prelude.{◌≡◌, [], ◌∷◌};
 ghost use Rattle.std.specs.Simd.Lanes.{pick_l};
@@ -11,107 +11,91 @@ ghost use Rattle.bc_aes.specs.SlicedRounds.{turned, doubled, EachSlicedByKey};
 use crate::slices::Slices;
 use std::simd::prelude::*;
 
-// Each row r moves left by r columns.
+/// Each row r moves left by r columns.
 #[inline(always)]
 fn rows_shifted(slice: u8x16) -> u8x16
-    ensures { result ≡ pick_l 0 slice (0 ∷ 5 ∷ 10 ∷ 15 ∷ 4 ∷ 9 ∷ 14 ∷ 3 ∷ 8 ∷ 13 ∷ 2 ∷ 7 ∷ 12 ∷ 1 ∷ 6 ∷ 11 ∷ []) }
+    ensures { result ≡
+        pick_l 0 slice (0 ∷ 1 ∷ 2 ∷ 3 ∷ 5 ∷ 6 ∷ 7 ∷ 4 ∷ 10 ∷ 11 ∷ 8 ∷ 9 ∷ 15 ∷ 12 ∷ 13 ∷ 14 ∷ []) }
 {
-    slice.swizzle([0, 5, 10, 15, 4, 9, 14, 3, 8, 13, 2, 7, 12, 1, 6, 11])
+    slice.swizzle([0, 1, 2, 3, 5, 6, 7, 4, 10, 11, 8, 9, 15, 12, 13, 14])
 }
 
-// Each row r moves right by r columns.
+/// Each row r moves right by r columns.
 #[inline(always)]
 fn rows_unshifted(slice: u8x16) -> u8x16
-    ensures { result ≡ pick_l 0 slice (0 ∷ 13 ∷ 10 ∷ 7 ∷ 4 ∷ 1 ∷ 14 ∷ 11 ∷ 8 ∷ 5 ∷ 2 ∷ 15 ∷ 12 ∷ 9 ∷ 6 ∷ 3 ∷ []) }
+    ensures { result ≡
+        pick_l 0 slice (0 ∷ 1 ∷ 2 ∷ 3 ∷ 7 ∷ 4 ∷ 5 ∷ 6 ∷ 10 ∷ 11 ∷ 8 ∷ 9 ∷ 13 ∷ 14 ∷ 15 ∷ 12 ∷ []) }
 {
-    slice.swizzle([0, 13, 10, 7, 4, 1, 14, 11, 8, 5, 2, 15, 12, 9, 6, 3])
+    slice.swizzle([0, 1, 2, 3, 7, 4, 5, 6, 10, 11, 8, 9, 13, 14, 15, 12])
 }
 
-// Each column moves up by one row.
+/// Each column moves up by one row.
 #[inline(always)]
 fn columns_turned(slice: u8x16) -> u8x16
-    ensures { result ≡ pick_l 0 slice (1 ∷ 2 ∷ 3 ∷ 0 ∷ 5 ∷ 6 ∷ 7 ∷ 4 ∷ 9 ∷ 10 ∷ 11 ∷ 8 ∷ 13 ∷ 14 ∷ 15 ∷ 12 ∷ []) }
+    ensures { result ≡
+        pick_l 0 slice (4 ∷ 5 ∷ 6 ∷ 7 ∷ 8 ∷ 9 ∷ 10 ∷ 11 ∷ 12 ∷ 13 ∷ 14 ∷ 15 ∷ 0 ∷ 1 ∷ 2 ∷ 3 ∷ []) }
 {
-    slice.swizzle([1, 2, 3, 0, 5, 6, 7, 4, 9, 10, 11, 8, 13, 14, 15, 12])
+    slice.swizzle([4, 5, 6, 7, 8, 9, 10, 11, 12, 13, 14, 15, 0, 1, 2, 3])
 }
 
-// Each column moves up by two rows.
+/// Each column moves up by two rows.
 #[inline(always)]
 fn columns_turned_twice(slice: u8x16) -> u8x16
-    ensures { result ≡ pick_l 0 slice (2 ∷ 3 ∷ 0 ∷ 1 ∷ 6 ∷ 7 ∷ 4 ∷ 5 ∷ 10 ∷ 11 ∷ 8 ∷ 9 ∷ 14 ∷ 15 ∷ 12 ∷ 13 ∷ []) }
+    ensures { result ≡
+        pick_l 0 slice (8 ∷ 9 ∷ 10 ∷ 11 ∷ 12 ∷ 13 ∷ 14 ∷ 15 ∷ 0 ∷ 1 ∷ 2 ∷ 3 ∷ 4 ∷ 5 ∷ 6 ∷ 7 ∷ []) }
 {
-    slice.swizzle([2, 3, 0, 1, 6, 7, 4, 5, 10, 11, 8, 9, 14, 15, 12, 13])
+    slice.swizzle([8, 9, 10, 11, 12, 13, 14, 15, 0, 1, 2, 3, 4, 5, 6, 7])
+}
+
+// Slices, each moved in the same way.
+macro_rules! each_slice {
+    ($q:ident, $moved:ident) => {
+        Slices {
+            s0: $moved($q.s0),
+            s1: $moved($q.s1),
+            s2: $moved($q.s2),
+            s3: $moved($q.s3),
+            s4: $moved($q.s4),
+            s5: $moved($q.s5),
+            s6: $moved($q.s6),
+            s7: $moved($q.s7),
+        }
+    };
 }
 
 /// ShiftRows of each block (FIPS 197, 5.1.2).
 #[inline(always)]
-pub fn shift_rows(q: Slices) -> Slices
+pub(crate) fn shift_rows(q: Slices) -> Slices
     ensures shifts { EachSlicedBlock shift_rows (slices_of q) (slices_of result) }
 {
-    Slices {
-        s0: rows_shifted(q.s0),
-        s1: rows_shifted(q.s1),
-        s2: rows_shifted(q.s2),
-        s3: rows_shifted(q.s3),
-        s4: rows_shifted(q.s4),
-        s5: rows_shifted(q.s5),
-        s6: rows_shifted(q.s6),
-        s7: rows_shifted(q.s7),
-    }
+    each_slice!(q, rows_shifted)
 }
 
 /// InvShiftRows of each block (FIPS 197, 5.3.1).
 #[inline(always)]
-pub fn inv_shift_rows(q: Slices) -> Slices
+pub(crate) fn inv_shift_rows(q: Slices) -> Slices
     ensures shifts_back { EachSlicedBlock inv_shift_rows (slices_of q) (slices_of result) }
 {
-    Slices {
-        s0: rows_unshifted(q.s0),
-        s1: rows_unshifted(q.s1),
-        s2: rows_unshifted(q.s2),
-        s3: rows_unshifted(q.s3),
-        s4: rows_unshifted(q.s4),
-        s5: rows_unshifted(q.s5),
-        s6: rows_unshifted(q.s6),
-        s7: rows_unshifted(q.s7),
-    }
+    each_slice!(q, rows_unshifted)
 }
 
-// The next row's byte in each place of each block.
+/// The next row's byte in each place of each block.
 #[inline(always)]
 fn turned(q: Slices) -> Slices
     ensures turns { EachSlicedBlock (turned 1) (slices_of q) (slices_of result) }
 {
-    Slices {
-        s0: columns_turned(q.s0),
-        s1: columns_turned(q.s1),
-        s2: columns_turned(q.s2),
-        s3: columns_turned(q.s3),
-        s4: columns_turned(q.s4),
-        s5: columns_turned(q.s5),
-        s6: columns_turned(q.s6),
-        s7: columns_turned(q.s7),
-    }
+    each_slice!(q, columns_turned)
 }
 
-// The byte of the row after the next in each place of each block.
+/// The byte of the row after the next in each place of each block.
 #[inline(always)]
 fn turned_twice(q: Slices) -> Slices
     ensures turns { EachSlicedBlock (turned 2) (slices_of q) (slices_of result) }
 {
-    Slices {
-        s0: columns_turned_twice(q.s0),
-        s1: columns_turned_twice(q.s1),
-        s2: columns_turned_twice(q.s2),
-        s3: columns_turned_twice(q.s3),
-        s4: columns_turned_twice(q.s4),
-        s5: columns_turned_twice(q.s5),
-        s6: columns_turned_twice(q.s6),
-        s7: columns_turned_twice(q.s7),
-    }
+    each_slice!(q, columns_turned_twice)
 }
 
-// Each byte multiplied by x: the bits move up by one, and the highest comes back where the reduction has a term.
+/// Each byte multiplied by x: the bits move up by one, and the highest comes back where the reduction has a term.
 #[inline(always)]
 fn doubled(q: Slices) -> Slices
     ensures doubles { EachSlicedBlock doubled (slices_of q) (slices_of result) }
@@ -130,7 +114,7 @@ fn doubled(q: Slices) -> Slices
 
 /// AddRoundKey of each block, with the same block of the key (FIPS 197, 5.1.4).
 #[inline(always)]
-pub fn add(q: Slices, key: Slices) -> Slices
+pub(crate) fn add(q: Slices, key: Slices) -> Slices
     ensures adds { EachSlicedByKey add_round_key (slices_of q) (slices_of key) (slices_of result) }
 {
     Slices {
@@ -148,7 +132,7 @@ pub fn add(q: Slices, key: Slices) -> Slices
 /// MixColumns of each block (FIPS 197, 5.1.3). With t the sum of a row and the next, the new row is 2t plus the next row
 /// plus the t of two rows further.
 #[inline(always)]
-pub fn mix_columns(q: Slices) -> Slices
+pub(crate) fn mix_columns(q: Slices) -> Slices
     ensures mixes { EachSlicedBlock mix_columns (slices_of q) (slices_of result) }
 {
     let next = turned(q);
@@ -159,7 +143,7 @@ pub fn mix_columns(q: Slices) -> Slices
 /// InvMixColumns of each block (FIPS 197, 5.3.3), as MixColumns of each row plus 4 times the sum of it and the row after
 /// the next.
 #[inline(always)]
-pub fn inv_mix_columns(q: Slices) -> Slices
+pub(crate) fn inv_mix_columns(q: Slices) -> Slices
     ensures unmixes { EachSlicedBlock inv_mix_columns (slices_of q) (slices_of result) }
 {
     mix_columns(add(q, doubled(doubled(add(q, turned_twice(q))))))

@@ -1,16 +1,16 @@
 //! The rounds of the cipher over a schedule of words, in either direction.
 
 ghost use Rattle.std.specs.Prelude.{◌≡◌, ◌+◌, ◌-◌, ◌*◌, ◌/◌, ◌<◌, ◌≤◌, length};
-ghost use Rattle.bc_aes.specs.Columns.{state_bytes, schedule_bytes, IsUnmixed};
+ghost use Rattle.bc_aes.specs.Columns.{state_bytes, schedule_bytes, encipher_by_words, decipher_by_words, IsUnmixed};
 ghost use Rattle.bc_aes.specs.KeyExpansion.{round_key};
-ghost use Rattle.bc_aes.specs.Cipher.{round, last_round, after_round, encipher_by, inv_last_round, after_inv_round, decipher_by};
+ghost use Rattle.bc_aes.specs.Cipher as cipher;
 ghost use Rattle.bc_aes.specs.State.{add_round_key, inv_mix_columns, inv_sub_bytes, inv_shift_rows};
 
 use crate::columns::{load, mixed, store, substituted, unmixed, unsubstituted};
 
-// The words of a round.
+/// The words of a round.
 #[inline(always)]
-pub fn key_of_round(schedule: &[u32], round: usize) -> [u32; 4]
+pub(crate) fn key_of_round(schedule: &[u32], round: usize) -> [u32; 4]
     requires { 4 * round + 4 ≤ length schedule.now }
     ensures holds { state_bytes result ≡ round_key (schedule_bytes schedule.now) round }
 {
@@ -23,9 +23,9 @@ pub fn key_of_round(schedule: &[u32], round: usize) -> [u32; 4]
     ]
 }
 
-// AddRoundKey.
+/// AddRoundKey.
 #[inline(always)]
-fn added(state: [u32; 4], key: [u32; 4]) -> [u32; 4]
+pub(crate) fn added(state: [u32; 4], key: [u32; 4]) -> [u32; 4]
     ensures adds { state_bytes result ≡ add_round_key (state_bytes state) (state_bytes key) }
 {
     [
@@ -36,10 +36,10 @@ fn added(state: [u32; 4], key: [u32; 4]) -> [u32; 4]
     ]
 }
 
-// SubBytes, ShiftRows, MixColumns and AddRoundKey.
+/// A round: SubBytes, ShiftRows, MixColumns and AddRoundKey (FIPS 197, 5.1).
 #[inline(always)]
-fn whole_round(state: [u32; 4], key: [u32; 4]) -> [u32; 4]
-    ensures goes_on { state_bytes result ≡ round (state_bytes state) (state_bytes key) }
+fn round(state: [u32; 4], key: [u32; 4]) -> [u32; 4]
+    ensures goes_on { state_bytes result ≡ cipher.round (state_bytes state) (state_bytes key) }
 {
     let [a, b, c, d] = state;
     added(
@@ -53,10 +53,10 @@ fn whole_round(state: [u32; 4], key: [u32; 4]) -> [u32; 4]
     )
 }
 
-// SubBytes, ShiftRows and AddRoundKey.
+/// The last round: SubBytes, ShiftRows and AddRoundKey (FIPS 197, 5.1).
 #[inline(always)]
-fn final_round(state: [u32; 4], key: [u32; 4]) -> [u32; 4]
-    ensures ends { state_bytes result ≡ last_round (state_bytes state) (state_bytes key) }
+fn last_round(state: [u32; 4], key: [u32; 4]) -> [u32; 4]
+    ensures ends { state_bytes result ≡ cipher.last_round (state_bytes state) (state_bytes key) }
 {
     let [a, b, c, d] = state;
     added(
@@ -70,16 +70,17 @@ fn final_round(state: [u32; 4], key: [u32; 4]) -> [u32; 4]
     )
 }
 
-// The state after the rounds that mix.
+/// The state after the rounds that mix.
 #[inline(always)]
 fn mixing_rounds(schedule: &[u32], block: &[u8; 16]) -> [u32; 4]
     requires { 8 ≤ length schedule.now }
-    ensures goes_on { state_bytes result ≡ after_round (schedule_bytes schedule.now) block.now (length schedule.now / 4 - 2) }
+    ensures goes_on { state_bytes result ≡
+        cipher.after_round (schedule_bytes schedule.now) block.now (length schedule.now / 4 - 2) }
 {
     let mut state = added(load(block), key_of_round(schedule, 0));
     for before in 0..schedule.len() / 4 - 2 {
         let key = key_of_round(schedule, before + 1);
-        let next = whole_round(state, key);
+        let next = round(state, key);
         state = next;
     }
     state
@@ -87,18 +88,19 @@ fn mixing_rounds(schedule: &[u32], block: &[u8; 16]) -> [u32; 4]
 
 /// Enciphers a block in place under an expanded key of four words a round (FIPS 197, 5.1).
 #[inline(always)]
-pub fn encrypt(schedule: &[u32], block: &mut [u8; 16])
+pub(crate) fn encrypt(schedule: &[u32], block: &mut [u8; 16])
     requires { 8 ≤ length schedule.now }
-    ensures enciphers { block.new ≡ encipher_by (length schedule.now / 4 - 1) (schedule_bytes schedule.now) block.old }
+    ensures enciphers { block.new ≡ encipher_by_words schedule.now block.old }
 {
     let state = mixing_rounds(schedule, block);
-    *block = store(final_round(state, key_of_round(schedule, schedule.len() / 4 - 1)));
+    *block = store(last_round(state, key_of_round(schedule, schedule.len() / 4 - 1)));
 }
 
-// InvSubBytes, InvShiftRows, InvMixColumns and AddRoundKey.
+/// A round of the equivalent inverse cipher: InvSubBytes, InvShiftRows, InvMixColumns and AddRoundKey (FIPS 197, 5.3.5).
 #[inline(always)]
-fn whole_inv_round(state: [u32; 4], key: [u32; 4]) -> [u32; 4]
-    ensures goes_on { state_bytes result ≡ add_round_key (inv_mix_columns (inv_sub_bytes (inv_shift_rows (state_bytes state)))) (state_bytes key) }
+fn equivalent_inv_round(state: [u32; 4], key: [u32; 4]) -> [u32; 4]
+    ensures goes_on { state_bytes result ≡
+        add_round_key (inv_mix_columns (inv_sub_bytes (inv_shift_rows (state_bytes state)))) (state_bytes key) }
 {
     let [a, b, c, d] = state;
     added(
@@ -112,10 +114,10 @@ fn whole_inv_round(state: [u32; 4], key: [u32; 4]) -> [u32; 4]
     )
 }
 
-// InvSubBytes, InvShiftRows and AddRoundKey.
+/// The last round of either inverse cipher: InvSubBytes, InvShiftRows and AddRoundKey (FIPS 197, 5.3).
 #[inline(always)]
-fn final_inv_round(state: [u32; 4], key: [u32; 4]) -> [u32; 4]
-    ensures ends { state_bytes result ≡ inv_last_round (state_bytes state) (state_bytes key) }
+fn inv_last_round(state: [u32; 4], key: [u32; 4]) -> [u32; 4]
+    ensures ends { state_bytes result ≡ cipher.inv_last_round (state_bytes state) (state_bytes key) }
 {
     let [a, b, c, d] = state;
     added(
@@ -129,18 +131,19 @@ fn final_inv_round(state: [u32; 4], key: [u32; 4]) -> [u32; 4]
     )
 }
 
-// The state after the rounds of the inverse that unmix.
+/// The state after the rounds of the inverse that unmix.
 #[inline(always)]
 fn unmixing_rounds(schedule: &[u32], unmixed_schedule: &[u32], block: &[u8; 16]) -> [u32; 4]
     requires long { 8 ≤ length schedule.now }
     requires unmixed { IsUnmixed schedule.now unmixed_schedule.now }
-    ensures goes_on { state_bytes result ≡ after_inv_round (length schedule.now / 4 - 1) (schedule_bytes schedule.now) block.now (length schedule.now / 4 - 2) }
+    ensures goes_on { state_bytes result ≡ cipher.after_inv_round (length schedule.now / 4 - 1)
+        (schedule_bytes schedule.now) block.now (length schedule.now / 4 - 2) }
 {
     let last = schedule.len() / 4 - 1;
     let mut state = added(load(block), key_of_round(schedule, last));
     for before in 0..last - 1 {
         let key = key_of_round(unmixed_schedule, last - (before + 1));
-        let next = whole_inv_round(state, key);
+        let next = equivalent_inv_round(state, key);
         state = next;
     }
     state
@@ -148,11 +151,11 @@ fn unmixing_rounds(schedule: &[u32], unmixed_schedule: &[u32], block: &[u8; 16])
 
 /// Deciphers a block in place under an expanded key of four words a round and the schedule unmixed (FIPS 197, 5.3.5).
 #[inline(always)]
-pub fn decrypt(schedule: &[u32], unmixed_schedule: &[u32], block: &mut [u8; 16])
+pub(crate) fn decrypt(schedule: &[u32], unmixed_schedule: &[u32], block: &mut [u8; 16])
     requires long { 8 ≤ length schedule.now }
     requires unmixed { IsUnmixed schedule.now unmixed_schedule.now }
-    ensures deciphers { block.new ≡ decipher_by (length schedule.now / 4 - 1) (schedule_bytes schedule.now) block.old }
+    ensures deciphers { block.new ≡ decipher_by_words schedule.now block.old }
 {
     let state = unmixing_rounds(schedule, unmixed_schedule, block);
-    *block = store(final_inv_round(state, key_of_round(schedule, 0)));
+    *block = store(inv_last_round(state, key_of_round(schedule, 0)));
 }

@@ -7,14 +7,14 @@ ghost use Rattle.bc_aes.specs.Columns.{column, schedule_bytes, unmixed_column, I
 use crate::columns::{substituted, substituted_turned, unmixed, word_at};
 use crate::tables::RCON;
 
-// SubWord.
+/// SubWord.
 fn substituted_word(word: u32) -> u32
     ensures substitutes { column result ≡ sub_word (column word) }
 {
     substituted(word, word, word, word)
 }
 
-// The round constant of this number.
+/// The round constant of this number.
 fn constant(number: usize) -> u32
     requires at_least_one { 1 ≤ number }
     requires at_most_ten { number ≤ 10 }
@@ -23,7 +23,7 @@ fn constant(number: usize) -> u32
     u32::from_le_bytes([RCON[number - 1], 0, 0, 0])
 }
 
-// What is added to word i - nk to make word i, where this is word i - 1.
+/// What is added to word i - nk to make word i, where this is word i - 1.
 fn addend(nk: usize, i: usize, word: u32) -> u32
     requires key_size { (nk ≡ 4) ⊎ (nk ≡ 8) }
     requires below { i < 4 * (rounds nk + 1) }
@@ -39,7 +39,7 @@ fn addend(nk: usize, i: usize, word: u32) -> u32
     }
 }
 
-// The key as the first words of its schedule.
+/// The key as the first words of its schedule.
 fn begin(key: &[u8], schedule: &mut [u32])
     requires fits { length key.now / 4 ≤ length schedule.old }
     requires whole { length key.now ≡ 4 * (length key.now / 4) }
@@ -51,7 +51,7 @@ fn begin(key: &[u8], schedule: &mut [u32])
 }
 
 /// Expands a key of 16 or 32 bytes into the words of its schedule, 44 or 60 (FIPS 197, 5.2).
-pub fn expand(key: &[u8], schedule: &mut [u32])
+pub(crate) fn expand(key: &[u8], schedule: &mut [u32])
     requires key_size { (length key.now ≡ 16) ⊎ (length key.now ≡ 32) }
     requires schedule_size { length schedule.old ≡ 4 * (rounds (length key.now / 4) + 1) }
     ensures expands { schedule_bytes schedule.new ≡ key_expansion (length key.now / 4) key.now }
@@ -64,7 +64,7 @@ pub fn expand(key: &[u8], schedule: &mut [u32])
     }
 }
 
-// InvMixColumns of one column.
+/// InvMixColumns of one column.
 fn unmixed_word(word: u32) -> u32
     ensures unmixes { column result ≡ unmixed_column (column word) }
 {
@@ -73,7 +73,7 @@ fn unmixed_word(word: u32) -> u32
 }
 
 /// Unmixes the words between the first and the last four, for decipherment (FIPS 197, 5.3.5).
-pub fn unmix(schedule: &[u32], unmixed_schedule: &mut [u32])
+pub(crate) fn unmix(schedule: &[u32], unmixed_schedule: &mut [u32])
     requires { length unmixed_schedule.old ≡ length schedule.now }
     ensures unmixes { IsUnmixed schedule.now unmixed_schedule.new }
 {

@@ -1,26 +1,26 @@
-//! Eight blocks in bit slices: bit k of byte p of slice j is bit j of byte p of block k. So one operation on a slice
-//! is that operation on one bit of each of 128 bytes.
+//! Eight blocks in bit slices, row after row: bit k of byte 4r + c of slice j is bit j of row r, column c of block k. So one
+//! operation on a slice is that operation on one bit of each of 128 bytes, and rows move as words of 32 bits.
 
 ghost use Rattle.std.specs.Prelude.{◌≡◌, ℕ, ◌*◌, ◌<◌, [], take, slice_index_or};
 ghost use Rattle.bc_aes.specs.Blocks.{block};
-ghost use Rattle.bc_aes.specs.Slices.{slices_of, block_of, AreBytes, Exchanged};
+ghost use Rattle.bc_aes.specs.Slices.{slices_of, vector_of, by_rows, block_of, AreBytes, Exchanged};
 
 use std::simd::prelude::*;
 
 /// Eight blocks of 16 bytes, as eight slices: slice j has bit j of each byte.
 #[derive(Clone, Copy)]
-pub struct Slices {
-    pub s0: u8x16,
-    pub s1: u8x16,
-    pub s2: u8x16,
-    pub s3: u8x16,
-    pub s4: u8x16,
-    pub s5: u8x16,
-    pub s6: u8x16,
-    pub s7: u8x16,
+pub(crate) struct Slices {
+    pub(crate) s0: u8x16,
+    pub(crate) s1: u8x16,
+    pub(crate) s2: u8x16,
+    pub(crate) s3: u8x16,
+    pub(crate) s4: u8x16,
+    pub(crate) s5: u8x16,
+    pub(crate) s6: u8x16,
+    pub(crate) s7: u8x16,
 }
 
-// The slices with bits i + 1 of the first and bits i of the second exchanged, for even i.
+/// The slices with bits i + 1 of the first and bits i of the second exchanged, for even i.
 #[inline(always)]
 fn exchanged_1(a: u8x16, b: u8x16) -> (u8x16, u8x16)
     ensures exchanges { Exchanged 1 a b result.0 result.1 }
@@ -31,7 +31,7 @@ fn exchanged_1(a: u8x16, b: u8x16) -> (u8x16, u8x16)
     (a ^ (moved << 1), b ^ moved)
 }
 
-// The slices with pairs of bits exchanged in the same way.
+/// The slices with pairs of bits exchanged in the same way.
 #[inline(always)]
 fn exchanged_2(a: u8x16, b: u8x16) -> (u8x16, u8x16)
     ensures exchanges { Exchanged 2 a b result.0 result.1 }
@@ -42,7 +42,7 @@ fn exchanged_2(a: u8x16, b: u8x16) -> (u8x16, u8x16)
     (a ^ (moved << 2), b ^ moved)
 }
 
-// The slices with the upper half of each byte of the first and the lower half of each of the second exchanged.
+/// The slices with the upper half of each byte of the first and the lower half of each of the second exchanged.
 #[inline(always)]
 fn exchanged_4(a: u8x16, b: u8x16) -> (u8x16, u8x16)
     ensures exchanges { Exchanged 4 a b result.0 result.1 }
@@ -53,12 +53,12 @@ fn exchanged_4(a: u8x16, b: u8x16) -> (u8x16, u8x16)
     (a ^ (moved << 4), b ^ moved)
 }
 
-// Eight blocks in slices from the blocks, and the blocks from the slices: the bits of each byte change places with the
-// eight vectors.
+/// Eight blocks in slices from the blocks, and the blocks from the slices: the bits of each byte change places with the
+/// eight vectors.
 #[inline(always)]
 fn transposed(q: Slices) -> Slices
-    ensures into_slices { (k : ℕ) → k < 8 → block_of (slices_of result) k ≡ slice_index_or (slices_of q) k [] }
-    ensures into_blocks { (k : ℕ) → k < 8 → slice_index_or (slices_of result) k [] ≡ block_of (slices_of q) k }
+    ensures into_slices { (k : ℕ) → k < 8 → vector_of (slices_of result) k ≡ slice_index_or (slices_of q) k [] }
+    ensures into_blocks { (k : ℕ) → k < 8 → slice_index_or (slices_of result) k [] ≡ vector_of (slices_of q) k }
 {
     let Slices {
         s0: a,
@@ -94,16 +94,24 @@ fn transposed(q: Slices) -> Slices
     }
 }
 
-// Block i of a piece, as a vector.
+/// The bytes of a block row after row, and the other way round.
+#[inline(always)]
+pub(crate) fn by_rows(block: u8x16) -> u8x16
+    ensures { result ≡ by_rows block }
+{
+    block.swizzle([0, 4, 8, 12, 1, 5, 9, 13, 2, 6, 10, 14, 3, 7, 11, 15])
+}
+
+/// Block i of a piece, as a vector of its rows.
 #[inline(always)]
 fn vector_at(piece: &[u8; 128], i: usize) -> u8x16
     requires { i < 8 }
-    ensures holds { result ≡ block piece.now i }
+    ensures holds { result ≡ by_rows (block piece.now i) }
 {
-    u8x16::from_slice(&piece[16 * i..])
+    by_rows(u8x16::from_slice(&piece[16 * i..]))
 }
 
-// Writes a vector as block i of a piece.
+/// Writes a vector as block i of a piece.
 #[inline(always)]
 fn put_vector(piece: &mut [u8; 128], i: usize, vector: u8x16)
     requires { i < 8 }
@@ -115,7 +123,7 @@ fn put_vector(piece: &mut [u8; 128], i: usize, vector: u8x16)
 
 /// Eight blocks, taken into slices.
 #[inline(always)]
-pub fn from_blocks(piece: &[u8; 128]) -> Slices
+pub(crate) fn from_blocks(piece: &[u8; 128]) -> Slices
     ensures takes { (k : ℕ) → k < 8 → block_of (slices_of result) k ≡ block piece.now k }
 {
     transposed(Slices {
@@ -132,16 +140,16 @@ pub fn from_blocks(piece: &[u8; 128]) -> Slices
 
 /// Writes the eight blocks that are in slices.
 #[inline(always)]
-pub fn to_blocks(q: Slices, piece: &mut [u8; 128])
+pub(crate) fn to_blocks(q: Slices, piece: &mut [u8; 128])
     ensures gives { (k : ℕ) → k < 8 → block piece.new k ≡ block_of (slices_of q) k }
 {
     let blocks = transposed(q);
-    put_vector(piece, 0, blocks.s0);
-    put_vector(piece, 1, blocks.s1);
-    put_vector(piece, 2, blocks.s2);
-    put_vector(piece, 3, blocks.s3);
-    put_vector(piece, 4, blocks.s4);
-    put_vector(piece, 5, blocks.s5);
-    put_vector(piece, 6, blocks.s6);
-    put_vector(piece, 7, blocks.s7);
+    put_vector(piece, 0, by_rows(blocks.s0));
+    put_vector(piece, 1, by_rows(blocks.s1));
+    put_vector(piece, 2, by_rows(blocks.s2));
+    put_vector(piece, 3, by_rows(blocks.s3));
+    put_vector(piece, 4, by_rows(blocks.s4));
+    put_vector(piece, 5, by_rows(blocks.s5));
+    put_vector(piece, 6, by_rows(blocks.s6));
+    put_vector(piece, 7, by_rows(blocks.s7));
 }

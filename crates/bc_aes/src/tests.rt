@@ -8,13 +8,13 @@ use crate::{Aes128, Aes256, plain};
 
 const PLAIN: u128 = 0x00112233445566778899aabbccddeeff;
 
-// The bytes 00 to 1f.
+/// The bytes 00 to 1f.
 const COUNTED_KEY: [u8; 32] = [
     0x00, 0x01, 0x02, 0x03, 0x04, 0x05, 0x06, 0x07, 0x08, 0x09, 0x0a, 0x0b, 0x0c, 0x0d, 0x0e, 0x0f,
     0x10, 0x11, 0x12, 0x13, 0x14, 0x15, 0x16, 0x17, 0x18, 0x19, 0x1a, 0x1b, 0x1c, 0x1d, 0x1e, 0x1f,
 ];
 
-// The key of F.1.5.
+/// The key of F.1.5.
 const BOOK_KEY: [u8; 32] = [
     0x60, 0x3d, 0xeb, 0x10, 0x15, 0xca, 0x71, 0xbe, 0x2b, 0x73, 0xae, 0xf0, 0x85, 0x7d, 0x77, 0x81,
     0x1f, 0x35, 0x2c, 0x07, 0x3b, 0x61, 0x08, 0xd7, 0x2d, 0x98, 0x10, 0xa3, 0x09, 0x14, 0xdf, 0xf4,
@@ -108,7 +108,32 @@ fn plain_vectors(rt: HostRuntime) {
     );
 }
 
-// The fast program beside the plain one.
+/// A block of zeros under keys of equal bytes, as Python's `cryptography` enciphers it.
+#[test]
+fn keys_of_equal_bytes(rt: HostRuntime) {
+    for (byte, short, long) in [
+        (
+            0x00,
+            0x66e94bd4ef8a2c3b884cfa59ca342b2e,
+            0xdc95c078a2408989ad48a21492842087,
+        ),
+        (
+            0xff,
+            0xa1f6258c877d5fcd8964484538bfc92c,
+            0x4bf85f1b5d54adbc307b0a048389adcb,
+        ),
+    ] {
+        let mut block = [0; 16];
+        Aes128::new(&[byte; 16]).encrypt_block(&mut block);
+        assert_eq!(rt; u128::from_be_bytes(block), short);
+        let mut block = [0; 16];
+        Aes256::new(&[byte; 32]).encrypt_block(&mut block);
+        assert_eq!(rt; u128::from_be_bytes(block), long);
+        assert_eq!(rt; block, plain::encipher(&[byte; 32], &[0; 16]));
+    }
+}
+
+/// The fast program beside the plain one.
 #[test]
 fn fast_is_plain(rt: HostRuntime) {
     let aes = Aes256::new(&BOOK_KEY);
@@ -122,7 +147,7 @@ fn fast_is_plain(rt: HostRuntime) {
     }
 }
 
-// The states of rounds 1 to 8 of FIPS 197, appendix C.1: as each round starts, and after its SubBytes.
+/// The states of rounds 1 to 8 of FIPS 197, appendix C.1: as each round starts, and after its SubBytes.
 const STARTS: [u8; 128] = [
     0x00, 0x10, 0x20, 0x30, 0x40, 0x50, 0x60, 0x70, 0x80, 0x90, 0xa0, 0xb0, 0xc0, 0xd0, 0xe0, 0xf0,
     0x89, 0xd8, 0x10, 0xe8, 0x85, 0x5a, 0xce, 0x68, 0x2d, 0x18, 0x43, 0xd8, 0xcb, 0x12, 0x8f, 0xe4,
@@ -145,16 +170,28 @@ const SUBSTITUTED: [u8; 128] = [
     0x3e, 0x17, 0x50, 0x76, 0xb6, 0x1c, 0x04, 0x67, 0x8d, 0xfc, 0x22, 0x95, 0xf6, 0xa8, 0xbf, 0xc0,
 ];
 
+/// The constant of the S-box is added with the round keys.
+fn with_constant(piece: &[u8; 128]) -> [u8; 128] {
+    let mut raised = *piece;
+    for i in 0..128usize {
+        raised[i] ^= 0x63;
+    }
+    raised
+}
+
 #[test]
 fn sub_bytes_in_slices(rt: HostRuntime) {
     let mut piece = [0; 128];
     to_blocks(sub_bytes(from_blocks(&STARTS)), &mut piece);
-    assert_eq!(rt; piece, SUBSTITUTED);
-    to_blocks(inv_sub_bytes(from_blocks(&SUBSTITUTED)), &mut piece);
+    assert_eq!(rt; with_constant(&piece), SUBSTITUTED);
+    to_blocks(
+        inv_sub_bytes(from_blocks(&with_constant(&SUBSTITUTED))),
+        &mut piece,
+    );
     assert_eq!(rt; piece, STARTS);
 }
 
-// Nine blocks with the example's bytes: eight that go together, and one that is left.
+/// Nine blocks with the example's bytes: eight that go together, and one that is left.
 #[test]
 fn nine_example_blocks(rt: HostRuntime) {
     let short = Aes128::new(&0x000102030405060708090a0b0c0d0e0f_u128.to_be_bytes());
@@ -184,7 +221,7 @@ fn nine_example_blocks(rt: HostRuntime) {
     assert_eq!(rt; text, plain);
 }
 
-// 25 blocks that differ.
+/// 25 blocks that differ.
 fn many_blocks() -> [u8; 400] {
     let mut text = [0; 400];
     for i in 0..400usize {
@@ -193,7 +230,7 @@ fn many_blocks() -> [u8; 400] {
     text
 }
 
-// Block i of 25.
+/// Block i of 25.
 fn block_of(text: &[u8; 400], i: usize) -> [u8; 16]
     requires { i < 25 }
 {
@@ -202,7 +239,7 @@ fn block_of(text: &[u8; 400], i: usize) -> [u8; 16]
     block
 }
 
-// Many blocks at once beside the same blocks one by one, for each rest and for no block at all.
+/// Many blocks at once beside the same blocks one by one, for each rest and for no block at all.
 #[test]
 fn many_are_as_single_under_aes_128(rt: HostRuntime) {
     let aes = Aes128::new(&0x2b7e151628aed2a6abf7158809cf4f3c_u128.to_be_bytes());

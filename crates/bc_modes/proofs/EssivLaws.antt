@@ -1,5 +1,5 @@
 -- In CBC-ESSIV deciphering undoes enciphering.
-use Rattle.std.proofs.Common.{◌≡◌, ℕ, zero, suc, ◌+◌, ◌*◌, ◌/◌, ◌%◌, ◌<◌, ◌≤◌, ◌^◌, List, [], ◌∷◌, ◌++◌, length, drop, refl, sym, ap, ap₂, ◌∙◌, subst, arith, slice_index}
+use Rattle.std.proofs.Common.{◌≡◌, ℕ, zero, suc, ◌+◌, ◌*◌, ◌/◌, ◌%◌, ◌<◌, ◌≤◌, ◌^◌, List, [], ◌∷◌, ◌++◌, length, drop, refl, sym, ap, ap₂, ◌∙◌, arith, slice_index}
 use Rattle.std.specs.List.{flat_map, range_with_len}
 use Rattle.std.specs.Int.{w32, to_be_bytes, bytes_high_first}
 use Rattle.std.proofs.lemmas.List.{length-drop, take-append-drop, take_at, drop_at}
@@ -13,9 +13,9 @@ use Rattle.bc_key.specs.DataUnitNumber.{iv_of}
 use Rattle.bc_modes.specs.ByBlocks.{by_blocks, xor_bytes}
 use Rattle.bc_modes.specs.CbcEssiv.{chained, unchained, link, essiv, essiv_encipher, essiv_decipher}
 use Rattle.bc_modes.proofs.Blocks.{block_is, block-suc, flat_map-blocks}
-use Rattle.bc_modes.proofs.Bytes.{AreBytes, IsBytes-take, AreBytes-drop, IsBytes-xor, IsBytes-le_bytes, byte_at-lt, xor_bytes-twice}
+use Rattle.bc_modes.proofs.Bytes.{AreBytes, IsBytes-xor, IsBytes-le_bytes, byte_at-lt, xor_bytes-twice}
 use Rattle.bc_modes.proofs.Links.{chain, chained_is}
-use Rattle.bc_modes.proofs.UnitLaws.{length-by_blocks, length-chained}
+use Rattle.bc_modes.proofs.UnitLaws.{length-by_blocks, length-chained, IsBytes-block, AreBytes-by_blocks}
 
 -- ---- texts and their blocks
 
@@ -66,11 +66,6 @@ module _ (undoes : DeciphermentUndoes) (makes : EnciphermentMakesBlocks) (key : 
   unfolding essiv
   IsBytes-essiv number = makes 8 (sha256 key) (iv_of number) (IsBytes-sha256 key) (IsBytes-le_bytes (number % 2 ^ 128))
 
-  IsBytes-block : (text : List ℕ) (j : ℕ) → AreBytes text → 16 * j + 16 ≤ length text → IsBytes 16 (block text j)
-  IsBytes-block text j are room =
-      subst (IsBytes 16) (sym (block_is text j))
-      (IsBytes-take 16 (drop (16 * j) text) (omega (arith, length-drop (16 * j) text)) (AreBytes-drop (16 * j) text are))
-
   IsBytes-chained : (start text : List ℕ) (j : ℕ) → IsBytes 16 start → AreBytes text → 16 * j + 16 ≤ length text → IsBytes 16 (chained key start text j)
   unfolding chained
   IsBytes-chained start text zero is_start are room =
@@ -107,6 +102,12 @@ module _ (undoes : DeciphermentUndoes) (makes : EnciphermentMakesBlocks) (key : 
       (block-raw start text j h ∙ sym (chained_is key start text j)) (link-raw start text j h)
       ∙ ap (λ xs. xor_bytes xs before) (undoes 4 key (xor_bytes (block text j) before) is_key (IsBytes-xor 16 (block text j) before is_block is_before))
       ∙ xor_bytes-twice (block text j) before (omega (arith, is_block.size_is, is_before.size_is))
+
+  pub AreBytes-essiv_encipher : (number : ℕ) (text : List ℕ) → AreBytes text → AreBytes (essiv_encipher key number text)
+  unfolding essiv_encipher
+  AreBytes-essiv_encipher number text are =
+      AreBytes-by_blocks text (chained key (essiv key number) text)
+      (λ j lt. IsBytes-chained (essiv key number) text j (IsBytes-essiv number) are (omega arith))
 
   pub essiv-undone : (number : ℕ) (text : List ℕ) → length text % 16 ≡ 0 → AreBytes text
       → essiv_decipher key number (essiv_encipher key number text) ≡ text

@@ -9,3 +9,4 @@ pub mod Bytes
 pub mod CipherLengths
 pub mod UnitLaws
 pub mod EssivLaws
+mod Examples

@@ -1,5 +1,5 @@
 -- Laws of the unit ciphers: lengths stay, and deciphering undoes enciphering.
-use Rattle.std.proofs.Common.{◌≡◌, ℕ, zero, suc, ◌*◌, ◌/◌, ◌%◌, ◌<◌, List, [], ◌∷◌, ◌++◌, length, take, drop, refl, sym, ap, ap₂, ◌∙◌, arith, bit_xor}
+use Rattle.std.proofs.Common.{◌≡◌, ℕ, zero, suc, ◌*◌, ◌/◌, ◌%◌, ◌<◌, List, [], ◌∷◌, ◌++◌, length, take, drop, refl, sym, ap, ap₂, ◌∙◌, subst, arith, bit_xor, ◌+◌, ◌≤◌}
 use Rattle.std.specs.List.{flat_map, range_with_len}
 use Rattle.std.specs.Int.{w128, to_le_bytes}
 use Rattle.std.proofs.lemmas.List.{length-append, length-drop, length-take-le, take-append-drop, take_at, drop_at}
@@ -8,13 +8,14 @@ use Rattle.bc_key.specs.declared.config.Mode.{Mode}
 use Rattle.bc_key.specs.declared.config.Mode.TheVariants.{Aes256Xts, Aes128CbcEssiv}
 use Rattle.bc_aes.specs.Cipher.{encipher, decipher}
 use Rattle.bc_aes.specs.Blocks.{block}
-use Rattle.bc_aes.specs.Laws.{IsBytes, DeciphermentUndoes}
+use Rattle.bc_aes.specs.Laws.{IsBytes, DeciphermentUndoes, EnciphermentMakesBlocks}
 use Rattle.bc_modes.specs.ByBlocks.{by_blocks, xor_bytes}
 use Rattle.bc_modes.specs.Tweak.{tweak_at}
 use Rattle.bc_modes.specs.Xts.{between_tweaks, tweak_block, tweaked, first_tweak, xts_encipher, xts_decipher}
 use Rattle.bc_modes.specs.CbcEssiv.{chained, unchained, link, essiv, essiv_encipher, essiv_decipher}
 use Rattle.bc_modes.specs.UnitCipher.{encipher_unit, decipher_unit}
 use Rattle.bc_modes.proofs.Blocks.{block_is, flat_map-blocks}
+use Rattle.std.proofs.lemmas.List.Elements.{All-nil, All-append}
 use Rattle.bc_modes.proofs.Bytes.{AreBytes, IsBytes-take, AreBytes-drop, IsBytes-xor, IsBytes-le_bytes, xor_bytes-twice}
 use Rattle.bc_modes.proofs.CipherLengths.{length-encipher, length-decipher}
 use Rattle.bc_modes.proofs.Along.{along, tweaked_is}
@@ -75,6 +76,39 @@ length-decipher_unit Aes128CbcEssiv raw number text whole =
     length-by_blocks text (λ j. xor_bytes (decipher 4 raw (block text j)) (link (essiv raw number) text j)) whole
     (λ j h. length-xor (decipher 4 raw (block text j)) (link (essiv raw number) text j) (length-decipher 4 raw (block text j))
     (length-link (essiv raw number) text j (length-encipher 8 _ _) h))
+
+-- ---- bytes
+
+-- n blocks of bytes, one after the other
+AreBytes-blocks : (n : ℕ) (at : ℕ → List ℕ) → ((j : ℕ) → j < n → AreBytes (at j)) → AreBytes (flat_map at (range_with_len 0 n))
+AreBytes-blocks zero at h = All-nil (λ b. b < 256)
+AreBytes-blocks (suc n) at h =
+    subst AreBytes (sym (flat_map-blocks at n))
+    (All-append (λ b. b < 256) (at 0) (flat_map (λ j. at (suc j)) (range_with_len 0 n)) (h 0 (omega arith))
+    (AreBytes-blocks n (λ j. at (suc j)) (λ j lt. h (suc j) (omega arith))))
+
+-- the blocks of a text, each made a block of bytes
+pub AreBytes-by_blocks : (text : List ℕ) (at : ℕ → List ℕ) → ((j : ℕ) → j < length text / 16 → IsBytes 16 (at j)) → AreBytes (by_blocks text at)
+AreBytes-by_blocks text at h = AreBytes-blocks (length text / 16) at (λ j lt. (h j lt).bytes_are)
+
+pub IsBytes-block : (text : List ℕ) (j : ℕ) → AreBytes text → 16 * j + 16 ≤ length text → IsBytes 16 (block text j)
+IsBytes-block text j are room =
+    subst (IsBytes 16) (sym (block_is text j))
+    (IsBytes-take 16 (drop (16 * j) text) (omega (arith, length-drop (16 * j) text)) (AreBytes-drop (16 * j) text are))
+
+pub AreBytes-xts_encipher : EnciphermentMakesBlocks → (raw : List ℕ) (number : ℕ) (text : List ℕ) → length raw ≡ 64 → AreBytes raw
+    → AreBytes text → AreBytes (xts_encipher raw number text)
+unfolding xts_encipher tweaked
+AreBytes-xts_encipher makes raw number text l are_raw are =
+    let key : List ℕ = take 32 raw in
+    let is_key = IsBytes-take 32 raw (omega arith) are_raw in
+    let tweak : ℕ → List ℕ = λ j. tweak_block (first_tweak raw number) j in
+    AreBytes-by_blocks text (λ j. between_tweaks (encipher 8 key) (tweak j) (block text j))
+    (λ j lt.
+    let is_block = IsBytes-block text j are (omega arith) in
+    let is_tweak = IsBytes-le_bytes (tweak_at (first_tweak raw number) j) in
+    IsBytes-xor 16 (encipher 8 key (xor_bytes (block text j) (tweak j))) (tweak j)
+    (makes 8 key (xor_bytes (block text j) (tweak j)) is_key (IsBytes-xor 16 (block text j) (tweak j) is_block is_tweak)) is_tweak)
 
 -- ---- deciphering undoes enciphering, in XTS
 

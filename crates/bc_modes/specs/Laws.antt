@@ -1,6 +1,5 @@
--- The law of the unit cipher: deciphering undoes enciphering.
+-- The laws of the unit cipher: deciphering undoes enciphering, and enciphering makes a text as long.
 use Rattle.std.specs.Prelude.{◌≡◌, ℕ, ◌%◌, ◌<◌, List, length, All}
-use Rattle.bc_key.specs.declared.config.Mode.{Mode}
 use Rattle.bc_key.specs.KeyData.{KeyData, IsValid}
 use Rattle.bc_modes.specs.UnitCipher.{enc, dec}
 
@@ -9,8 +8,23 @@ pub record IsText (text : List ℕ) : Type 0 where
   pub whole_blocks : length text % 16 ≡ 0
   pub bytes : All (λ b. b < 256) text
 
--- under each valid key of the mode and each number, deciphering an enciphered text gives the text back
-abbrev pub DecipheringUndoes : Mode → Type 0
-DecipheringUndoes mode =
-    (key : KeyData) (number : ℕ) (text : List ℕ) → key.config.mode ≡ mode → IsValid key.config key.raw
-    → All (λ b. b < 256) key.raw → IsText text → dec key number (enc key number text) ≡ text
+-- under each valid key and each number, deciphering an enciphered text gives the text back
+abbrev pub DecipheringUndoes : Type 0
+DecipheringUndoes =
+    (key : KeyData) (number : ℕ) (text : List ℕ) → IsValid key.config key.raw → IsText text
+    → dec key number (enc key number text) ≡ text
+
+-- an enciphered text has whole blocks of bytes too
+abbrev pub EncipheringMakesTexts : Type 0
+EncipheringMakesTexts =
+    (key : KeyData) (number : ℕ) (text : List ℕ) → IsValid key.config key.raw → IsText text → IsText (enc key number text)
+
+-- it is as long as it was, whatever the key and the numbers that stand in it
+abbrev pub EncipheringKeepsLength : Type 0
+EncipheringKeepsLength =
+    (key : KeyData) (number : ℕ) (text : List ℕ) → length text % 16 ≡ 0 → length (enc key number text) ≡ length text
+
+-- and so is a deciphered one
+abbrev pub DecipheringKeepsLength : Type 0
+DecipheringKeepsLength =
+    (key : KeyData) (number : ℕ) (text : List ℕ) → length text % 16 ≡ 0 → length (dec key number text) ≡ length text

@@ -9,7 +9,7 @@ ghost use Rattle.bc_modes.specs.ByBlocks.{xor_bytes};
 ghost use Rattle.bc_modes.specs.CbcEssiv.{essiv, essiv_decipher, essiv_encipher, unchained};
 
 use crate::piece::{PIECE, add_blocks};
-use bc_aes::{Aes128, Aes256};
+use bc_aes::{Aes128, Aes256Enc};
 use bc_key::Dun;
 use sha2::{Digest, Sha256};
 use std::marker::Model;
@@ -18,7 +18,7 @@ use std::marker::Model;
 #[derive(Drop)]
 pub(crate) struct Essiv {
     data_key: Aes128,
-    number_key: Aes256,
+    number_key: Aes256Enc,
 }
 
 impl Model for Essiv {
@@ -40,7 +40,7 @@ impl Essiv {
         let digest = Sha256::digest(raw.as_slice());
         Essiv {
             data_key: Aes128::new(raw),
-            number_key: Aes256::new(&digest),
+            number_key: Aes256Enc::new(&digest),
         }
     }
 
@@ -115,7 +115,7 @@ fn links_of(before: &[u8; 16], piece: &[u8]) -> ([u8; PIECE], [u8; 16])
     (links, next)
 }
 
-/// Puts a block, and the piece but for its last one behind it.
+/// Puts a block, and after it the piece but for its last one.
 #[inline(always)]
 fn put_links(links: &mut [u8], before: &[u8; 16], piece: &[u8])
     requires links { length links.old ≡ 128 }

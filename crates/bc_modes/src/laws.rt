@@ -1,14 +1,16 @@
-//! The law of the unit ciphers.
-ghost use Rattle.bc_modes.specs.Laws.{DecipheringUndoes};
+//! The laws of the unit ciphers.
+ghost use Rattle.bc_modes.specs.Laws.{DecipheringUndoes, EncipheringMakesTexts};
+ghost use Rattle.bc_modes.specs.Laws.{DecipheringKeepsLength, EncipheringKeepsLength};
 
 use bc_aes::cipher_laws;
-use bc_key::Mode;
 
-/// Does nothing, and states that deciphering a data unit undoes enciphering it, in both modes. A caller's proof cites it
-/// from this call.
+/// Does nothing, and states what holds of every valid key, in both modes: deciphering a data unit undoes enciphering it,
+/// and what comes out has as many bytes. A caller's proof cites it from this call.
 pub fn unit_laws()
-    ensures xts { DecipheringUndoes Mode.Aes256Xts }
-    ensures essiv { DecipheringUndoes Mode.Aes128CbcEssiv }
+    ensures deciphering_undoes { DecipheringUndoes }
+    ensures enciphering_makes_texts { EncipheringMakesTexts }
+    ensures enciphering_keeps_length { EncipheringKeepsLength }
+    ensures deciphering_keeps_length { DecipheringKeepsLength }
 {
     cipher_laws();
 }

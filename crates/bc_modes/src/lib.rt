@@ -5,14 +5,20 @@
 //! `CbcEssiv`. Nothing here allocates, waits or refuses.
 #![tactic(auto)]
 
+// the two modes
 mod essiv;
-mod laws;
-mod piece;
-#[cfg(test)]
-mod tests;
-mod tweak;
-mod unit_cipher;
 mod xts;
+
+// what they share
+mod piece;
+mod tweak;
+
+// a key's cipher, and its laws
+mod laws;
+mod unit_cipher;
 
 pub use laws::unit_laws;
 pub use unit_cipher::UnitCipher;
+
+#[cfg(test)]
+mod tests;

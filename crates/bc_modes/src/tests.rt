@@ -21,7 +21,7 @@ const WORDS: [u64; 4] = [
 /// The last number of 128 bits.
 const TOP: [u64; 4] = [u64::MAX, u64::MAX, 0, 0];
 
-/// XTS: the bytes 00 to 3f. ESSIV: the bytes 80 to 8f, and behind them bytes that aren't used.
+/// XTS: the bytes 00 to 3f. ESSIV: the bytes 80 to 8f, and after them bytes that aren't used.
 fn raw_key(mode: Mode) -> [u8; 64] {
     let mut raw = [0xee; 64];
     match mode {

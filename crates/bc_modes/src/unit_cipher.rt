@@ -32,7 +32,13 @@ impl Model for UnitCipher {
 
     ghost use Rattle.bc_modes.specs.Schedules.{mode_of, raw_of};
 
-    ghost view = { λ cipher. record { mode = mode_of cipher.schedules; unit = cipher.unit; raw = raw_of cipher.schedules } };
+    ghost view = { λ cipher.
+        record { mode = mode_of cipher.schedules; unit = cipher.unit; raw = raw_of cipher.schedules } };
+
+    ghost use Rattle.std.specs.Prelude.{◌≡◌, length};
+    ghost use Rattle.bc_key.specs.KeyData.{key_size};
+
+    ghost invariant = { λ cipher. length (raw_of cipher.schedules) ≡ key_size (mode_of cipher.schedules) };
 }
 
 impl UnitCipher {
@@ -68,6 +74,7 @@ impl UnitCipher {
     /// Enciphers one data unit in place.
     pub fn encrypt(&self, dun: &Dun, text: &mut [u8])
         requires { length text.old ≡ bytes_of self.now.unit }
+        ensures size { length self.now.raw ≡ key_size self.now.mode }
         ensures enciphers { text.new ≡ encipher_unit self.now.mode self.now.raw dun.now text.old }
     {
         match &self.schedules {
@@ -79,6 +86,7 @@ impl UnitCipher {
     /// Deciphers one data unit in place.
     pub fn decrypt(&self, dun: &Dun, text: &mut [u8])
         requires { length text.old ≡ bytes_of self.now.unit }
+        ensures size { length self.now.raw ≡ key_size self.now.mode }
         ensures deciphers { text.new ≡ decipher_unit self.now.mode self.now.raw dun.now text.old }
     {
         match &self.schedules {

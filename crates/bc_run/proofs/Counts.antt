@@ -12,7 +12,7 @@ use Rattle.bc_script.specs.declared.op.Op.TheVariants as ops
 use Rattle.bc_run.specs.declared.report.Answer.{Answer}
 use Rattle.bc_run.specs.declared.report.Line.{Line}
 use Rattle.bc_run.specs.declared.entries.Entry.{Entry}
-use Rattle.bc_script.specs.Script.{Script, IsScript, keys_of, units_of as count_of, units_of_section as count_of_section}
+use Rattle.bc_script.specs.Script.{Script, IsScript, keys_of, unit_count as count_of, unit_count_of_section as count_of_section}
 use Rattle.bc_script.specs.Bios.{bio_of}
 use Rattle.bc_script.specs.Plan.{unit_at, units_of, units_of_section}
 use Rattle.bc_medium.specs.KeyedDisk.{Sectors}

@@ -21,10 +21,10 @@ use Rattle.bc_script.specs.declared.op.Op.{Op}
 use Rattle.bc_script.specs.declared.op.Op.TheVariants as ops
 use Rattle.bc_script.specs.declared.sort.Sort.{Sort}
 use Rattle.bc_script.specs.declared.sort.Sort.TheVariants as sorts
-use Rattle.bc_script.specs.Script.{IsNamedKey, IsContext, IsOp, IsSection, bare_keys, open_behind, units_of, units_of_section}
+use Rattle.bc_script.specs.Script.{IsNamedKey, IsContext, IsOp, IsSection, bare_keys, open_after, unit_count, unit_count_of_section}
 use Rattle.bc_script.specs.ScriptText.{name_of, dash, key_field}
 use Rattle.bc_script.specs.Forms.{Form, KeyForm, Version, Disk, Fallback, Key, Thread, Plug, Unplug, End, sort_of}
-use Rattle.bc_script.specs.ScriptErrors.{last_sort, is_key, is_thread, is_operation, units_in, number_in, key_named, is_declared, sectors_under, is_open}
+use Rattle.bc_script.specs.ScriptErrors.{is_end, last_sort, is_key, is_thread, is_operation, units_in, number_in, key_named, is_declared, sectors_under, is_open}
 use Rattle.bc_script.specs.Progress.{Progress, IsProgress, IsAt, with_section, is_in_section, lines_read, forms_read, sections_read}
 use Rattle.bc_script.proofs.Onto.{onto, onto-append, length-onto, length-HaveForms, sum_by-onto, sum_by-agree, sum_by-map, sum_by-flat_map, sum_by-zeros, sum_by-ones, last_sort-onto, key_named-onto, AllByRecursion-append}
 use Rattle.bc_script.proofs.Fields.{number_in-decimal}
@@ -128,7 +128,7 @@ operations-read p is =
     ∙ omega arith
 
 -- an operation's line says how many data units its bio has
-pub units_in-op_form : (keys : List NamedKey) (op : Op) → IsOp (bare_keys keys) op → units_in (op_form keys op) ≡ units_of op
+pub units_in-op_form : (keys : List NamedKey) (op : Op) → IsOp (bare_keys keys) op → units_in (op_form keys op) ≡ unit_count op
 units_in-op_form keys (ops.Write context sector units text) valid = let few = valid.0.few_units in number_in-decimal units (omega arith)
 units_in-op_form keys (ops.Read context sector units) valid = let few = valid.few_units in number_in-decimal units (omega arith)
 units_in-op_form keys (ops.Evict key) valid = refl
@@ -136,11 +136,11 @@ units_in-op_form keys (ops.Reset device) valid = refl
 units_in-op_form keys ops.Plug valid = refl
 units_in-op_form keys ops.Unplug valid = refl
 
-pub units-read : (p : Progress) → IsProgress p → sum_by units_in (forms_read p) ≡ sum_by units_of_section (sections_read p)
+pub units-read : (p : Progress) → IsProgress p → sum_by units_in (forms_read p) ≡ sum_by unit_count_of_section (sections_read p)
 units-read p is =
     let zeros = sum_by-zeros p.keys in
-    sum_read units_in 0 units_of_section p is refl (λ blocks. refl) refl refl (λ key. refl)
-    (λ section valid. section_sum units_in units_of p.keys section (units_in-op_form p.keys) valid ∙ omega arith)
+    sum_read units_in 0 unit_count_of_section p is refl (λ blocks. refl) refl refl (λ key. refl)
+    (λ section valid. section_sum units_in unit_count p.keys section (units_in-op_form p.keys) valid ∙ omega arith)
     ∙ omega arith
 
 pub length-read : (p : Progress) → IsProgress p → length (forms_read p) ≡ length (lines_read p)
@@ -271,7 +271,7 @@ open_end (Some sorts.End) above = refl
 same_behind : (a b : Bool) → Some a ≡ Some b → a ≡ b
 same_behind a b e = cc
 
-open_ops : (keys : List NamedKey) (section : List Op) (above : List Form) (before behind : Bool) → is_open above ≡ before → open_behind before section ≡ Some behind → is_open (onto (map (op_form keys) section) above) ≡ behind
+open_ops : (keys : List NamedKey) (section : List Op) (above : List Form) (before behind : Bool) → is_open above ≡ before → open_after before section ≡ Some behind → is_open (onto (map (op_form keys) section) above) ≡ behind
 open_ops keys [] above before behind e h = e ∙ same_behind before behind h
 open_ops keys (ops.Write context sector units text ∷ section) above before behind e h = open_ops keys section (op_form keys (ops.Write context sector units text) ∷ above) before behind e h
 open_ops keys (ops.Read context sector units ∷ section) above before behind e h = open_ops keys section (op_form keys (ops.Read context sector units) ∷ above) before behind e h
@@ -300,18 +300,18 @@ outside (Some sorts.Operation) p out at = absurd cc
 outside (Some sorts.End) p out at = at.1
 
 open_last : (inside : Bool) (keys : List NamedKey) (threads : List (List Op)) (section : List Op) (above : List Form) (plugged : Bool) → (inside ≡ false → section ≡ []) → AllByRecursion (IsSection (bare_keys keys)) threads
-    → is_open above ≡ false → open_behind false section ≡ Some plugged → is_open (onto (flat_map (section_forms keys) (threads ++ with_section inside section)) above) ≡ plugged
+    → is_open above ≡ false → open_after false section ≡ Some plugged → is_open (onto (flat_map (section_forms keys) (threads ++ with_section inside section)) above) ≡ plugged
 open_last true keys threads section above plugged out each e h =
     ap is_open (last_section keys threads section above)
     ∙ open_ops keys section (Thread ∷ onto (flat_map (section_forms keys) threads) above) false plugged (open_sections keys threads above each e) h
 open_last false keys threads section above plugged out each e h =
-    let none : Some false ≡ Some plugged = sym (ap (open_behind false) (out refl)) ∙ h in
+    let none : Some false ≡ Some plugged = sym (ap (open_after false) (out refl)) ∙ h in
     ap (λ (t : List (List Op)). is_open (onto (flat_map (section_forms keys) t) above)) (append-nil threads)
     ∙ open_sections keys threads above each e
     ∙ same_behind false plugged none
 
 -- Whether a plug is open. Outside a section there are no operations, and none is.
-pub is_open-read : (p : Progress) (plugged : Bool) → IsProgress p → open_behind false p.section ≡ Some plugged → is_open (forms_read p) ≡ plugged
+pub is_open-read : (p : Progress) (plugged : Bool) → IsProgress p → open_after false p.section ≡ Some plugged → is_open (forms_read p) ≡ plugged
 is_open-read p plugged is behind =
     let heads = onto (head_forms p.last p.blocks) [] in
     let keys = onto (key_forms p.keys) heads in
@@ -431,3 +431,15 @@ sectors_under-read p (Some context) is valid =
     ap (λ (o : Option KeyForm). option_map_or (λ (k : KeyForm). number_in k.unit / 512) o 1) (key_named-read p context.key key.0 is key.1)
     ∙ sectors_in_field key.0.key.config.unit
     ∙ sym (ap (λ (o : Option KeyData). option_map_or (λ (k : KeyData). sectors_of k.config.unit) o 1) at)
+
+-- ---- the last line
+
+pub is_at_end : (last : Option Sort) → is_end last ≡ true → last ≡ Some sorts.End
+is_at_end None h = absurd cc
+is_at_end (Some sorts.Version) h = absurd cc
+is_at_end (Some sorts.Disk) h = absurd cc
+is_at_end (Some sorts.Fallback) h = absurd cc
+is_at_end (Some sorts.Key) h = absurd cc
+is_at_end (Some sorts.Thread) h = absurd cc
+is_at_end (Some sorts.Operation) h = absurd cc
+is_at_end (Some sorts.End) h = refl

@@ -5,7 +5,7 @@ use Rattle.bc_text.specs.Lines.{Line}
 use Rattle.bc_key.specs.declared.config.Mode.{Mode}
 use Rattle.bc_key.specs.declared.config.Mode.TheVariants.{Aes256Xts, Aes128CbcEssiv}
 use Rattle.bc_script.specs.ScriptText.{mode_text}
-use Rattle.bc_script.specs.Items.{text_line, form_line, DashesAgree}
+use Rattle.bc_script.specs.Statements.{text_line, form_line, DashesAgree}
 use Rattle.bc_script.specs.Forms.{Form, BioForm, TextForm, Fill, Hex, Version, Disk, Fallback, Key, Thread, Write, Read, Evict, Reset, Plug, Unplug, End, alone, with_one, with_word, mode_of, key_form, with_key, dashes_agree, text_form, write_form, with_bio, with_bio_and_text, form_of}
 
 -- the line of a form

@@ -1,6 +1,6 @@
 -- Keys and the index of their names, as a key is added.
 use Rattle.std.proofs.Common.{◌≡◌, ◌≢◌, ℕ, zero, suc, ◌<◌, ◌≤◌, true, false, List, [], ◌∷◌, ◌++◌, length, Option, Some, None, BTreeMap, refl, sym, ap, subst, ◌∙◌, arith, length-append}
-use Rattle.std.specs.Prelude.{Bool, Vec, MatchOption, is_some}
+use Rattle.std.specs.Prelude.{Bool, Vec, MatchOption}
 use Rattle.std.specs.Map.{lookup, KeepsOthers, IsKeyTest, AreApart}
 use Rattle.std.specs.BTreeMap.{UpdatesBy, IsEmpty}
 use Rattle.std.specs.Ordering.{is_eq, nat_cmp}
@@ -31,11 +31,6 @@ name_at_end [] more = refl
 name_at_end (k ∷ ks) more = name_at_end ks more
 
 -- ---- the index
-
--- where no number was found, no key has the name
-pub not_found : (keys : List NamedKey) (name : List ℕ) (found : Option KeyNo) → MatchOption found (IsNoName keys name) (IsNamed keys name) → is_some found ≡ false → IsNoName keys name
-not_found keys name None none e = none
-not_found keys name (Some key) named e = absurd cc
 
 apart : (bs cs ks : List ℕ) → bs ≢ cs → is_eq (slice_cmp nat_cmp bs ks) ≡ true → is_eq (slice_cmp nat_cmp cs ks) ≡ false
 apart bs cs ks differ at =

@@ -12,10 +12,12 @@ use Rattle.bc_script.specs.declared.sort.Sort.{Sort}
 use Rattle.bc_script.specs.declared.sort.Sort.TheVariants as sorts
 use Rattle.bc_script.specs.declared.script_error.ScriptError.{ScriptError}
 use Rattle.bc_script.specs.declared.script_error.ScriptWhy.TheVariants as why
-use Rattle.bc_script.specs.Script.{Script, IsScript, IsDiskSize, AreKeys, IsNamedKey, IsOp, IsSection, bare_keys, open_behind, units_of, units_of_section, max_keys, max_threads, max_ops, max_units}
+use Rattle.bc_script.specs.Script.{Script, IsScript, IsDiskSize, AreKeys, IsNamedKey, IsOp, IsSection, bare_keys, open_after, unit_count, unit_count_of_section, max_keys, max_threads, max_ops, max_units}
 use Rattle.bc_script.specs.ScriptText.{NoScriptHas, script_text, script_lines, version_line, disk_line, fallback_line, key_line, fault_line, thread_line, op_line, section_lines, end_line}
-use Rattle.bc_script.specs.Forms.{Form, Version, Disk, Fallback, Key, Thread, End, form_of, sort_of, may_follow, is_unbuilt}
-use Rattle.bc_script.specs.ScriptErrors.{Why, first_of, with_form, error_at, error_at_end, first_error, error_of, or_below, last_sort, is_end, is_nothing}
+use Rattle.bc_script.specs.Forms.{Form, Version, Disk, Fallback, Key, Thread, End, form_of, sort_of}
+use Rattle.bc_script.specs.Order.{may_follow, is_unbuilt}
+use Rattle.bc_script.specs.ScriptErrors.{Why, first_of, with_form, error_at, error_at_end, first_error, error_of, or_below, last_sort, is_end}
+use Rattle.bc_text.specs.Lines.{is_nothing}
 use Rattle.bc_script.specs.Progress.{Progress, IsProgress, with_section, is_in_section, lines_read, forms_read, forms_below, sections_read}
 use Rattle.bc_script.proofs.Onto.{forms_below-append}
 use Rattle.bc_script.proofs.Above.{key_fields, op_form, last_sort-read, forms_read-step, form_of-disk, form_of-key_line, form_of-op_line}
@@ -163,7 +165,7 @@ record HasOps (p : Progress) (all : List Op) (q : Progress) : Type 0 where
   section : q.section ≡ all
 
 -- a front of operations closes no plug that isn't open and opens none twice, where all of them don't
-front_plugs : (before : Bool) (section more : List Op) → IsSome (open_behind before (section ++ more)) → IsSome (open_behind before section)
+front_plugs : (before : Bool) (section more : List Op) → IsSome (open_after before (section ++ more)) → IsSome (open_after before section)
 front_plugs before [] more h = refl
 front_plugs before (ops.Write context sector units text ∷ section) more h = front_plugs before section more h
 front_plugs before (ops.Read context sector units ∷ section) more h = front_plugs before section more h
@@ -192,18 +194,18 @@ op_sorted last keys (ops.Reset device) = refl
 op_sorted last keys ops.Plug = refl
 op_sorted last keys ops.Unplug = refl
 
-ops_pass : (p : Progress) (section : List Op) → IsProgress p → may_follow p.last sorts.Operation ≡ true → AllByRecursion (IsOp (bare_keys p.keys)) section → IsSome (open_behind false (p.section ++ section))
-    → sum_by length (sections_read p) + length section ≤ max_ops → sum_by units_of_section (sections_read p) + units_of_section section ≤ max_units → Reads p (map (op_line p.keys) section) (HasOps p (p.section ++ section))
+ops_pass : (p : Progress) (section : List Op) → IsProgress p → may_follow p.last sorts.Operation ≡ true → AllByRecursion (IsOp (bare_keys p.keys)) section → IsSome (open_after false (p.section ++ section))
+    → sum_by length (sections_read p) + length section ≤ max_ops → sum_by unit_count_of_section (sections_read p) + unit_count_of_section section ≤ max_units → Reads p (map (op_line p.keys) section) (HasOps p (p.section ++ section))
 ops_pass p [] is follows valid plugs room fits = still p (HasOps p (p.section ++ [])) is (record { follows = follows; blocks = refl; keys = refl; threads = refl; section = sym (append-nil p.section) })
 ops_pass p (op ∷ section) is follows valid plugs room fits =
     let q = with_op p op in
     let counts = counts-op p op follows in
     let same : q.section ++ section ≡ p.section ++ op ∷ section = append_assoc p.section (op ∷ []) section in
-    let all_plugs : IsSome (open_behind false (q.section ++ section)) = subst (λ (s : List Op). IsSome (open_behind false s)) (sym same) plugs in
-    let one_plugs : IsSome (open_behind false q.section) = front_plugs false q.section section all_plugs in
-    let units = sum_by-cons units_of op section in
+    let all_plugs : IsSome (open_after false (q.section ++ section)) = subst (λ (s : List Op). IsSome (open_after false s)) (sym same) plugs in
+    let one_plugs : IsSome (open_after false q.section) = front_plugs false q.section section all_plugs in
+    let units = sum_by-cons unit_count op section in
     let op_room : sum_by length (sections_read p) < max_ops = omega arith in
-    let op_fits : sum_by units_of_section (sections_read p) + units_of op ≤ max_units = omega arith in
+    let op_fits : sum_by unit_count_of_section (sections_read p) + unit_count op ≤ max_units = omega arith in
     let is_form = form_of-op_line p.keys op is.keys valid.0 in
     further p (op_line p.keys op ∷ []) (map (op_line p.keys) section) (λ r. r ≡ q) (HasOps p (p.section ++ op ∷ section))
     (one p q (op_line p.keys op) (op_form p.keys op) (λ r. r ≡ q) (IsProgress-op p op is follows valid.0 one_plugs op_room op_fits)
@@ -222,7 +224,7 @@ record HasSections (p : Progress) (q : Progress) : Type 0 where
   follows : may_follow q.last sorts.End ≡ true
   blocks : q.blocks ≡ p.blocks
   keys : q.keys ≡ p.keys
-  closed : open_behind false q.section ≡ Some false
+  closed : open_after false q.section ≡ Some false
 
 threads_follow : (last : Option Sort) → may_follow last sorts.End ≡ true → may_follow last sorts.Thread ≡ true
 threads_follow None h = absurd cc
@@ -252,15 +254,15 @@ ends_after_ops (Some sorts.Operation) h = refl
 ends_after_ops (Some sorts.End) h = absurd cc
 
 -- one section
-section_passes : (p : Progress) (section : List Op) → IsProgress p → may_follow p.last sorts.End ≡ true → open_behind false p.section ≡ Some false → IsSection (bare_keys p.keys) section
-    → length (sections_read p) < max_threads → sum_by length (sections_read p) + length section ≤ max_ops → sum_by units_of_section (sections_read p) + units_of_section section ≤ max_units
+section_passes : (p : Progress) (section : List Op) → IsProgress p → may_follow p.last sorts.End ≡ true → open_after false p.section ≡ Some false → IsSection (bare_keys p.keys) section
+    → length (sections_read p) < max_threads → sum_by length (sections_read p) + length section ≤ max_ops → sum_by unit_count_of_section (sections_read p) + unit_count_of_section section ≤ max_units
     → Reads p (section_lines p.keys section) (HasOps (with_section_ended p sorts.Thread) section)
 section_passes p section is follows closed valid room ops_room units_room =
     let t = with_section_ended p sorts.Thread in
     let thread_follows = threads_follow p.last follows in
     let is_t = IsProgress-thread p is thread_follows closed room in
     let ops = sum_by-append length (sections_read p) ([] ∷ []) in
-    let units = sum_by-append units_of_section (sections_read p) ([] ∷ []) in
+    let units = sum_by-append unit_count_of_section (sections_read p) ([] ∷ []) in
     further p (thread_line ∷ []) (map (op_line p.keys) section) (λ q. q ≡ t) (HasOps t section)
     (one p t thread_line Thread (λ q. q ≡ t) is_t
     (error_at-passed p thread_line Thread is (is_built p.last (codes "thread") [] refl refl refl) refl thread_follows (thread_passed p is closed room))
@@ -268,22 +270,22 @@ section_passes p section is follows closed valid room ops_room units_room =
     (λ q is_q e. subst (λ (x : Progress). Reads x (map (op_line p.keys) section) (HasOps t section)) (sym e)
     (ops_pass t section is_t refl valid.each (ap (λ (o : Option Bool). is_some o) valid.plugs) (omega arith) (omega arith)))
 
-sections_pass : (p : Progress) (sections : List (List Op)) → IsProgress p → may_follow p.last sorts.End ≡ true → open_behind false p.section ≡ Some false → AllByRecursion (IsSection (bare_keys p.keys)) sections
-    → length (sections_read p) + length sections ≤ max_threads → sum_by length (sections_read p) + sum_by length sections ≤ max_ops → sum_by units_of_section (sections_read p) + sum_by units_of_section sections ≤ max_units
+sections_pass : (p : Progress) (sections : List (List Op)) → IsProgress p → may_follow p.last sorts.End ≡ true → open_after false p.section ≡ Some false → AllByRecursion (IsSection (bare_keys p.keys)) sections
+    → length (sections_read p) + length sections ≤ max_threads → sum_by length (sections_read p) + sum_by length sections ≤ max_ops → sum_by unit_count_of_section (sections_read p) + sum_by unit_count_of_section sections ≤ max_units
     → Reads p (flat_map (section_lines p.keys) sections) (HasSections p)
 sections_pass p [] is follows closed valid room ops_room units_room = still p (HasSections p) is (record { follows = follows; blocks = refl; keys = refl; closed = closed })
 sections_pass p (section ∷ sections) is follows closed valid room ops_room units_room =
     let t = with_section_ended p sorts.Thread in
     let ops = sum_by-cons length section sections in
-    let units = sum_by-cons units_of_section section sections in
+    let units = sum_by-cons unit_count_of_section section sections in
     further p (section_lines p.keys section) (flat_map (section_lines p.keys) sections) (HasOps t section) (HasSections p)
     (section_passes p section is follows closed valid.0 (omega arith) (omega arith) (omega arith))
     (λ q is_q has.
     let done = section_done p q section has in
     let count = ap length done ∙ length-append (sections_read p) (section ∷ []) in
     let ops_done = ap (sum_by length) done ∙ sum_by-append length (sections_read p) (section ∷ []) in
-    let units_done = ap (sum_by units_of_section) done ∙ sum_by-append units_of_section (sections_read p) (section ∷ []) in
-    let rest = sections_pass q sections is_q (ends_after_ops q.last has.follows) (ap (open_behind false) has.section ∙ valid.0.plugs)
+    let units_done = ap (sum_by unit_count_of_section) done ∙ sum_by-append unit_count_of_section (sections_read p) (section ∷ []) in
+    let rest = sections_pass q sections is_q (ends_after_ops q.last has.follows) (ap (open_after false) has.section ∙ valid.0.plugs)
     (subst (λ (keys : List NamedKey). AllByRecursion (IsSection (bare_keys keys)) sections) (sym has.keys) valid.1) (omega arith) (omega arith) (omega arith) in
     subst (λ (keys : List NamedKey). Reads q (flat_map (section_lines keys) sections) (HasSections p)) has.keys
     (weaker q (flat_map (section_lines q.keys) sections) (HasSections q) (HasSections p)
@@ -295,7 +297,7 @@ sections_pass p (section ∷ sections) is follows closed valid room ops_room uni
 abbrev HasEnded : Progress → Type 0
 HasEnded q = q.last ≡ Some sorts.End
 
-end_passes : (p : Progress) → IsProgress p → may_follow p.last sorts.End ≡ true → open_behind false p.section ≡ Some false → Reads p (end_line ∷ []) HasEnded
+end_passes : (p : Progress) → IsProgress p → may_follow p.last sorts.End ≡ true → open_after false p.section ≡ Some false → Reads p (end_line ∷ []) HasEnded
 end_passes p is follows closed =
     one p (with_section_ended p sorts.End) end_line End HasEnded (IsProgress-end p is follows closed)
     (error_at-passed p end_line End is (is_built p.last (codes "end") [] refl refl refl) refl follows (end_passed p is closed))
@@ -326,10 +328,10 @@ whole_passes s valid =
     let few_ops = valid.threads.few_ops in
     let few_units = valid.threads.few_units in
     let all_sections : Reads q (flat_map (section_lines q.keys) s.threads) (HasSections q) =
-    sections_pass q s.threads is_q none.2 (ap (open_behind false) none.1) each
+    sections_pass q s.threads is_q none.2 (ap (open_after false) none.1) each
     (subst (λ (t : List (List Op)). length t + length s.threads ≤ max_threads) (sym none.0) (omega arith))
     (subst (λ (t : List (List Op)). sum_by length t + sum_by length s.threads ≤ max_ops) (sym none.0) (omega arith))
-    (subst (λ (t : List (List Op)). sum_by units_of_section t + sum_by units_of_section s.threads ≤ max_units) (sym none.0) (omega arith)) in
+    (subst (λ (t : List (List Op)). sum_by unit_count_of_section t + sum_by unit_count_of_section s.threads ≤ max_units) (sym none.0) (omega arith)) in
     further q sections (end_line ∷ []) (HasSections q) HasEnded
     (subst (λ (k : List NamedKey). Reads q (flat_map (section_lines k) s.threads) (HasSections q)) keys all_sections)
     (λ r is_r done. end_passes r is_r done.follows done.closed)))

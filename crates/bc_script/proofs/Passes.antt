@@ -29,9 +29,10 @@ use Rattle.bc_script.specs.declared.sort.Sort.TheVariants as sorts
 use Rattle.bc_script.specs.declared.script_error.ScriptWhy.{ScriptWhy}
 use Rattle.bc_script.specs.declared.script_error.ScriptWhy.TheVariants as why
 use Rattle.bc_script.specs.Name.{is_name}
-use Rattle.bc_script.specs.Script.{IsDiskSize, IsNamedKey, IsContext, IsBio, IsText, IsOp, bare_keys, open_behind, units_of, units_of_section, max_keys, max_threads, max_ops, max_units, max_bio_units, max_bio_sectors}
+use Rattle.bc_script.specs.Script.{IsDiskSize, IsNamedKey, IsContext, IsBio, IsText, IsOp, bare_keys, open_after, unit_count, unit_count_of_section, max_keys, max_threads, max_ops, max_units, max_bio_units, max_bio_sectors}
 use Rattle.bc_script.specs.ScriptText.{dash, name_of, key_field}
-use Rattle.bc_script.specs.Forms.{Form, Disk, Key, Thread, End, form_of, sort_of, may_follow, is_unbuilt}
+use Rattle.bc_script.specs.Forms.{Form, Disk, Key, Thread, End, form_of, sort_of}
+use Rattle.bc_script.specs.Order.{may_follow, is_unbuilt}
 use Rattle.bc_script.specs.ScriptErrors.{Why, first_of, is_number, is_number_text, number_in, bytes_in, is_hex_text, number_test, key_refused, key_test, is_declared, sectors_under, is_open, is_key, is_thread, is_operation, units_in, op_limit, bio_limits, bio_tests, is_text, size_of, last_sort, is_end, tests_of, error_of_form, error_at}
 use Rattle.bc_script.specs.Progress.{Progress, IsProgress, forms_read, sections_read}
 use Rattle.bc_script.proofs.Fields.{number_in-decimal, is_number-decimal, is_number_text-number_text, bytes_in-encode_lower, is_hex_text-encode_lower}
@@ -170,17 +171,17 @@ key_passed p named is valid fresh room =
 
 -- ---- sections
 
-closed : (p : Progress) → IsProgress p → open_behind false p.section ≡ Some false → not (is_open (forms_read p)) ≡ true
+closed : (p : Progress) → IsProgress p → open_after false p.section ≡ Some false → not (is_open (forms_read p)) ≡ true
 closed p is behind = not_from_false _ (is_open-read p false is behind)
 
-pub thread_passed : (p : Progress) → IsProgress p → open_behind false p.section ≡ Some false → length (sections_read p) < max_threads → tests_of (forms_read p) Thread ≡ None
+pub thread_passed : (p : Progress) → IsProgress p → open_after false p.section ≡ Some false → length (sections_read p) < max_threads → tests_of (forms_read p) Thread ≡ None
 thread_passed p is behind room =
     passed (not (is_open (forms_read p))) why.Order _ (closed p is behind)
     (passed (nat_lt (count_by is_thread (forms_read p)) max_threads) why.Limit None
     (ap (λ (n : ℕ). nat_lt n max_threads) (threads-read p is) ∙ lt-ltb (length (sections_read p)) max_threads room)
     refl)
 
-pub end_passed : (p : Progress) → IsProgress p → open_behind false p.section ≡ Some false → tests_of (forms_read p) End ≡ None
+pub end_passed : (p : Progress) → IsProgress p → open_after false p.section ≡ Some false → tests_of (forms_read p) End ≡ None
 end_passed p is behind = passed (not (is_open (forms_read p))) why.Order None (closed p is behind) refl
 
 -- ---- operations
@@ -213,7 +214,7 @@ bio_passed p context sector units next is valid rest =
 pub units_said : (p : Progress) (context : Option Context) (sector units : ℕ) → IsBio (bare_keys p.keys) context sector units → number_in (decimal units) ≡ units
 units_said p context sector units valid = let few = valid.few_units in number_in-decimal units (omega arith)
 
-bio_room : (p : Progress) (context : Option Context) (sector units : ℕ) → IsProgress p → IsBio (bare_keys p.keys) context sector units → sum_by length (sections_read p) < max_ops → sum_by units_of_section (sections_read p) + units ≤ max_units
+bio_room : (p : Progress) (context : Option Context) (sector units : ℕ) → IsProgress p → IsBio (bare_keys p.keys) context sector units → sum_by length (sections_read p) < max_ops → sum_by unit_count_of_section (sections_read p) + units ≤ max_units
     → bio_limits (forms_read p) (bio_form p.keys context sector units) ≡ None
 bio_room p context sector units is valid room fits =
     let bio = bio_form p.keys context sector units in
@@ -221,11 +222,11 @@ bio_room p context sector units is valid room fits =
     let said : number_in bio.units ≡ units = units_said p context sector units valid in
     let sectors : sectors_under bio.key above ≡ unit_sectors (bare_keys p.keys) context = sectors_under-read p context is valid.context_is in
     let product : number_in bio.units * sectors_under bio.key above ≡ units * unit_sectors (bare_keys p.keys) context = ap (λ (n : ℕ). n * sectors_under bio.key above) said ∙ ap (λ (n : ℕ). units * n) sectors in
-    let sum : sum_by units_in above + number_in bio.units ≡ sum_by units_of_section (sections_read p) + units = ap (λ (n : ℕ). n + number_in bio.units) (units-read p is) ∙ ap (λ (n : ℕ). sum_by units_of_section (sections_read p) + n) said in
+    let sum : sum_by units_in above + number_in bio.units ≡ sum_by unit_count_of_section (sections_read p) + units = ap (λ (n : ℕ). n + number_in bio.units) (units-read p is) ∙ ap (λ (n : ℕ). sum_by unit_count_of_section (sections_read p) + n) said in
     passed (nat_le (number_in bio.units * sectors_under bio.key above) max_bio_sectors) why.Limit _
     (ap (λ (n : ℕ). nat_le n max_bio_sectors) product ∙ le-leb (units * unit_sectors (bare_keys p.keys) context) max_bio_sectors valid.few_sectors)
     (passed (nat_le (sum_by units_in above + number_in bio.units) max_units) why.Limit _
-    (ap (λ (n : ℕ). nat_le n max_units) sum ∙ le-leb (sum_by units_of_section (sections_read p) + units) max_units fits)
+    (ap (λ (n : ℕ). nat_le n max_units) sum ∙ le-leb (sum_by unit_count_of_section (sections_read p) + units) max_units fits)
     (op_room p is room))
 
 pub unit_sectors_least : (keys : List KeyData) (context : Option Context) → 1 ≤ unit_sectors keys context
@@ -263,40 +264,40 @@ pub some_plugged : (o : Option Bool) → IsSome o → (plugged : Bool) × (o ≡
 some_plugged None h = absurd cc
 some_plugged (Some plugged) h = (plugged, refl)
 
-pub open_behind-append : (before after : Bool) (section more : List Op) → open_behind before section ≡ Some after → open_behind before (section ++ more) ≡ open_behind after more
-open_behind-append before after [] more h = ap (λ (b : Bool). open_behind b more) (same before after h)
+pub open_after-append : (before after : Bool) (section more : List Op) → open_after before section ≡ Some after → open_after before (section ++ more) ≡ open_after after more
+open_after-append before after [] more h = ap (λ (b : Bool). open_after b more) (same before after h)
   where
     same : (a b : Bool) → Some a ≡ Some b → a ≡ b
     same a b e = cc
-open_behind-append before after (ops.Write context sector units text ∷ section) more h = open_behind-append before after section more h
-open_behind-append before after (ops.Read context sector units ∷ section) more h = open_behind-append before after section more h
-open_behind-append before after (ops.Evict key ∷ section) more h = open_behind-append before after section more h
-open_behind-append before after (ops.Reset device ∷ section) more h = open_behind-append before after section more h
-open_behind-append true after (ops.Plug ∷ section) more h = absurd cc
-open_behind-append false after (ops.Plug ∷ section) more h = open_behind-append true after section more h
-open_behind-append true after (ops.Unplug ∷ section) more h = open_behind-append false after section more h
-open_behind-append false after (ops.Unplug ∷ section) more h = absurd cc
+open_after-append before after (ops.Write context sector units text ∷ section) more h = open_after-append before after section more h
+open_after-append before after (ops.Read context sector units ∷ section) more h = open_after-append before after section more h
+open_after-append before after (ops.Evict key ∷ section) more h = open_after-append before after section more h
+open_after-append before after (ops.Reset device ∷ section) more h = open_after-append before after section more h
+open_after-append true after (ops.Plug ∷ section) more h = absurd cc
+open_after-append false after (ops.Plug ∷ section) more h = open_after-append true after section more h
+open_after-append true after (ops.Unplug ∷ section) more h = open_after-append false after section more h
+open_after-append false after (ops.Unplug ∷ section) more h = absurd cc
 
-plug_was_closed : (p : Progress) → IsProgress p → IsSome (open_behind false (p.section ++ ops.Plug ∷ [])) → open_behind false p.section ≡ Some false
+plug_was_closed : (p : Progress) → IsProgress p → IsSome (open_after false (p.section ++ ops.Plug ∷ [])) → open_after false p.section ≡ Some false
 plug_was_closed p is opens =
-    let before = some_plugged (open_behind false p.section) is.plugs in
-    before.1 ∙ ap Some (only before.0 (sym (ap (λ (o : Option Bool). is_some o) (open_behind-append false before.0 p.section (ops.Plug ∷ []) before.1)) ∙ opens))
+    let before = some_plugged (open_after false p.section) is.plugs in
+    before.1 ∙ ap Some (only before.0 (sym (ap (λ (o : Option Bool). is_some o) (open_after-append false before.0 p.section (ops.Plug ∷ []) before.1)) ∙ opens))
   where
-    only : (b : Bool) → IsSome (open_behind b (ops.Plug ∷ [])) → b ≡ false
+    only : (b : Bool) → IsSome (open_after b (ops.Plug ∷ [])) → b ≡ false
     only true h = absurd cc
     only false h = refl
 
-plug_was_open : (p : Progress) → IsProgress p → IsSome (open_behind false (p.section ++ ops.Unplug ∷ [])) → open_behind false p.section ≡ Some true
+plug_was_open : (p : Progress) → IsProgress p → IsSome (open_after false (p.section ++ ops.Unplug ∷ [])) → open_after false p.section ≡ Some true
 plug_was_open p is closes =
-    let before = some_plugged (open_behind false p.section) is.plugs in
-    before.1 ∙ ap Some (only before.0 (sym (ap (λ (o : Option Bool). is_some o) (open_behind-append false before.0 p.section (ops.Unplug ∷ []) before.1)) ∙ closes))
+    let before = some_plugged (open_after false p.section) is.plugs in
+    before.1 ∙ ap Some (only before.0 (sym (ap (λ (o : Option Bool). is_some o) (open_after-append false before.0 p.section (ops.Unplug ∷ []) before.1)) ∙ closes))
   where
-    only : (b : Bool) → IsSome (open_behind b (ops.Unplug ∷ [])) → b ≡ true
+    only : (b : Bool) → IsSome (open_after b (ops.Unplug ∷ [])) → b ≡ true
     only true h = refl
     only false h = absurd cc
 
 -- a valid operation passes, where there is room for it
-pub op_passed : (p : Progress) (op : Op) → IsProgress p → IsOp (bare_keys p.keys) op → IsSome (open_behind false (p.section ++ op ∷ [])) → sum_by length (sections_read p) < max_ops → sum_by units_of_section (sections_read p) + units_of op ≤ max_units
+pub op_passed : (p : Progress) (op : Op) → IsProgress p → IsOp (bare_keys p.keys) op → IsSome (open_after false (p.section ++ op ∷ [])) → sum_by length (sections_read p) < max_ops → sum_by unit_count_of_section (sections_read p) + unit_count op ≤ max_units
     → tests_of (forms_read p) (op_form p.keys op) ≡ None
 op_passed p (ops.Write context sector units text) is valid plugs room fits =
     bio_passed p context sector units _ is valid.0

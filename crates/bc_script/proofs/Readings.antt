@@ -2,26 +2,27 @@
 use Rattle.std.proofs.Common.{◌≡◌, ℕ, ◌<◌, ◌≤◌, ◌+◌, Bool, true, false, List, [], ◌∷◌, ◌++◌, length, map, flat_map, Option, Some, None, append-nil, refl, sym, ap, subst, ◌∙◌, arith}
 use Rattle.std.specs.Prelude.{sum_by, IsSome, ◌&&◌}
 use Rattle.std.proofs.lemmas.List.Sums.{sum_by-append}
-use Rattle.bc_text.specs.Lines.{Line, nothing}
+use Rattle.bc_text.specs.Lines.{Line}
 use Rattle.bc_script.specs.declared.named_key.NamedKey.{NamedKey}
 use Rattle.bc_script.specs.declared.op.Op.{Op}
 use Rattle.bc_script.specs.declared.sort.Sort.{Sort}
 use Rattle.bc_script.specs.declared.sort.Sort.TheVariants as sorts
-use Rattle.bc_script.specs.declared.item.Item.{Item}
-use Rattle.bc_script.specs.declared.item.Item.TheVariants as items
+use Rattle.bc_script.specs.declared.statement.Statement.{Statement}
+use Rattle.bc_script.specs.declared.statement.Statement.TheVariants as statements
 use Rattle.bc_script.specs.declared.script_error.ScriptWhy.TheVariants as why
-use Rattle.bc_script.specs.Script.{Script, IsScript, IsDiskSize, open_behind, units_of, units_of_section, max_threads, max_ops, max_units}
+use Rattle.bc_script.specs.Script.{Script, IsScript, IsDiskSize, open_after, unit_count, unit_count_of_section, max_threads, max_ops, max_units}
 use Rattle.bc_script.specs.ScriptText.{script_lines, version_line, disk_line, fallback_line, key_line, thread_line, op_line, section_lines, end_line}
-use Rattle.bc_script.specs.Forms.{Form, Version, Fallback, Key, Thread, End, form_of, may_follow, is_unbuilt}
-use Rattle.bc_script.specs.ScriptErrors.{with_form, error_at, error_at_end, last_sort, is_end, is_nothing}
+use Rattle.bc_script.specs.Forms.{Form, Version, Fallback, Key, Thread, End, form_of}
+use Rattle.bc_script.specs.Order.{may_follow, is_unbuilt}
+use Rattle.bc_script.specs.ScriptErrors.{with_form, error_at, error_at_end, last_sort, is_end}
+use Rattle.bc_text.specs.Lines.{is_nothing}
 use Rattle.bc_script.specs.Progress.{Progress, IsProgress, IsAt, head_read, with_section, is_in_section, end_read, lines_read, forms_read, sections_read}
-use Rattle.bc_script.specs.Items.{Fits, FitsKey, FitsOp, IsClosed, EndsSection, HasRoomFor, IsNext, sort_of_item, line_of, with_item, with_section_ended}
-use Rattle.bc_script.specs.NamedKeys.{IsNoName, HasName}
+use Rattle.bc_script.specs.Statements.{Fits, FitsKey, FitsOp, IsClosed, EndsSection, HasRoomFor, IsNext, sort_of_statement, line_of, with_statement, with_section_ended}
 use Rattle.bc_script.specs.Reading.{IsReading, Took, left_section}
 use Rattle.bc_script.proofs.FormsRead.{forms_read-step}
 use Rattle.bc_script.proofs.LineForms.{key_fields, op_form, form_of-key_line, form_of-op_line}
 use Rattle.bc_script.proofs.Above.{last_sort-read, length-read_le}
-use Rattle.bc_script.proofs.Passes.{error_at-passed, is_built, disk_passed, key_passed, thread_passed, end_passed, op_passed, open_behind-append}
+use Rattle.bc_script.proofs.Passes.{error_at-passed, is_built, disk_passed, key_passed, thread_passed, end_passed, op_passed, open_after-append}
 use Rattle.bc_script.proofs.Steps.{nothing_read, IsProgress-nothing_read, IsProgress-version, IsProgress-disk, IsProgress-fallback, IsProgress-key, IsProgress-thread, IsProgress-op, IsProgress-end, lines_read-version, lines_read-disk, lines_read-fallback, lines_read-key, lines_read-thread, lines_read-op, lines_read-end, counts-op}
 use Rattle.bc_script.proofs.NoError.{op_built, op_sorted}
 use Rattle.bc_script.proofs.Refusals.{fails, goes_on, others}
@@ -35,7 +36,7 @@ pub few_lines : (p : Progress) (lines count units : ℕ) (plugged : Bool) → Is
 few_lines p lines count units plugged is = subst (λ (n : ℕ). n ≤ 69652) (sym is.line_count) (length-read_le p is.rules)
 
 reading_step : (p q : Progress) (line : Line) (form : Form) (lines count units counted united : ℕ) (plugged closed : Bool) → IsReading p lines plugged count units → IsProgress q → lines_read q ≡ lines_read p ++ line ∷ [] → form_of line ≡ Some form
-    → open_behind false q.section ≡ Some closed → counted ≡ sum_by length (sections_read q) → united ≡ sum_by units_of_section (sections_read q) → IsReading q (lines + 1) closed counted united
+    → open_after false q.section ≡ Some closed → counted ≡ sum_by length (sections_read q) → united ≡ sum_by unit_count_of_section (sections_read q) → IsReading q (lines + 1) closed counted united
 reading_step p q line form lines count units counted united plugged closed is rules more is_form plug few many =
     let longer = ap length (forms_read-step p q line form more is_form) in
     let before = is.line_count in
@@ -75,47 +76,47 @@ sections_before : (p : Progress) (sort : Sort) → is_before sort ≡ true → m
 sections_before p sort before follows = ap (λ (b : Bool). p.threads ++ with_section b p.section) (outside p.last sort before follows)
 
 module _ (p : Progress) (lines count units : ℕ) (plugged : Bool) (is : IsReading p lines plugged count units) where
-  pub reading_version : may_follow p.last sorts.Version ≡ true → IsReading (with_item p items.Version) (lines + 1) plugged count units
+  pub reading_version : may_follow p.last sorts.Version ≡ true → IsReading (with_statement p statements.Version) (lines + 1) plugged count units
   reading_version follows =
       let same = sections_before p sorts.Version refl follows in
-      reading_step p (with_item p items.Version) version_line Version lines count units count units plugged plugged is (IsProgress-version p is.rules follows) (lines_read-version p is.rules follows) refl is.plug
-      (is.op_count ∙ ap (λ (t : List (List Op)). sum_by length t) same) (is.unit_count ∙ ap (λ (t : List (List Op)). sum_by units_of_section t) same)
+      reading_step p (with_statement p statements.Version) version_line Version lines count units count units plugged plugged is (IsProgress-version p is.rules follows) (lines_read-version p is.rules follows) refl is.plug
+      (is.op_count ∙ ap (λ (t : List (List Op)). sum_by length t) same) (is.unit_count ∙ ap (λ (t : List (List Op)). sum_by unit_count_of_section t) same)
 
-  pub reading_disk : (blocks : ℕ) → may_follow p.last sorts.Disk ≡ true → IsDiskSize blocks → IsReading (with_item p (items.Disk blocks)) (lines + 1) plugged count units
+  pub reading_disk : (blocks : ℕ) → may_follow p.last sorts.Disk ≡ true → IsDiskSize blocks → IsReading (with_statement p (statements.Disk blocks)) (lines + 1) plugged count units
   reading_disk blocks follows size =
       let same = sections_before p sorts.Disk refl follows in
-      reading_step p (with_item p (items.Disk blocks)) (disk_line blocks) _ lines count units count units plugged plugged is (IsProgress-disk p blocks is.rules follows size) (lines_read-disk p blocks is.rules follows) refl is.plug
-      (is.op_count ∙ ap (λ (t : List (List Op)). sum_by length t) same) (is.unit_count ∙ ap (λ (t : List (List Op)). sum_by units_of_section t) same)
+      reading_step p (with_statement p (statements.Disk blocks)) (disk_line blocks) _ lines count units count units plugged plugged is (IsProgress-disk p blocks is.rules follows size) (lines_read-disk p blocks is.rules follows) refl is.plug
+      (is.op_count ∙ ap (λ (t : List (List Op)). sum_by length t) same) (is.unit_count ∙ ap (λ (t : List (List Op)). sum_by unit_count_of_section t) same)
 
-  pub reading_fallback : may_follow p.last sorts.Fallback ≡ true → IsReading (with_item p items.Fallback) (lines + 1) plugged count units
+  pub reading_fallback : may_follow p.last sorts.Fallback ≡ true → IsReading (with_statement p statements.Fallback) (lines + 1) plugged count units
   reading_fallback follows =
       let same = sections_before p sorts.Fallback refl follows in
-      reading_step p (with_item p items.Fallback) (fallback_line true) Fallback lines count units count units plugged plugged is (IsProgress-fallback p is.rules follows) (lines_read-fallback p is.rules follows) refl is.plug
-      (is.op_count ∙ ap (λ (t : List (List Op)). sum_by length t) same) (is.unit_count ∙ ap (λ (t : List (List Op)). sum_by units_of_section t) same)
+      reading_step p (with_statement p statements.Fallback) (fallback_line true) Fallback lines count units count units plugged plugged is (IsProgress-fallback p is.rules follows) (lines_read-fallback p is.rules follows) refl is.plug
+      (is.op_count ∙ ap (λ (t : List (List Op)). sum_by length t) same) (is.unit_count ∙ ap (λ (t : List (List Op)). sum_by unit_count_of_section t) same)
 
-  pub reading_key : (named : NamedKey) → may_follow p.last sorts.Key ≡ true → FitsKey p named → IsReading (with_item p (items.Key named)) (lines + 1) plugged count units
+  pub reading_key : (named : NamedKey) → may_follow p.last sorts.Key ≡ true → FitsKey p named → IsReading (with_statement p (statements.Key named)) (lines + 1) plugged count units
   reading_key named follows fits =
       let same = sections_before p sorts.Key refl follows in
-      reading_step p (with_item p (items.Key named)) (key_line named) (Key (key_fields named)) lines count units count units plugged plugged is
+      reading_step p (with_statement p (statements.Key named)) (key_line named) (Key (key_fields named)) lines count units count units plugged plugged is
       (IsProgress-key p named is.rules follows fits.valid (others p.keys named.name fits.fresh) fits.room) (lines_read-key p named is.rules follows) (form_of-key_line named) is.plug
-      (is.op_count ∙ ap (λ (t : List (List Op)). sum_by length t) same) (is.unit_count ∙ ap (λ (t : List (List Op)). sum_by units_of_section t) same)
+      (is.op_count ∙ ap (λ (t : List (List Op)). sum_by length t) same) (is.unit_count ∙ ap (λ (t : List (List Op)). sum_by unit_count_of_section t) same)
 
-  pub may_plug : (op : Op) → FitsOp p op → IsSome (open_behind plugged (op ∷ []))
-  may_plug op fits = subst (λ (o : Option Bool). IsSome o) (open_behind-append false plugged p.section (op ∷ []) is.plug) fits.plugs
+  pub may_plug : (op : Op) → FitsOp p op → IsSome (open_after plugged (op ∷ []))
+  may_plug op fits = subst (λ (o : Option Bool). IsSome o) (open_after-append false plugged p.section (op ∷ []) is.plug) fits.plugs
 
-  pub reading_op : (op : Op) (more : ℕ) (closed : Bool) → may_follow p.last sorts.Operation ≡ true → FitsOp p op → more ≡ units_of op → open_behind plugged (op ∷ []) ≡ Some closed
-      → IsReading (with_item p (items.Operation op)) (lines + 1) closed (count + 1) (units + more)
+  pub reading_op : (op : Op) (more : ℕ) (closed : Bool) → may_follow p.last sorts.Operation ≡ true → FitsOp p op → more ≡ unit_count op → open_after plugged (op ∷ []) ≡ Some closed
+      → IsReading (with_statement p (statements.Operation op)) (lines + 1) closed (count + 1) (units + more)
   reading_op op more closed follows fits more_is plugs =
       let counts = counts-op p op follows in
       let rules = is.rules in
       let ops = is.op_count in
       let all = is.unit_count in
-      reading_step p (with_item p (items.Operation op)) (op_line p.keys op) (op_form p.keys op) lines count units (count + 1) (units + more) plugged closed is
+      reading_step p (with_statement p (statements.Operation op)) (op_line p.keys op) (op_form p.keys op) lines count units (count + 1) (units + more) plugged closed is
       (IsProgress-op p op rules follows fits.valid fits.plugs fits.room fits.units) (lines_read-op p op rules follows) (form_of-op_line p.keys op rules.keys fits.valid)
-      (open_behind-append false plugged p.section (op ∷ []) is.plug ∙ plugs)
+      (open_after-append false plugged p.section (op ∷ []) is.plug ∙ plugs)
       (ap (λ (n : ℕ). n + 1) is.op_count ∙ sym counts.1) ((λ i. is.unit_count i + more_is i) ∙ sym counts.2)
 
-  pub few_ops : (op : Op) → FitsOp p op → (count < 65536) × (units + units_of op ≤ 65536)
+  pub few_ops : (op : Op) → FitsOp p op → (count < 65536) × (units + unit_count op ≤ 65536)
   few_ops op fits =
       let room = fits.room in
       let most = fits.units in
@@ -126,14 +127,14 @@ module _ (p : Progress) (lines count units : ℕ) (plugged : Bool) (is : IsReadi
   pub reading_ended : (sort : Sort) → EndsSection sort → may_follow p.last sort ≡ true → IsClosed p → HasRoomFor p sort → IsReading (with_section_ended p sort) (lines + 1) plugged count units
   reading_ended sorts.Thread ends follows closed room =
       let ops = sum_by-append length (sections_read p) ([] ∷ []) in
-      let all = sum_by-append units_of_section (sections_read p) ([] ∷ []) in
+      let all = sum_by-append unit_count_of_section (sections_read p) ([] ∷ []) in
       let few = is.op_count in
       let many = is.unit_count in
       reading_step p (with_section_ended p sorts.Thread) thread_line Thread lines count units count units plugged plugged is (IsProgress-thread p is.rules follows closed room) (lines_read-thread p is.rules follows) refl (sym closed ∙ is.plug) (omega arith) (omega arith)
   reading_ended sorts.End ends follows closed room =
       let same : sections_read p ≡ sections_read p ++ [] = sym (append-nil (sections_read p)) in
       reading_step p (with_section_ended p sorts.End) end_line End lines count units count units plugged plugged is (IsProgress-end p is.rules follows closed) (lines_read-end p is.rules follows) refl (sym closed ∙ is.plug)
-      (is.op_count ∙ ap (λ (t : List (List Op)). sum_by length t) same) (is.unit_count ∙ ap (λ (t : List (List Op)). sum_by units_of_section t) same)
+      (is.op_count ∙ ap (λ (t : List (List Op)). sum_by length t) same) (is.unit_count ∙ ap (λ (t : List (List Op)). sum_by unit_count_of_section t) same)
   reading_ended sorts.Version ends follows closed room = absurd ends
   reading_ended sorts.Disk ends follows closed room = absurd ends
   reading_ended sorts.Fallback ends follows closed room = absurd ends
@@ -161,32 +162,26 @@ none_left p is = at (is_in_section p.last) refl
     at true e = refl
     at false e = no_section p is e
 
--- where a key with a new name is added, it is added
-pub added_is : (old new : List NamedKey) (named : NamedKey) (added : Bool) → (added ≡ true → (new ≡ old ++ named ∷ []) × IsNoName old named.name) → (added ≡ false → (new ≡ old) × HasName old named.name) → IsNoName old named.name
-    → new ≡ old ++ named ∷ []
-added_is old new named true more same fresh = (more refl).0
-added_is old new named false more same fresh = let has = (same refl).1 in absurd (fresh has.0 has.1)
-
 -- ---- a line that has been read
 
 -- what follows passes, and its line is read with it
 module _ (p : Progress) (is : IsProgress p) where
-  abbrev TookItem : Item → Type 0
-  TookItem item = Took p (line_of p.keys item) (with_item p item)
+  abbrev TookStatement : Statement → Type 0
+  TookStatement statement = Took p (line_of p.keys statement) (with_statement p statement)
 
-  taken : (item : Item) (form : Form) → form_of (line_of p.keys item) ≡ Some form → error_at (forms_read p) (line_of p.keys item) ≡ None → lines_read (with_item p item) ≡ lines_read p ++ line_of p.keys item ∷ [] → TookItem item
-  taken item form is_form passes lines = record {
+  taken : (statement : Statement) (form : Form) → form_of (line_of p.keys statement) ≡ Some form → error_at (forms_read p) (line_of p.keys statement) ≡ None → lines_read (with_statement p statement) ≡ lines_read p ++ line_of p.keys statement ∷ [] → TookStatement statement
+  taken statement form is_form passes lines = record {
     passes = passes;
     lines = lines;
-    forms = forms_read-step p (with_item p item) (line_of p.keys item) form lines is_form ∙ sym (ap (λ (f : Option Form). with_form f (forms_read p)) is_form);
+    forms = forms_read-step p (with_statement p statement) (line_of p.keys statement) form lines is_form ∙ sym (ap (λ (f : Option Form). with_form f (forms_read p)) is_form);
   }
 
-  took_item : (item : Item) → may_follow p.last (sort_of_item item) ≡ true → Fits p item → TookItem item
-  took_item items.Version follows fits =
-      taken items.Version Version refl (error_at-passed p version_line Version is (is_built p.last _ _ refl refl refl) refl follows refl) (lines_read-version p is follows)
-  took_item (items.Disk blocks) follows fits =
-      taken (items.Disk blocks) _ refl (error_at-passed p (disk_line blocks) _ is (is_built p.last _ _ refl refl refl) refl follows (disk_passed (forms_read p) blocks fits)) (lines_read-disk p blocks is follows)
-  took_item items.Fallback follows fits = taken items.Fallback Fallback refl (error_at-passed p (fallback_line true) Fallback is (fallback_built p.last) refl follows refl) (lines_read-fallback p is follows)
+  took_statement : (statement : Statement) → may_follow p.last (sort_of_statement statement) ≡ true → Fits p statement → TookStatement statement
+  took_statement statements.Version follows fits =
+      taken statements.Version Version refl (error_at-passed p version_line Version is (is_built p.last _ _ refl refl refl) refl follows refl) (lines_read-version p is follows)
+  took_statement (statements.Disk blocks) follows fits =
+      taken (statements.Disk blocks) _ refl (error_at-passed p (disk_line blocks) _ is (is_built p.last _ _ refl refl refl) refl follows (disk_passed (forms_read p) blocks fits)) (lines_read-disk p blocks is follows)
+  took_statement statements.Fallback follows fits = taken statements.Fallback Fallback refl (error_at-passed p (fallback_line true) Fallback is (fallback_built p.last) refl follows refl) (lines_read-fallback p is follows)
     where
       fallback_built : (last : Option Sort) → is_unbuilt last (fallback_line true) ≡ false
       fallback_built None = refl
@@ -197,22 +192,22 @@ module _ (p : Progress) (is : IsProgress p) where
       fallback_built (Some sorts.Thread) = refl
       fallback_built (Some sorts.Operation) = refl
       fallback_built (Some sorts.End) = refl
-  took_item (items.Key named) follows fits =
-      taken (items.Key named) (Key (key_fields named)) (form_of-key_line named)
+  took_statement (statements.Key named) follows fits =
+      taken (statements.Key named) (Key (key_fields named)) (form_of-key_line named)
       (error_at-passed p (key_line named) (Key (key_fields named)) is (is_built p.last _ _ refl refl refl) (form_of-key_line named) follows (key_passed p named is fits.valid (others p.keys named.name fits.fresh) fits.room))
       (lines_read-key p named is follows)
-  took_item items.Thread follows fits =
-      taken items.Thread Thread refl (error_at-passed p thread_line Thread is (is_built p.last _ _ refl refl refl) refl follows (thread_passed p is fits.0 fits.1)) (lines_read-thread p is follows)
-  took_item (items.Operation op) follows fits =
-      taken (items.Operation op) (op_form p.keys op) (form_of-op_line p.keys op is.keys fits.valid)
+  took_statement statements.Thread follows fits =
+      taken statements.Thread Thread refl (error_at-passed p thread_line Thread is (is_built p.last _ _ refl refl refl) refl follows (thread_passed p is fits.0 fits.1)) (lines_read-thread p is follows)
+  took_statement (statements.Operation op) follows fits =
+      taken (statements.Operation op) (op_form p.keys op) (form_of-op_line p.keys op is.keys fits.valid)
       (error_at-passed p (op_line p.keys op) (op_form p.keys op) is (op_built p.last p.keys op follows) (form_of-op_line p.keys op is.keys fits.valid) (op_sorted p.last p.keys op ∙ follows)
       (op_passed p op is fits.valid fits.plugs fits.room fits.units))
       (lines_read-op p op is follows)
-  took_item items.End follows fits = taken items.End End refl (error_at-passed p end_line End is (is_built p.last _ _ refl refl refl) refl follows (end_passed p is fits)) (lines_read-end p is follows)
+  took_statement statements.End follows fits = taken statements.End End refl (error_at-passed p end_line End is (is_built p.last _ _ refl refl refl) refl follows (end_passed p is fits)) (lines_read-end p is follows)
 
-pub took : (p : Progress) (line : Line) (item : Item) (q : Progress) → IsNext p line item → q ≡ with_item p item → Took p line q
-took p line item q next same =
-    subst (λ (r : Progress). Took p line r) (sym same) (subst (λ (l : Line). Took p l (with_item p item)) (sym next.line_is) (took_item p next.rules item next.follows next.fits))
+pub took : (p : Progress) (line : Line) (statement : Statement) (q : Progress) → IsNext p line statement → q ≡ with_statement p statement → Took p line q
+took p line statement q next same =
+    subst (λ (r : Progress). Took p line r) (sym same) (subst (λ (l : Line). Took p l (with_statement p statement)) (sym next.line_is) (took_statement p next.rules statement next.follows next.fits))
 
 -- ---- the end
 
@@ -226,22 +221,6 @@ module _ (p : Progress) (is : IsProgress p) (rest : Line) (last : Option Sort) (
 
   pub passes_at_end : (is_end last && is_nothing rest) ≡ true → error_at_end (forms_read p) rest ≡ None
   passes_at_end h = goes_on (is_end (last_sort (forms_read p)) && is_nothing rest) why.End None (ended_is ∙ h)
-
-pub is_at_end : (last : Option Sort) → is_end last ≡ true → last ≡ Some sorts.End
-is_at_end None h = absurd cc
-is_at_end (Some sorts.Version) h = absurd cc
-is_at_end (Some sorts.Disk) h = absurd cc
-is_at_end (Some sorts.Fallback) h = absurd cc
-is_at_end (Some sorts.Key) h = absurd cc
-is_at_end (Some sorts.Thread) h = absurd cc
-is_at_end (Some sorts.Operation) h = absurd cc
-is_at_end (Some sorts.End) h = refl
-
-pub is_nothing_at : (rest : Line) → is_nothing rest ≡ true → rest ≡ nothing
-is_nothing_at [] h = absurd cc
-is_nothing_at ([] ∷ []) h = refl
-is_nothing_at ([] ∷ field ∷ fields) h = absurd cc
-is_nothing_at ((b ∷ bs) ∷ fields) h = absurd cc
 
 -- what has been read when the last line has been read
 abbrev pub script_read : Progress → Script
@@ -263,7 +242,7 @@ module _ (p : Progress) (is : IsProgress p) (last : p.last ≡ Some sorts.End) w
           count = subst (λ (t : List (List Op)). length t ≤ max_threads) all_sections is.few_threads;
           each = is.threads;
           few_ops = subst (λ (t : List (List Op)). sum_by length t ≤ max_ops) all_sections is.few_ops;
-          few_units = subst (λ (t : List (List Op)). sum_by units_of_section t ≤ max_units) all_sections is.few_units;
+          few_units = subst (λ (t : List (List Op)). sum_by unit_count_of_section t ≤ max_units) all_sections is.few_units;
         };
       }
 

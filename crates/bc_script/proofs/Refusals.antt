@@ -10,19 +10,20 @@ use Rattle.bc_key.specs.KeyRefusal.{key_refusal}
 use Rattle.bc_bio.specs.Extent.{unit_sectors}
 use Rattle.bc_script.specs.declared.named_key.NamedKey.{NamedKey}
 use Rattle.bc_script.specs.declared.sort.Sort.{Sort}
-use Rattle.bc_script.specs.declared.item.Unread.{Unread}
-use Rattle.bc_script.specs.declared.item.Unread.TheVariants as unread
+use Rattle.bc_script.specs.declared.statement.Unread.{Unread}
+use Rattle.bc_script.specs.declared.statement.Unread.TheVariants as unread
 use Rattle.bc_script.specs.declared.script_error.ScriptWhy.{ScriptWhy}
 use Rattle.bc_script.specs.declared.script_error.ScriptWhy.TheVariants as why
 use Rattle.bc_script.specs.declared.reader.line.BioFields.{BioFields}
 use Rattle.bc_script.specs.Name.{is_name}
-use Rattle.bc_script.specs.Script.{bare_keys, units_of_section, max_keys, max_threads, max_ops, max_units, max_bio_units, max_bio_sectors}
+use Rattle.bc_script.specs.Script.{bare_keys, unit_count_of_section, max_keys, max_threads, max_ops, max_units, max_bio_units, max_bio_sectors}
 use Rattle.bc_script.specs.ScriptText.{dash}
-use Rattle.bc_script.specs.Forms.{Form, KeyForm, BioForm, TextForm, form_of, sort_of, may_follow, is_unbuilt}
+use Rattle.bc_script.specs.Forms.{Form, KeyForm, BioForm, TextForm, form_of, sort_of}
+use Rattle.bc_script.specs.Order.{may_follow, is_unbuilt}
 use Rattle.bc_script.specs.ScriptErrors.{Why, first_of, number_test, is_number, is_number_text, is_hex_text, is_text, number_in, bytes_in, is_key, is_thread, is_operation, is_declared, sectors_under, is_open, key_refused, key_test, key_tests, op_limit, bio_limits, bio_tests, size_of, tests_of, is_end, last_sort, error_of_form, error_at}
 use Rattle.bc_script.specs.Progress.{Progress, IsProgress, forms_read, sections_read}
 use Rattle.bc_script.specs.NamedKeys.{IsNamed, IsNoName}
-use Rattle.bc_script.specs.Items.{Tells, Refuses}
+use Rattle.bc_script.specs.Statements.{Reports, Refuses}
 use Rattle.bc_script.specs.BioFields.{SaysKey, SaysNumberField, SaysBio}
 use Rattle.bc_script.specs.Reading.{IsReading}
 use Rattle.bc_script.proofs.Above.{keys-read, threads-read, operations-read, units-read, last_sort-read, is_open-read, is_declared-read, is_declared-none, sectors_under-read}
@@ -37,13 +38,13 @@ fails test kind next e = ap (λ (b : Bool). first_of b kind next) e
 pub goes_on : (test : Bool) (kind : ScriptWhy) (next : Why) → test ≡ true → first_of test kind next ≡ next
 goes_on test kind next e = ap (λ (b : Bool). first_of b kind next) e
 
-pub refused : (test : Bool) (kind : ScriptWhy) (next : Why) (e : Unread) → Refuses test kind e → Tells (first_of test kind next) e
+pub refused : (test : Bool) (kind : ScriptWhy) (next : Why) (e : Unread) → Refuses test kind e → Reports (first_of test kind next) e
 refused test kind next (unread.Bad found) h = fails test kind next h.0 ∙ ap (λ (k : ScriptWhy). let w : Why = Some k in w) (sym h.1)
 refused test kind next unread.Memory h = tt
 
 -- an error of the tests behind those that are passed
-pub tells : (before next : Why) (e : Unread) → before ≡ next → Tells next e → Tells before e
-tells before next e same h = subst (λ (w : Why). Tells w e) (sym same) h
+pub tells : (before next : Why) (e : Unread) → before ≡ next → Reports next e → Reports before e
+tells before next e same h = subst (λ (w : Why). Reports w e) (sym same) h
 
 at_least : (n m : ℕ) → m ≤ n → nat_lt n m ≡ false
 at_least n m le = is_false (nat_lt n m) (λ t. let lt = ltb-true n m t in absurd (omega arith))
@@ -181,10 +182,10 @@ module _ (above : List Form) (key : KeyForm) where
   past_digits : name_test ≡ true → is_number 0 4294967295 key.unit ≡ true → is_number 0 255 key.dun_bytes ≡ true → is_hex_text 1 128 key.digits ≡ true → key_tests above key ≡ key_left
   past_digits n u d h = past_dun n u d ∙ goes_on (is_hex_text 1 128 key.digits) why.Hex key_left h
 
-  pub key_unit_refused : (e : Unread) → name_test ≡ true → Refuses (is_number 0 4294967295 key.unit) why.Number e → Tells (key_tests above key) e
+  pub key_unit_refused : (e : Unread) → name_test ≡ true → Refuses (is_number 0 4294967295 key.unit) why.Number e → Reports (key_tests above key) e
   key_unit_refused e n r = tells (key_tests above key) unit_left e (past_name n) (refused (is_number 0 4294967295 key.unit) why.Number dun_left e r)
 
-  pub key_dun_refused : (e : Unread) → name_test ≡ true → is_number 0 4294967295 key.unit ≡ true → Refuses (is_number 0 255 key.dun_bytes) why.Number e → Tells (key_tests above key) e
+  pub key_dun_refused : (e : Unread) → name_test ≡ true → is_number 0 4294967295 key.unit ≡ true → Refuses (is_number 0 255 key.dun_bytes) why.Number e → Reports (key_tests above key) e
   key_dun_refused e n u r = tells (key_tests above key) dun_left e (past_unit n u) (refused (is_number 0 255 key.dun_bytes) why.Number digits_left e r)
 
   pub key_digits_refused : name_test ≡ true → is_number 0 4294967295 key.unit ≡ true → is_number 0 255 key.dun_bytes ≡ true → is_hex_text 1 128 key.digits ≡ false → key_tests above key ≡ Some why.Hex
@@ -245,16 +246,16 @@ module _ (above : List Form) (bio : BioForm) (next : Why) where
   pub bio_passes : key_ok ≡ true → is_number 0 4294967295 bio.sector ≡ true → is_number 0 max_bio_units bio.units ≡ true → number_ok ≡ true → bio_tests above bio next ≡ next
   bio_passes k s u n = past_units k s u ∙ goes_on number_ok why.Number next n
 
-  pub bio_key_refused : (e : Unread) → Refuses key_ok why.Name e → Tells (bio_tests above bio next) e
+  pub bio_key_refused : (e : Unread) → Refuses key_ok why.Name e → Reports (bio_tests above bio next) e
   bio_key_refused e r = refused key_ok why.Name sector_left e r
 
-  pub bio_sector_refused : (e : Unread) → key_ok ≡ true → Refuses (is_number 0 4294967295 bio.sector) why.Number e → Tells (bio_tests above bio next) e
+  pub bio_sector_refused : (e : Unread) → key_ok ≡ true → Refuses (is_number 0 4294967295 bio.sector) why.Number e → Reports (bio_tests above bio next) e
   bio_sector_refused e k r = tells (bio_tests above bio next) sector_left e (past_key k) (refused (is_number 0 4294967295 bio.sector) why.Number units_left e r)
 
-  pub bio_units_refused : (e : Unread) → key_ok ≡ true → is_number 0 4294967295 bio.sector ≡ true → Refuses (is_number 0 max_bio_units bio.units) why.Number e → Tells (bio_tests above bio next) e
+  pub bio_units_refused : (e : Unread) → key_ok ≡ true → is_number 0 4294967295 bio.sector ≡ true → Refuses (is_number 0 max_bio_units bio.units) why.Number e → Reports (bio_tests above bio next) e
   bio_units_refused e k s r = tells (bio_tests above bio next) units_left e (past_sector k s) (refused (is_number 0 max_bio_units bio.units) why.Number number_left e r)
 
-  pub bio_number_refused : (e : Unread) → key_ok ≡ true → is_number 0 4294967295 bio.sector ≡ true → is_number 0 max_bio_units bio.units ≡ true → Refuses number_ok why.Number e → Tells (bio_tests above bio next) e
+  pub bio_number_refused : (e : Unread) → key_ok ≡ true → is_number 0 4294967295 bio.sector ≡ true → is_number 0 max_bio_units bio.units ≡ true → Refuses number_ok why.Number e → Reports (bio_tests above bio next) e
   bio_number_refused e k s u r = tells (bio_tests above bio next) number_left e (past_units k s u) (refused number_ok why.Number next e r)
 
 -- ---- the limits of a bio
@@ -267,7 +268,7 @@ module _ (p : Progress) (bio : BioForm) (fields : BioFields) (sectors : ℕ) (is
   size_is = λ i. says.units_in i * (512 * sectors_are i)
 
   abbrev room_for : Bool
-  room_for = nat_le (fields.units * sectors) max_bio_sectors && (nat_le (sum_by units_of_section (sections_read p) + fields.units) max_units && nat_lt (sum_by length (sections_read p)) max_ops)
+  room_for = nat_le (fields.units * sectors) max_bio_sectors && (nat_le (sum_by unit_count_of_section (sections_read p) + fields.units) max_units && nat_lt (sum_by length (sections_read p)) max_ops)
 
   limits_are : (a b c : Bool) → first_of a why.Limit (first_of b why.Limit (first_of c why.Limit None)) ≡ first_of (a && (b && c)) why.Limit None
   limits_are true true c = refl
@@ -277,14 +278,14 @@ module _ (p : Progress) (bio : BioForm) (fields : BioFields) (sectors : ℕ) (is
   pub bio_limits_are : bio_limits (forms_read p) bio ≡ first_of room_for why.Limit None
   bio_limits_are =
       (λ i. first_of (nat_le (says.units_in i * sectors_are i) max_bio_sectors) why.Limit (first_of (nat_le (units-read p is i + says.units_in i) max_units) why.Limit (first_of (nat_lt (operations-read p is i) max_ops) why.Limit None)))
-      ∙ limits_are (nat_le (fields.units * sectors) max_bio_sectors) (nat_le (sum_by units_of_section (sections_read p) + fields.units) max_units) (nat_lt (sum_by length (sections_read p)) max_ops)
+      ∙ limits_are (nat_le (fields.units * sectors) max_bio_sectors) (nat_le (sum_by unit_count_of_section (sections_read p) + fields.units) max_units) (nat_lt (sum_by length (sections_read p)) max_ops)
 
   pub no_room_for : (room : Bool) → room ≡ room_for → room ≡ false → bio_limits (forms_read p) bio ≡ Some why.Limit
   no_room_for room test denied = bio_limits_are ∙ fails room_for why.Limit None (sym test ∙ denied)
 
   -- ---- the text of a write
 
-  pub text_refused : (text : TextForm) (e : Unread) → Refuses (is_text (fields.units * (512 * sectors)) text) why.Hex e → Tells (bio_tests (forms_read p) bio (first_of (is_text (size_of (forms_read p) bio) text) why.Hex (bio_limits (forms_read p) bio))) e
+  pub text_refused : (text : TextForm) (e : Unread) → Refuses (is_text (fields.units * (512 * sectors)) text) why.Hex e → Reports (bio_tests (forms_read p) bio (first_of (is_text (size_of (forms_read p) bio) text) why.Hex (bio_limits (forms_read p) bio))) e
   text_refused text e r =
       let left = first_of (is_text (size_of (forms_read p) bio) text) why.Hex (bio_limits (forms_read p) bio) in
       tells (bio_tests (forms_read p) bio left) left e (says.passes left)

@@ -12,23 +12,24 @@ use Rattle.bc_script.specs.declared.op.Op.TheVariants as ops
 use Rattle.bc_script.specs.declared.op.Text.{Text}
 use Rattle.bc_script.specs.declared.op.Text.TheVariants as texts
 use Rattle.bc_script.specs.declared.sort.Sort.{Sort}
-use Rattle.bc_script.specs.declared.item.Item.{Item}
-use Rattle.bc_script.specs.declared.item.Item.TheVariants as items
-use Rattle.bc_script.specs.declared.item.Unread.{Unread}
+use Rattle.bc_script.specs.declared.statement.Statement.{Statement}
+use Rattle.bc_script.specs.declared.statement.Statement.TheVariants as statements
+use Rattle.bc_script.specs.declared.statement.Unread.{Unread}
 use Rattle.bc_script.specs.declared.reader.line.BioFields.{BioFields}
 use Rattle.bc_script.specs.Name.{is_name}
-use Rattle.bc_script.specs.Script.{IsText, bare_keys, open_behind, units_of_section, max_ops, max_units, max_bio_units, max_bio_sectors}
+use Rattle.bc_script.specs.Script.{IsText, bare_keys, open_after, unit_count_of_section, max_ops, max_units, max_bio_units, max_bio_sectors}
 use Rattle.bc_script.specs.ScriptText.{dash}
-use Rattle.bc_script.specs.Forms.{Form, Write, Read, Evict, Plug, Unplug, BioForm, TextForm, sort_of, may_follow, dashes_agree}
+use Rattle.bc_script.specs.Forms.{Form, Write, Read, Evict, Plug, Unplug, BioForm, TextForm, sort_of, dashes_agree}
+use Rattle.bc_script.specs.Order.{may_follow}
 use Rattle.bc_script.specs.ScriptErrors.{Why, is_declared, tests_of, error_at}
 use Rattle.bc_script.specs.Progress.{Progress, IsProgress, forms_read, sections_read}
 use Rattle.bc_script.specs.Says.{SaysNumber}
 use Rattle.bc_script.specs.NamedKeys.{IsNamed, IsNoName}
-use Rattle.bc_script.specs.Items.{IsSaid, IsNext, Tells, form_line}
+use Rattle.bc_script.specs.Statements.{IsStatementOf, IsNext, Reports, form_line}
 use Rattle.bc_script.specs.BioFields.{IsNewName, IsDeclared, SaysKey, SaysNumberField, SaysBio, SaysText, IsTextOf, context_with}
 use Rattle.bc_script.specs.Reading.{IsReading}
 use Rattle.bc_script.proofs.LineForms.{bytes_eq-same, bytes_eq-other}
-use Rattle.bc_script.proofs.Passes.{open_behind-append}
+use Rattle.bc_script.proofs.Passes.{open_after-append}
 use Rattle.bc_script.proofs.Refusals.{undeclared, key_passes, number_passes, bio_passes}
 
 -- ---- names
@@ -46,12 +47,12 @@ length-bare_keys (k ∷ ks) = ap suc (length-bare_keys ks)
 -- ---- an operation that fits
 
 -- one that opens or closes no plug leaves them as they are
-plain : (section : List Op) (op : Op) (before : Option Bool) → open_behind false section ≡ before → ((b : Bool) → open_behind b (op ∷ []) ≡ Some b) → IsSome before → IsSome (open_behind false (section ++ op ∷ []))
+plain : (section : List Op) (op : Op) (before : Option Bool) → open_after false section ≡ before → ((b : Bool) → open_after b (op ∷ []) ≡ Some b) → IsSome before → IsSome (open_after false (section ++ op ∷ []))
 plain section op None e same some = absurd cc
-plain section op (Some b) e same some = ap (λ (o : Option Bool). is_some o) (open_behind-append false b section (op ∷ []) e ∙ same b)
+plain section op (Some b) e same some = ap (λ (o : Option Bool). is_some o) (open_after-append false b section (op ∷ []) e ∙ same b)
 
 pub said_plug : (p : Progress) (lines count units : ℕ) (plugged room : Bool) → IsReading p lines plugged count units → plugged ≡ false → room ≡ nat_lt (sum_by length (sections_read p)) max_ops → room ≡ true
-    → IsSaid p Plug (items.Operation ops.Plug)
+    → IsStatementOf p Plug (statements.Operation ops.Plug)
 said_plug p lines count units plugged room is closed test holds =
     let rules = is.rules in
     let few = rules.few_units in
@@ -60,14 +61,14 @@ said_plug p lines count units plugged room is closed test holds =
       sort_is = refl;
       fits = record {
         valid = tt;
-        plugs = ap (λ (o : Option Bool). is_some o) (open_behind-append false plugged p.section (ops.Plug ∷ []) is.plug ∙ ap (λ (b : Bool). open_behind b (ops.Plug ∷ [])) closed);
+        plugs = ap (λ (o : Option Bool). is_some o) (open_after-append false plugged p.section (ops.Plug ∷ []) is.plug ∙ ap (λ (b : Bool). open_after b (ops.Plug ∷ [])) closed);
         room = ltb-true _ _ (sym test ∙ holds);
         units = omega arith;
       };
     }
 
 pub said_unplug : (p : Progress) (lines count units : ℕ) (plugged room : Bool) → IsReading p lines plugged count units → plugged ≡ true → room ≡ nat_lt (sum_by length (sections_read p)) max_ops → room ≡ true
-    → IsSaid p Unplug (items.Operation ops.Unplug)
+    → IsStatementOf p Unplug (statements.Operation ops.Unplug)
 said_unplug p lines count units plugged room is opened test holds =
     let rules = is.rules in
     let few = rules.few_units in
@@ -76,13 +77,13 @@ said_unplug p lines count units plugged room is opened test holds =
       sort_is = refl;
       fits = record {
         valid = tt;
-        plugs = ap (λ (o : Option Bool). is_some o) (open_behind-append false plugged p.section (ops.Unplug ∷ []) is.plug ∙ ap (λ (b : Bool). open_behind b (ops.Unplug ∷ [])) opened);
+        plugs = ap (λ (o : Option Bool). is_some o) (open_after-append false plugged p.section (ops.Unplug ∷ []) is.plug ∙ ap (λ (b : Bool). open_after b (ops.Unplug ∷ [])) opened);
         room = ltb-true _ _ (sym test ∙ holds);
         units = omega arith;
       };
     }
 
-pub said_evict : (p : Progress) (name : List ℕ) (key : KeyNo) (room : Bool) → IsProgress p → IsDeclared p name key → room ≡ nat_lt (sum_by length (sections_read p)) max_ops → room ≡ true → IsSaid p (Evict name) (items.Operation (ops.Evict key))
+pub said_evict : (p : Progress) (name : List ℕ) (key : KeyNo) (room : Bool) → IsProgress p → IsDeclared p name key → room ≡ nat_lt (sum_by length (sections_read p)) max_ops → room ≡ true → IsStatementOf p (Evict name) (statements.Operation (ops.Evict key))
 said_evict p name key room is declared test holds =
     let named = declared.named in
     let within = named.within in
@@ -92,7 +93,7 @@ said_evict p name key room is declared test holds =
       sort_is = refl;
       fits = record {
         valid = subst (λ (n : ℕ). key.0 < n) (sym (length-bare_keys p.keys)) within;
-        plugs = plain p.section (ops.Evict key) (open_behind false p.section) refl (λ b. refl) is.plugs;
+        plugs = plain p.section (ops.Evict key) (open_after false p.section) refl (λ b. refl) is.plugs;
         room = ltb-true _ _ (sym test ∙ holds);
         units = omega arith;
       };
@@ -153,23 +154,23 @@ says_bio p bio key number context sector units agree k s u n same =
 -- ---- bios and texts
 
 module _ (p : Progress) (bio : BioForm) (fields : BioFields) (sectors : ℕ) (room : Bool) (is : IsProgress p) (says : SaysBio p bio fields) (sectors_is : sectors ≡ unit_sectors (bare_keys p.keys) fields.context)
-    (test : room ≡ (nat_le (fields.units * sectors) max_bio_sectors && (nat_le (sum_by units_of_section (sections_read p) + fields.units) max_units && nat_lt (sum_by length (sections_read p)) max_ops))) (holds : room ≡ true) where
+    (test : room ≡ (nat_le (fields.units * sectors) max_bio_sectors && (nat_le (sum_by unit_count_of_section (sections_read p) + fields.units) max_units && nat_lt (sum_by length (sections_read p)) max_ops))) (holds : room ≡ true) where
   few_sectors : fields.units * unit_sectors (bare_keys p.keys) fields.context ≤ max_bio_sectors
   few_sectors = subst (λ (s : ℕ). fields.units * s ≤ max_bio_sectors) sectors_is (leb-true _ _ (and_parts _ _ (sym test ∙ holds)).0)
 
-  few_units : sum_by units_of_section (sections_read p) + fields.units ≤ max_units
+  few_units : sum_by unit_count_of_section (sections_read p) + fields.units ≤ max_units
   few_units = leb-true _ _ (and_parts _ _ (and_parts _ _ (sym test ∙ holds)).1).0
 
   has_room : sum_by length (sections_read p) < max_ops
   has_room = ltb-true _ _ (and_parts _ _ (and_parts _ _ (sym test ∙ holds)).1).1
 
-  pub said_read : IsSaid p (Read bio) (items.Operation (ops.Read fields.context fields.sector fields.units))
+  pub said_read : IsStatementOf p (Read bio) (statements.Operation (ops.Read fields.context fields.sector fields.units))
   said_read = record {
     line_is = λ i. codes "read" ∷ says.key_is i ∷ says.sector_is i ∷ says.units_is i ∷ says.number_is i ∷ [];
     sort_is = refl;
     fits = record {
       valid = record { context_is = says.context_is; sector_is = says.sector_fits; few_units = says.few_units; few_sectors = few_sectors };
-      plugs = plain p.section (ops.Read fields.context fields.sector fields.units) (open_behind false p.section) refl (λ b. refl) is.plugs;
+      plugs = plain p.section (ops.Read fields.context fields.sector fields.units) (open_after false p.section) refl (λ b. refl) is.plugs;
       room = has_room;
       units = few_units;
     };
@@ -184,13 +185,13 @@ module _ (p : Progress) (bio : BioForm) (fields : BioFields) (sectors : ℕ) (ro
         some zero h = absurd (omega arith)
         some (suc n) h = omega arith
 
-    pub said_write : IsSaid p (Write bio form) (items.Operation (ops.Write fields.context fields.sector fields.units text))
+    pub said_write : IsStatementOf p (Write bio form) (statements.Operation (ops.Write fields.context fields.sector fields.units text))
     said_write = record {
       line_is = λ i. codes "write" ∷ says.key_is i ∷ says.sector_is i ∷ says.units_is i ∷ says.number_is i ∷ said.line_is i;
       sort_is = refl;
       fits = record {
         valid = (record { context_is = says.context_is; sector_is = says.sector_fits; few_units = says.few_units; few_sectors = few_sectors }, text_is text said.valid);
-        plugs = plain p.section (ops.Write fields.context fields.sector fields.units text) (open_behind false p.section) refl (λ b. refl) is.plugs;
+        plugs = plain p.section (ops.Write fields.context fields.sector fields.units text) (open_after false p.section) refl (λ b. refl) is.plugs;
         room = has_room;
         units = few_units;
       };
@@ -198,10 +199,10 @@ module _ (p : Progress) (bio : BioForm) (fields : BioFields) (sectors : ℕ) (ro
 
 -- ---- the whole line
 
-pub next_is : (p : Progress) (line : Line) (form : Form) (said : Result Item Unread) → IsProgress p → line ≡ form_line form → may_follow p.last (sort_of form) ≡ true → MatchResult said (IsSaid p form) (Tells (tests_of (forms_read p) form)) → IfOk said (IsNext p line)
-next_is p line form (Ok item) rules line_is follows is = record { rules = rules; line_is = line_is ∙ is.line_is; follows = ap (λ (s : Sort). may_follow p.last s) (sym is.sort_is) ∙ follows; fits = is.fits }
+pub next_is : (p : Progress) (line : Line) (form : Form) (said : Result Statement Unread) → IsProgress p → line ≡ form_line form → may_follow p.last (sort_of form) ≡ true → MatchResult said (IsStatementOf p form) (Reports (tests_of (forms_read p) form)) → IfOk said (IsNext p line)
+next_is p line form (Ok statement) rules line_is follows is = record { rules = rules; line_is = line_is ∙ is.line_is; follows = ap (λ (s : Sort). may_follow p.last s) (sym is.sort_is) ∙ follows; fits = is.fits }
 next_is p line form (Err e) rules line_is follows tells = tt
 
-pub next_told : (p : Progress) (line : Line) (form : Form) (said : Result Item Unread) → error_at (forms_read p) line ≡ tests_of (forms_read p) form → MatchResult said (IsSaid p form) (Tells (tests_of (forms_read p) form)) → IfErr said (Tells (error_at (forms_read p) line))
-next_told p line form (Ok item) tests is = tt
-next_told p line form (Err e) tests told = subst (λ (w : Why). Tells w e) (sym tests) told
+pub next_told : (p : Progress) (line : Line) (form : Form) (said : Result Statement Unread) → error_at (forms_read p) line ≡ tests_of (forms_read p) form → MatchResult said (IsStatementOf p form) (Reports (tests_of (forms_read p) form)) → IfErr said (Reports (error_at (forms_read p) line))
+next_told p line form (Ok statement) tests is = tt
+next_told p line form (Err e) tests told = subst (λ (w : Why). Reports w e) (sym tests) told

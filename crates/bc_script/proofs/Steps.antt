@@ -11,9 +11,9 @@ use Rattle.bc_script.specs.declared.named_key.NamedKey.{NamedKey}
 use Rattle.bc_script.specs.declared.op.Op.{Op}
 use Rattle.bc_script.specs.declared.sort.Sort.{Sort}
 use Rattle.bc_script.specs.declared.sort.Sort.TheVariants as sorts
-use Rattle.bc_script.specs.Script.{IsDiskSize, AreKeys, IsNamedKey, IsOp, IsSection, bare_keys, open_behind, units_of, units_of_section, max_keys, max_threads, max_ops, max_units}
+use Rattle.bc_script.specs.Script.{IsDiskSize, AreKeys, IsNamedKey, IsOp, IsSection, bare_keys, open_after, unit_count, unit_count_of_section, max_keys, max_threads, max_ops, max_units}
 use Rattle.bc_script.specs.ScriptText.{version_line, disk_line, fallback_line, key_line, thread_line, op_line, section_lines, end_line}
-use Rattle.bc_script.specs.Forms.{may_follow}
+use Rattle.bc_script.specs.Order.{may_follow}
 use Rattle.bc_script.specs.Progress.{Progress, IsProgress, IsAt, head_read, with_section, is_in_section, end_read, lines_read, sections_read}
 use Rattle.bc_script.proofs.Onto.{map-append, AllByRecursion-append}
 
@@ -99,7 +99,7 @@ bare p keys threads section last blocks outside at = subst IsProgress (sym same)
   plugs = refl;
   few_threads = subst (λ (b : Bool). length (with_section b []) ≤ max_threads) (sym outside) (omega arith);
   few_ops = subst (λ (b : Bool). sum_by length (with_section b []) ≤ max_ops) (sym outside) (omega arith);
-  few_units = subst (λ (b : Bool). sum_by units_of_section (with_section b []) ≤ max_units) (sym outside) (omega arith);
+  few_units = subst (λ (b : Bool). sum_by unit_count_of_section (with_section b []) ≤ max_units) (sym outside) (omega arith);
 })
   where
     same : record p { last = last; blocks = blocks } ≡ record { last = last; blocks = blocks; keys = []; threads = []; section = [] }
@@ -289,7 +289,7 @@ IsProgress-key p named is follows valid fresh room =
       plugs = is.plugs;
       few_threads = subst (λ (t : List (List Op)). length t ≤ max_threads) (sym none) (omega arith);
       few_ops = subst (λ (t : List (List Op)). sum_by length t ≤ max_ops) (sym none) (omega arith);
-      few_units = subst (λ (t : List (List Op)). sum_by units_of_section t ≤ max_units) (sym none) (omega arith);
+      few_units = subst (λ (t : List (List Op)). sum_by unit_count_of_section t ≤ max_units) (sym none) (omega arith);
     }
 
 -- ---- sections
@@ -326,17 +326,17 @@ lines_read-op p op is follows =
     ∙ sym (ap (λ (ls : List Line). ls ++ op_line p.keys op ∷ []) (body p (behind_head p.last inside.ends)) ∙ one_more (full_head p.blocks) (map key_line p.keys) (flat_map lines (sections_read p)) (op_line p.keys op))
 
 -- each section that has been read is valid, where the last of them is closed
-sections_valid : (p : Progress) → IsProgress p → open_behind false p.section ≡ Some false → AllByRecursion (IsSection (bare_keys p.keys)) (sections_read p)
+sections_valid : (p : Progress) → IsProgress p → open_after false p.section ≡ Some false → AllByRecursion (IsSection (bare_keys p.keys)) (sections_read p)
 sections_valid p is closed = AllByRecursion-append (IsSection (bare_keys p.keys)) p.threads (with_section (is_in_section p.last) p.section) is.threads (last (is_in_section p.last))
   where
     last : (inside : Bool) → AllByRecursion (IsSection (bare_keys p.keys)) (with_section inside p.section)
     last true = (record { each = is.section; plugs = closed }, tt)
     last false = tt
 
-pub IsProgress-thread : (p : Progress) → IsProgress p → may_follow p.last sorts.Thread ≡ true → open_behind false p.section ≡ Some false → length (sections_read p) < max_threads → IsProgress (with_section_ended p sorts.Thread)
+pub IsProgress-thread : (p : Progress) → IsProgress p → may_follow p.last sorts.Thread ≡ true → open_after false p.section ≡ Some false → length (sections_read p) < max_threads → IsProgress (with_section_ended p sorts.Thread)
 IsProgress-thread p is follows closed room =
     let ops = sum_by-append length (sections_read p) ([] ∷ []) in
-    let units = sum_by-append units_of_section (sections_read p) ([] ∷ []) in
+    let units = sum_by-append unit_count_of_section (sections_read p) ([] ∷ []) in
     let few_ops = is.few_ops in
     let few_units = is.few_units in
     record {
@@ -350,7 +350,7 @@ IsProgress-thread p is follows closed room =
       few_units = omega arith;
     }
 
-pub IsProgress-end : (p : Progress) → IsProgress p → may_follow p.last sorts.End ≡ true → open_behind false p.section ≡ Some false → IsProgress (with_section_ended p sorts.End)
+pub IsProgress-end : (p : Progress) → IsProgress p → may_follow p.last sorts.End ≡ true → open_after false p.section ≡ Some false → IsProgress (with_section_ended p sorts.End)
 IsProgress-end p is follows closed =
     let same = append-nil (sections_read p) in
     record {
@@ -361,12 +361,12 @@ IsProgress-end p is follows closed =
       plugs = refl;
       few_threads = subst (λ (t : List (List Op)). length t ≤ max_threads) (sym same) is.few_threads;
       few_ops = subst (λ (t : List (List Op)). sum_by length t ≤ max_ops) (sym same) is.few_ops;
-      few_units = subst (λ (t : List (List Op)). sum_by units_of_section t ≤ max_units) (sym same) is.few_units;
+      few_units = subst (λ (t : List (List Op)). sum_by unit_count_of_section t ≤ max_units) (sym same) is.few_units;
     }
 
 -- one operation more adds itself and its data units
 pub counts-op : (p : Progress) (op : Op) → may_follow p.last sorts.Operation ≡ true
-    → (length (sections_read (with_op p op)) ≡ length (sections_read p)) × (sum_by length (sections_read (with_op p op)) ≡ sum_by length (sections_read p) + 1) × (sum_by units_of_section (sections_read (with_op p op)) ≡ sum_by units_of_section (sections_read p) + units_of op)
+    → (length (sections_read (with_op p op)) ≡ length (sections_read p)) × (sum_by length (sections_read (with_op p op)) ≡ sum_by length (sections_read p) + 1) × (sum_by unit_count_of_section (sections_read (with_op p op)) ≡ sum_by unit_count_of_section (sections_read p) + unit_count op)
 counts-op p op follows =
     let inside = inside_section p.last follows in
     let section = p.section ++ op ∷ [] in
@@ -375,17 +375,17 @@ counts-op p op follows =
     let b = length-append p.threads (p.section ∷ []) in
     let c = sum_by-append length p.threads (section ∷ []) in
     let d = sum_by-append length p.threads (p.section ∷ []) in
-    let e = sum_by-append units_of_section p.threads (section ∷ []) in
-    let f = sum_by-append units_of_section p.threads (p.section ∷ []) in
+    let e = sum_by-append unit_count_of_section p.threads (section ∷ []) in
+    let f = sum_by-append unit_count_of_section p.threads (p.section ∷ []) in
     let g = length-append p.section (op ∷ []) in
-    let h = sum_by-append units_of p.section (op ∷ []) in (
+    let h = sum_by-append unit_count p.section (op ∷ []) in (
       omega arith ∙ sym (ap length old),
       omega arith ∙ sym (ap (λ (t : List (List Op)). sum_by length t + 1) old),
-      omega arith ∙ sym (ap (λ (t : List (List Op)). sum_by units_of_section t + units_of op) old),
+      omega arith ∙ sym (ap (λ (t : List (List Op)). sum_by unit_count_of_section t + unit_count op) old),
     )
 
-pub IsProgress-op : (p : Progress) (op : Op) → IsProgress p → may_follow p.last sorts.Operation ≡ true → IsOp (bare_keys p.keys) op → IsSome (open_behind false (p.section ++ op ∷ []))
-    → sum_by length (sections_read p) < max_ops → sum_by units_of_section (sections_read p) + units_of op ≤ max_units → IsProgress (with_op p op)
+pub IsProgress-op : (p : Progress) (op : Op) → IsProgress p → may_follow p.last sorts.Operation ≡ true → IsOp (bare_keys p.keys) op → IsSome (open_after false (p.section ++ op ∷ []))
+    → sum_by length (sections_read p) < max_ops → sum_by unit_count_of_section (sections_read p) + unit_count op ≤ max_units → IsProgress (with_op p op)
 IsProgress-op p op is follows valid plugs room units =
     let counts = counts-op p op follows in
     let few = is.few_threads in

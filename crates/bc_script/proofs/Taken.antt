@@ -29,17 +29,18 @@ use Rattle.bc_script.specs.declared.sort.Sort.TheVariants as sorts
 use Rattle.bc_script.specs.declared.script_error.ScriptWhy.{ScriptWhy}
 use Rattle.bc_script.specs.declared.script_error.ScriptWhy.TheVariants as why
 use Rattle.bc_script.specs.Name.{is_name}
-use Rattle.bc_script.specs.Script.{IsNamedKey, IsContext, IsBio, IsText, IsOp, bare_keys, open_behind, units_of, units_of_section, max_keys, max_threads, max_ops, max_units, max_bio_units, max_bio_sectors}
+use Rattle.bc_script.specs.Script.{IsNamedKey, IsContext, IsBio, IsText, IsOp, bare_keys, open_after, unit_count, unit_count_of_section, max_keys, max_threads, max_ops, max_units, max_bio_units, max_bio_sectors}
 use Rattle.bc_script.specs.ScriptText.{dash, name_of, key_field, number_field, key_line, op_line}
-use Rattle.bc_script.specs.Forms.{Form, KeyForm, BioForm, TextForm, Fill, Hex, Version, Disk, Fallback, Key, Thread, Write, Read, Evict, Reset, Plug, Unplug, End, form_of, sort_of, may_follow, is_unbuilt, dashes_agree}
+use Rattle.bc_script.specs.Forms.{Form, KeyForm, BioForm, TextForm, Fill, Hex, Version, Disk, Fallback, Key, Thread, Write, Read, Evict, Reset, Plug, Unplug, End, form_of, sort_of, dashes_agree}
+use Rattle.bc_script.specs.Order.{may_follow, is_unbuilt}
 use Rattle.bc_script.specs.ScriptErrors.{Why, first_of, is_number, is_number_text, number_in, bytes_in, is_hex_text, number_test, key_refused, key_test, is_declared, sectors_under, is_open, is_key, is_thread, is_operation, units_in, op_limit, bio_limits, bio_tests, is_text, size_of, last_sort, is_end, tests_of, error_of_form, error_at}
 use Rattle.bc_script.specs.Progress.{Progress, IsProgress, lines_read, forms_read, sections_read}
 use Rattle.bc_script.proofs.ByteLists.{All-IsBytes}
 use Rattle.bc_script.proofs.Fields.{number_in-decimal, decimal-number_in, number_text-is_number_text, IsBytes-bytes_in, encode_lower-bytes_in}
-use Rattle.bc_script.specs.Items.{form_line, DashesAgree}
+use Rattle.bc_script.specs.Statements.{form_line, DashesAgree}
 use Rattle.bc_script.proofs.FormLines.{IsLineOf-form_of}
 use Rattle.bc_script.proofs.Above.{op_form, bio_form, text_form_of, last_sort-read, keys-read, threads-read, operations-read, units-read, is_open-read, is_declared-read, is_declared-none, sectors_under-read}
-use Rattle.bc_script.proofs.Passes.{some_plugged, open_behind-append}
+use Rattle.bc_script.proofs.Passes.{some_plugged, open_after-append}
 use Rattle.bc_script.proofs.Steps.{with_version, with_disk, with_fallback, with_key, with_op, with_section_ended, IsProgress-version, IsProgress-disk, IsProgress-fallback, IsProgress-key, IsProgress-thread, IsProgress-op, IsProgress-end, lines_read-version, lines_read-disk, lines_read-fallback, lines_read-key, lines_read-thread, lines_read-op, lines_read-end}
 use Rattle.std.proofs.lemmas.List.{length-map}
 
@@ -185,12 +186,12 @@ key_taken p key is follows e =
 -- ---- plugs
 
 -- whether a plug is open, by the forms above
-plugged_is : (p : Progress) (plugged : Bool) → IsProgress p → is_open (forms_read p) ≡ plugged → open_behind false p.section ≡ Some plugged
+plugged_is : (p : Progress) (plugged : Bool) → IsProgress p → is_open (forms_read p) ≡ plugged → open_after false p.section ≡ Some plugged
 plugged_is p plugged is e =
-    let now = some_plugged (open_behind false p.section) is.plugs in
+    let now = some_plugged (open_after false p.section) is.plugs in
     now.1 ∙ ap Some (sym (is_open-read p now.0 is now.1) ∙ e)
 
-closed_is : (p : Progress) → IsProgress p → not (is_open (forms_read p)) ≡ true → open_behind false p.section ≡ Some false
+closed_is : (p : Progress) → IsProgress p → not (is_open (forms_read p)) ≡ true → open_after false p.section ≡ Some false
 closed_is p is e = plugged_is p false is (not-true _ e)
 
 thread_taken : (p : Progress) → IsProgress p → may_follow p.last sorts.Thread ≡ true → tests_of (forms_read p) Thread ≡ None → Took p (form_line Thread)
@@ -216,8 +217,8 @@ form_line-op_form keys (ops.Reset device) = refl
 form_line-op_form keys ops.Plug = refl
 form_line-op_form keys ops.Unplug = refl
 
-op_taken : (p : Progress) (op : Op) → IsProgress p → may_follow p.last sorts.Operation ≡ true → IsOp (bare_keys p.keys) op → IsSome (open_behind false (p.section ++ op ∷ []))
-    → sum_by length (sections_read p) < max_ops → sum_by units_of_section (sections_read p) + units_of op ≤ max_units → Took p (form_line (op_form p.keys op))
+op_taken : (p : Progress) (op : Op) → IsProgress p → may_follow p.last sorts.Operation ≡ true → IsOp (bare_keys p.keys) op → IsSome (open_after false (p.section ++ op ∷ []))
+    → sum_by length (sections_read p) < max_ops → sum_by unit_count_of_section (sections_read p) + unit_count op ≤ max_units → Took p (form_line (op_form p.keys op))
 op_taken p op is follows valid plugs room fits =
     record { after = with_op p op; rules = IsProgress-op p op is follows valid plugs room fits; lines = lines_read-op p op is follows ∙ ap (λ (l : Line). lines_read p ++ l ∷ []) (form_line-op_form p.keys op) }
 
@@ -228,12 +229,12 @@ room_is p is e =
     subst (λ (n : ℕ). n < max_ops) (operations-read p is) (ltb-true (count_by is_operation (forms_read p)) max_ops a.0)
 
 -- an operation that adds no data units
-fits_none : (p : Progress) → IsProgress p → sum_by units_of_section (sections_read p) + 0 ≤ max_units
+fits_none : (p : Progress) → IsProgress p → sum_by unit_count_of_section (sections_read p) + 0 ≤ max_units
 fits_none p is = let few = is.few_units in omega arith
 
 -- the plugs behind one operation more
-plugs_behind : (p : Progress) (plugged : Bool) (op : Op) → open_behind false p.section ≡ Some plugged → IsSome (open_behind plugged (op ∷ [])) → IsSome (open_behind false (p.section ++ op ∷ []))
-plugs_behind p plugged op behind h = ap (λ (o : Option Bool). is_some o) (open_behind-append false plugged p.section (op ∷ []) behind) ∙ h
+plugs_behind : (p : Progress) (plugged : Bool) (op : Op) → open_after false p.section ≡ Some plugged → IsSome (open_after plugged (op ∷ [])) → IsSome (open_after false (p.section ++ op ∷ []))
+plugs_behind p plugged op behind h = ap (λ (o : Option Bool). is_some o) (open_after-append false plugged p.section (op ∷ []) behind) ∙ h
 
 plug_taken : (p : Progress) → IsProgress p → may_follow p.last sorts.Operation ≡ true → tests_of (forms_read p) Plug ≡ None → Took p (form_line Plug)
 plug_taken p is follows e =
@@ -249,7 +250,7 @@ evict_taken : (p : Progress) (name : List ℕ) → IsProgress p → may_follow p
 evict_taken p name is follows e =
     let a = both_passed (is_declared name (forms_read p)) why.Name _ e in
     let key = declared_is p name is a.0 in
-    let now = some_plugged (open_behind false p.section) is.plugs in
+    let now = some_plugged (open_after false p.section) is.plugs in
     subst (λ (n : List ℕ). Took p (form_line (Evict n))) (sym key.2)
     (op_taken p (ops.Evict key.0) is follows (bare_too p.keys key.0.0 key.1) (plugs_behind p now.0 (ops.Evict key.0) now.1 refl) (room_is p is a.1) (fits_none p is))
 
@@ -308,7 +309,7 @@ bio_said p bio next is agree e =
 -- the limits of a bio
 record SaysLimits (p : Progress) (context : Option Context) (units : ℕ) : Type 0 where
   few_sectors : units * unit_sectors (bare_keys p.keys) context ≤ max_bio_sectors
-  fits : sum_by units_of_section (sections_read p) + units ≤ max_units
+  fits : sum_by unit_count_of_section (sections_read p) + units ≤ max_units
   room : sum_by length (sections_read p) < max_ops
 
 few_units_said : (units : ℕ) → units ≤ max_bio_units → number_in (decimal units) ≡ units
@@ -321,8 +322,8 @@ limits_said p context sector units is valid few e =
     let said = few_units_said units few in
     let product : number_in bio.units * sectors_under bio.key above ≡ units * unit_sectors (bare_keys p.keys) context =
     ap (λ (n : ℕ). n * sectors_under bio.key above) said ∙ ap (λ (n : ℕ). units * n) (sectors_under-read p context is valid) in
-    let sum : sum_by units_in above + number_in bio.units ≡ sum_by units_of_section (sections_read p) + units =
-    ap (λ (n : ℕ). n + number_in bio.units) (units-read p is) ∙ ap (λ (n : ℕ). sum_by units_of_section (sections_read p) + n) said in
+    let sum : sum_by units_in above + number_in bio.units ≡ sum_by unit_count_of_section (sections_read p) + units =
+    ap (λ (n : ℕ). n + number_in bio.units) (units-read p is) ∙ ap (λ (n : ℕ). sum_by unit_count_of_section (sections_read p) + n) said in
     let a = both_passed (nat_le (number_in bio.units * sectors_under bio.key above) max_bio_sectors) why.Limit _ e in
     let b = both_passed (nat_le (sum_by units_in above + number_in bio.units) max_units) why.Limit _ a.1 in
     record {
@@ -340,7 +341,7 @@ read_taken p bio is follows agree e =
     let said = bio_said p bio (bio_limits (forms_read p) bio) is agree e in
     let limits = limits_said p said.context said.sector said.units is said.valid said.few (ap (λ (b : BioForm). bio_limits (forms_read p) b) (sym said.fields) ∙ said.passes) in
     let op = ops.Read said.context said.sector said.units in
-    let now = some_plugged (open_behind false p.section) is.plugs in
+    let now = some_plugged (open_after false p.section) is.plugs in
     subst (λ (b : BioForm). Took p (form_line (Read b))) (sym said.fields)
     (op_taken p op is follows (is_bio p said.context said.sector said.units said.valid said.low said.few limits) (plugs_behind p now.0 op now.1 refl) limits.room limits.fits)
 
@@ -383,7 +384,7 @@ write_taken p bio form is follows agree e =
     let limits = limits_said p said.context said.sector said.units is said.valid said.few (ap (λ (b : BioForm). bio_limits above b) (sym said.fields) ∙ a.1) in
     let text = text_said p said.context said.sector said.units form is said.valid said.few (ap (λ (b : BioForm). is_text (size_of above b) form) (sym said.fields) ∙ a.0) in
     let op = ops.Write said.context said.sector said.units text.text in
-    let now = some_plugged (open_behind false p.section) is.plugs in
+    let now = some_plugged (open_after false p.section) is.plugs in
     subst (λ (b : BioForm). Took p (form_line (Write b form))) (sym said.fields)
     (subst (λ (t : TextForm). Took p (form_line (Write (bio_form p.keys said.context said.sector said.units) t))) (sym text.fields)
     (op_taken p op is follows (is_bio p said.context said.sector said.units said.valid said.low said.few limits, text.valid) (plugs_behind p now.0 op now.1 refl) limits.room limits.fits))

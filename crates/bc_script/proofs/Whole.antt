@@ -4,19 +4,20 @@ use Rattle.std.specs.Prelude.{◌↔◌, ◌==◌, ◌≤◌, sum_by}
 use Rattle.std.specs.List.{onto_first}
 use Rattle.std.proofs.lemmas.Bool.{and_parts}
 use Rattle.bc_text.specs.Lines.{Line, lines_of, parts_at, line_feed, space, nothing, text_of}
-use Rattle.bc_text.proofs.LineLaws.{text_of-lines_of}
+use Rattle.bc_text.proofs.LineLaws.{text_of-lines_of, nothing_at}
 use Rattle.bc_script.specs.declared.sort.Sort.{Sort}
 use Rattle.bc_script.specs.declared.sort.Sort.TheVariants as sorts
 use Rattle.bc_script.specs.declared.script_error.ScriptError.{ScriptError}
 use Rattle.bc_script.specs.declared.script_error.ScriptWhy.{ScriptWhy}
 use Rattle.bc_script.specs.declared.script_error.ScriptWhy.TheVariants as why
 use Rattle.bc_script.specs.declared.op.Op.{Op}
-use Rattle.bc_script.specs.Script.{Script, IsScript, max_threads, max_ops, max_units, units_of_section}
+use Rattle.bc_script.specs.Script.{Script, IsScript, max_threads, max_ops, max_units, unit_count_of_section}
 use Rattle.bc_script.specs.ScriptText.{Says, script_lines, version_line, disk_line, fallback_line, key_line, section_lines, end_line}
 use Rattle.bc_script.specs.Forms.{Form, form_of}
-use Rattle.bc_script.specs.ScriptErrors.{Why, first_of, with_form, error_at, error_at_end, first_error, error_of, or_below, last_sort, is_end, is_nothing}
+use Rattle.bc_script.specs.ScriptErrors.{Why, first_of, with_form, error_at, error_at_end, first_error, error_of, or_below, last_sort, is_end}
+use Rattle.bc_text.specs.Lines.{is_nothing}
 use Rattle.bc_script.specs.Progress.{Progress, IsProgress, lines_read, forms_read, forms_below}
-use Rattle.bc_script.proofs.Above.{last_sort-read, forms_read-step}
+use Rattle.bc_script.proofs.Above.{is_at_end, last_sort-read, forms_read-step}
 use Rattle.bc_script.proofs.Steps.{nothing_read, IsProgress-nothing_read}
 use Rattle.bc_script.proofs.Taken.{line_taken}
 use Rattle.bc_script.proofs.NoError.{Pass, no_error}
@@ -76,23 +77,6 @@ all_taken p (line ∷ lines) is pass =
       forms = rest.forms ∙ ap (λ (above : List Form). forms_below above lines) forms;
     }
 
-is_at_end : (last : Option Sort) → is_end last ≡ true → last ≡ Some sorts.End
-is_at_end None h = absurd cc
-is_at_end (Some sorts.Version) h = absurd cc
-is_at_end (Some sorts.Disk) h = absurd cc
-is_at_end (Some sorts.Fallback) h = absurd cc
-is_at_end (Some sorts.Key) h = absurd cc
-is_at_end (Some sorts.Thread) h = absurd cc
-is_at_end (Some sorts.Operation) h = absurd cc
-is_at_end (Some sorts.End) h = refl
-
-is_the_nothing : (line : Line) → is_nothing line ≡ true → line ≡ nothing
-is_the_nothing [] h = absurd cc
-is_the_nothing ([] ∷ []) h = refl
-is_the_nothing ((b ∷ bs) ∷ []) h = absurd cc
-is_the_nothing ([] ∷ f ∷ fs) h = absurd cc
-is_the_nothing ((b ∷ bs) ∷ f ∷ fs) h = absurd cc
-
 -- the script whose last line has been read
 abbrev pub script_read : Progress → Script
 script_read p = record { blocks = p.blocks; fallback = true; keys = p.keys; faults = []; threads = p.threads }
@@ -112,7 +96,7 @@ at_the_end p is last =
         count = subst (λ (t : List (List Op)). length t ≤ max_threads) none ended.few_threads;
         each = is.threads;
         few_ops = subst (λ (t : List (List Op)). sum_by length t ≤ max_ops) none ended.few_ops;
-        few_units = subst (λ (t : List (List Op)). sum_by units_of_section t ≤ max_units) none ended.few_units;
+        few_units = subst (λ (t : List (List Op)). sum_by unit_count_of_section t ≤ max_units) none ended.few_units;
       };
     } in (
       valid,
@@ -135,7 +119,7 @@ has_script text e =
     let last : p.last ≡ Some sorts.End =
     is_at_end p.last (ap (λ (l : Option Sort). is_end l) (sym (last_sort-read p took.rules)) ∙ ap (λ (above : List Form). is_end (last_sort above)) took.forms ∙ ends.0) in
     let script = at_the_end p took.rules last in
-    let lines : lines_of text ≡ to_end.lines ++ nothing ∷ [] = all ∙ to_end.whole ∙ ap (λ (l : Line). to_end.lines ++ l ∷ []) (is_the_nothing to_end.tail ends.1) in
+    let lines : lines_of text ≡ to_end.lines ++ nothing ∷ [] = all ∙ to_end.whole ∙ ap (λ (l : Line). to_end.lines ++ l ∷ []) (nothing_at to_end.tail ends.1) in
     (script_read p, record { valid = script.0; text_is = text_of-lines_of text to_end.lines lines ∙ ap text_of (sym took.lines ∙ sym script.1) })
 
 -- no line of a text fails exactly where some script has the text

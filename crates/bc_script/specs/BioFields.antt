@@ -1,4 +1,4 @@
--- What the fields of an operation's line say, behind the lines that have been read. The contracts of private functions speak of
+-- What the fields of an operation's line say, after the lines that have been read. The contracts of private functions speak of
 -- this; no public one does.
 use Rattle.std.specs.Prelude.{◌≡◌, ◌≢◌, ℕ, ◌^◌, ◌<◌, ◌≤◌, ◌&&◌, not, true, IsTrue, List, length, Option, Some, None}
 use Rattle.std.specs.Fmt.{decimal}
@@ -8,7 +8,7 @@ use Rattle.bc_key.specs.declared.keys.KeyNo.{KeyNo}
 use Rattle.bc_bio.specs.declared.context.Context.{Context}
 use Rattle.bc_script.specs.declared.op.Text.{Text}
 use Rattle.bc_script.specs.declared.op.Text.TheVariants as texts
-use Rattle.bc_script.specs.declared.item.Unread.{Unread}
+use Rattle.bc_script.specs.declared.statement.Unread.{Unread}
 use Rattle.bc_script.specs.declared.reader.line.BioFields.{BioFields}
 use Rattle.bc_script.specs.Name.{is_name}
 use Rattle.bc_script.specs.Script.{IsContext, bare_keys, max_bio_units}
@@ -17,7 +17,7 @@ use Rattle.bc_script.specs.Forms.{BioForm, TextForm}
 use Rattle.bc_script.specs.ScriptErrors.{Why, bio_tests, is_declared, is_number_text, is_text, number_in}
 use Rattle.bc_script.specs.Progress.{Progress, forms_read}
 use Rattle.bc_script.specs.NamedKeys.{IsNamed, IsNoName}
-use Rattle.bc_script.specs.Items.{Tells, text_line}
+use Rattle.bc_script.specs.Statements.{Reports, text_line}
 
 -- a name that no key has yet
 pub record IsNewName (p : Progress) (field name : List ℕ) : Type 0 where
@@ -58,9 +58,9 @@ pub record SaysBio (p : Progress) (bio : BioForm) (fields : BioFields) : Type 0 
   pub few_units : fields.units ≤ max_bio_units
   pub units_in : number_in bio.units ≡ fields.units
 
--- the fields of a bio fail this test, whatever stands behind them, or are not read for want of memory
+-- the fields of a bio fail this test, whatever stands after them, or are not read since there was no memory
 abbrev pub RefusesBio : Progress → BioForm → Unread → Type 0
-RefusesBio p bio e = (next : Why) → Tells (bio_tests (forms_read p) bio next) e
+RefusesBio p bio e = (next : Why) → Reports (bio_tests (forms_read p) bio next) e
 
 -- a byte, or so many bytes, of which there are some
 abbrev pub IsTextOf : ℕ → Text → Type 0

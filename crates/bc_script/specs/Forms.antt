@@ -1,6 +1,6 @@
 -- The forms of lines: what sort of line it is, by its first word, the number of its fields and its fixed words; the other
--- fields stand as they are written. And which sort of line may follow which.
-use Rattle.std.specs.Prelude.{ℕ, Bool, true, false, not, ◌&&◌, ◌||◌, if◌then◌else◌, List, [], ◌∷◌, codes, Option, Some, None}
+-- fields stand as they are written.
+use Rattle.std.specs.Prelude.{ℕ, Bool, not, if◌then◌else◌, List, [], ◌∷◌, codes, Option, Some, None}
 use Rattle.std.specs.Str.{bytes_eq}
 use Rattle.bc_text.specs.Lines.{Line}
 use Rattle.bc_key.specs.declared.config.Mode.{Mode}
@@ -29,6 +29,7 @@ pub data TextForm : Type 0 where
   Fill : List ℕ → TextForm
   Hex : List ℕ → TextForm
 
+-- a line of one of the forms that there are
 pub data Form : Type 0 where
   Version : Form
   Disk : List ℕ → Form
@@ -60,11 +61,13 @@ abbrev pub with_word : List ℕ → Form → Line → Option Form
 with_word word form [] = None
 with_word word form (field ∷ fields) = if bytes_eq field word then alone form fields else None
 
+-- the mode with this word
 abbrev pub mode_of : List ℕ → Option Mode
 mode_of word =
     if bytes_eq word (codes "aes-256-xts") then Some Aes256Xts
     else (if bytes_eq word (codes "aes-128-cbc-essiv") then Some Aes128CbcEssiv else None)
 
+-- a key's line, where its second field is a mode
 abbrev pub key_form : List ℕ → Option Mode → List ℕ → List ℕ → List ℕ → Option Form
 key_form name None unit dun_bytes digits = None
 key_form name (Some mode) unit dun_bytes digits =
@@ -79,14 +82,17 @@ with_key _ = None
 abbrev pub dashes_agree : BioForm → Bool
 dashes_agree bio = if bytes_eq bio.key dash then bytes_eq bio.number dash else not (bytes_eq bio.number dash)
 
+-- what a write writes, by its fixed word and its digits
 abbrev pub text_form : List ℕ → List ℕ → Option TextForm
 text_form word digits =
     if bytes_eq word (codes "fill") then Some (Fill digits)
     else (if bytes_eq word (codes "hex") then Some (Hex digits) else None)
 
+-- a read of this bio
 abbrev pub read_form : BioForm → Option Form
 read_form bio = if dashes_agree bio then Some (Read bio) else None
 
+-- a write of this bio, where it has a text
 abbrev pub write_form : BioForm → Option TextForm → Option Form
 write_form bio None = None
 write_form bio (Some text) = if dashes_agree bio then Some (Write bio text) else None
@@ -119,12 +125,12 @@ form_of_word word fields =
     else (if bytes_eq word (codes "end") then alone End fields
     else None)))))))))))
 
+-- the form of a line, if it has one
 abbrev pub form_of : Line → Option Form
 form_of [] = None
 form_of (word ∷ fields) = form_of_word word fields
 
--- ---- where lines may stand
-
+-- what a line of this form is for
 abbrev pub sort_of : Form → Sort
 sort_of Version = sorts.Version
 sort_of (Disk blocks) = sorts.Disk
@@ -133,31 +139,3 @@ sort_of (Key key) = sorts.Key
 sort_of Thread = sorts.Thread
 sort_of End = sorts.End
 sort_of _ = sorts.Operation
-
--- A line of this sort may stand behind the line of that sort, or as the first line. The first three lines stand once and in
--- order; then come keys, then sections, then the end.
-abbrev pub may_follow : Option Sort → Sort → Bool
-may_follow None sorts.Version = true
-may_follow (Some sorts.Version) sorts.Disk = true
-may_follow (Some sorts.Disk) sorts.Fallback = true
-may_follow (Some sorts.Fallback) sorts.Key = true
-may_follow (Some sorts.Fallback) sorts.Thread = true
-may_follow (Some sorts.Fallback) sorts.End = true
-may_follow (Some sorts.Key) sorts.Key = true
-may_follow (Some sorts.Key) sorts.Thread = true
-may_follow (Some sorts.Key) sorts.End = true
-may_follow (Some sorts.Thread) sorts.Operation = true
-may_follow (Some sorts.Thread) sorts.Thread = true
-may_follow (Some sorts.Thread) sorts.End = true
-may_follow (Some sorts.Operation) sorts.Operation = true
-may_follow (Some sorts.Operation) sorts.Thread = true
-may_follow (Some sorts.Operation) sorts.End = true
-may_follow _ _ = false
-
--- A line of a form that isn't built yet, at a place where it may stand: software that doesn't do what no device can, a device
--- (behind the first three lines), or a planned fault (behind the keys, or behind the first three lines where there are none).
-abbrev pub is_unbuilt : Option Sort → Line → Bool
-is_unbuilt (Some sorts.Disk) (word ∷ switch ∷ []) = bytes_eq word (codes "fallback") && bytes_eq switch (codes "off")
-is_unbuilt (Some sorts.Fallback) (word ∷ fields) = bytes_eq word (codes "device") || bytes_eq word (codes "fault")
-is_unbuilt (Some sorts.Key) (word ∷ fields) = bytes_eq word (codes "fault")
-is_unbuilt _ _ = false

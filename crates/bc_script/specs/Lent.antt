@@ -8,16 +8,20 @@ use Rattle.bc_script.specs.declared.form.TextForm.TheVariants as lent_texts
 use Rattle.bc_script.specs.declared.form.Form as lent_forms
 use Rattle.bc_script.specs.declared.form.Form.TheVariants as lent
 
+-- of a key's line
 abbrev pub key_lent : key_forms.KeyForm → KeyForm
 key_lent key = record { name = key.name.now; mode = key.mode; unit = key.unit.now; dun_bytes = key.dun_bytes.now; digits = key.digits.now }
 
+-- of a bio
 abbrev pub bio_lent : bio_forms.BioForm → BioForm
 bio_lent bio = record { key = bio.key.now; sector = bio.sector.now; units = bio.units.now; number = bio.number.now }
 
+-- of what a write writes
 abbrev pub text_lent : text_forms.TextForm → TextForm
 text_lent (lent_texts.Fill digits) = Fill digits.now
 text_lent (lent_texts.Hex digits) = Hex digits.now
 
+-- of any line
 abbrev pub form_lent : lent_forms.Form → Form
 form_lent lent.Version = Version
 form_lent (lent.Disk blocks) = Disk blocks.now

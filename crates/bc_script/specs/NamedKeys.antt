@@ -12,10 +12,6 @@ pub record IsNamed (keys : List NamedKey) (name : List ℕ) (key : KeyNo) : Type
   pub within : key.0 < length keys
   pub name_is : name ≡ name_of keys key
 
--- one of the keys has the name
-abbrev pub HasName : List NamedKey → List ℕ → Type 0
-HasName keys name = (key : KeyNo) × IsNamed keys name key
-
 -- none of the keys has it
 abbrev pub IsNoName : List NamedKey → List ℕ → Type 0
 IsNoName keys name = (key : KeyNo) → IsNamed keys name key → ⊥

@@ -7,7 +7,7 @@ use Rattle.bc_script.specs.declared.named_key.NamedKey.{NamedKey}
 use Rattle.bc_script.specs.declared.op.Op.{Op}
 use Rattle.bc_script.specs.declared.sort.Sort.{Sort}
 use Rattle.bc_script.specs.declared.sort.Sort.TheVariants as sorts
-use Rattle.bc_script.specs.Script.{IsDiskSize, AreKeys, IsOp, IsSection, bare_keys, open_behind, units_of_section, max_threads, max_ops, max_units}
+use Rattle.bc_script.specs.Script.{IsDiskSize, AreKeys, IsOp, IsSection, bare_keys, open_after, unit_count_of_section, max_threads, max_ops, max_units}
 use Rattle.bc_script.specs.ScriptText.{version_line, disk_line, fallback_line, key_line, section_lines, end_line}
 use Rattle.bc_script.specs.Forms.{Form, form_of}
 use Rattle.bc_script.specs.ScriptErrors.{with_form}
@@ -36,6 +36,7 @@ is_in_section (Some sorts.Thread) = true
 is_in_section (Some sorts.Operation) = true
 is_in_section _ = false
 
+-- the section that is being read, where one is
 abbrev pub with_section : Bool → List Op → List (List Op)
 with_section false section = []
 with_section true section = section ∷ []
@@ -44,10 +45,12 @@ with_section true section = section ∷ []
 abbrev pub sections_read : Progress → List (List Op)
 sections_read p = p.threads ++ with_section (is_in_section p.last) p.section
 
+-- the last line, where it has been read
 abbrev pub end_read : Option Sort → List Line
 end_read (Some sorts.End) = end_line ∷ []
 end_read _ = []
 
+-- all lines that have been read
 abbrev pub lines_read : Progress → List Line
 lines_read p =
     head_read p.last p.blocks ++ (map key_line p.keys ++ (flat_map (section_lines p.keys) (sections_read p) ++ end_read p.last))
@@ -80,7 +83,7 @@ pub record IsProgress (p : Progress) : Type 0 where
   pub keys : AreKeys p.keys
   pub threads : AllByRecursion (IsSection (bare_keys p.keys)) p.threads
   pub section : AllByRecursion (IsOp (bare_keys p.keys)) p.section
-  pub plugs : IsSome (open_behind false p.section)
+  pub plugs : IsSome (open_after false p.section)
   pub few_threads : length (sections_read p) ≤ max_threads
   pub few_ops : sum_by length (sections_read p) ≤ max_ops
-  pub few_units : sum_by units_of_section (sections_read p) ≤ max_units
+  pub few_units : sum_by unit_count_of_section (sections_read p) ≤ max_units

@@ -6,6 +6,7 @@ use Rattle.hex.specs.Hex.{IsBytes}
 use Rattle.bc_key.specs.KeyData.{KeyData, IsValid}
 use Rattle.bc_bio.specs.declared.context.Context.{Context}
 use Rattle.bc_bio.specs.Extent.{unit_sectors}
+use Rattle.bc_script.specs.declared.limits.TheConstants as limits
 use Rattle.bc_script.specs.declared.named_key.NamedKey.{NamedKey}
 use Rattle.bc_script.specs.declared.op.Op.{Op}
 use Rattle.bc_script.specs.declared.op.Op.TheVariants.{Write, Read, Evict, Reset, Plug, Unplug}
@@ -26,6 +27,7 @@ pub record Script : Type 0 where
 abbrev pub bare_keys : List NamedKey → List KeyData
 bare_keys keys = map (λ named. named.key) keys
 
+-- the keys of a script without their names
 abbrev pub keys_of : Script → List KeyData
 keys_of script = bare_keys script.keys
 
@@ -40,35 +42,44 @@ context_of (Read context sector units) = context
 context_of _ = None
 
 -- how many data units an operation's bio has
-abbrev pub units_of : Op → ℕ
-units_of (Write context sector units text) = units
-units_of (Read context sector units) = units
-units_of _ = 0
+abbrev pub unit_count : Op → ℕ
+unit_count (Write context sector units text) = units
+unit_count (Read context sector units) = units
+unit_count _ = 0
 
-abbrev pub units_of_section : List Op → ℕ
-units_of_section section = sum_by units_of section
+-- how many data units the bios of a section have
+abbrev pub unit_count_of_section : List Op → ℕ
+unit_count_of_section section = sum_by unit_count section
 
 -- ---- limits
 
--- the most keys, sections, operations of all sections together, and data units of all bios together
+-- the most blocks of a disk
+abbrev pub max_blocks : ℕ
+max_blocks = limits.MAX_BLOCKS
+
+-- the most keys
 abbrev pub max_keys : ℕ
-max_keys = 4096
+max_keys = limits.MAX_KEYS
 
+-- the most sections
 abbrev pub max_threads : ℕ
-max_threads = 16
+max_threads = limits.MAX_THREADS
 
+-- the most operations of all sections together
 abbrev pub max_ops : ℕ
-max_ops = 65536
+max_ops = limits.MAX_OPS
 
+-- the most data units of all bios together
 abbrev pub max_units : ℕ
-max_units = 65536
+max_units = limits.MAX_UNITS
 
--- the most data units of a bio, and the most sectors of them
+-- the most data units of a bio
 abbrev pub max_bio_units : ℕ
-max_bio_units = 256
+max_bio_units = limits.MAX_BIO_UNITS
 
+-- the most sectors of a bio, in all its data units together
 abbrev pub max_bio_sectors : ℕ
-max_bio_sectors = 256
+max_bio_sectors = limits.MAX_BIO_SECTORS
 
 -- how many devices a script has: none, as long as device lines aren't built
 abbrev pub device_count : ℕ
@@ -76,9 +87,9 @@ device_count = 0
 
 -- ---- the rules
 
--- a disk has 1 to 16384 blocks
+-- a disk has one block at least
 abbrev pub IsDiskSize : ℕ → Type 0
-IsDiskSize n = (1 ≤ n) × (n ≤ 16384)
+IsDiskSize n = (1 ≤ n) × (n ≤ max_blocks)
 
 -- a name, and a valid key
 pub record IsNamedKey (named : NamedKey) : Type 0 where
@@ -108,6 +119,7 @@ abbrev pub IsText : List KeyData → Option Context → ℕ → Text → Type 0
 IsText keys context units (Fill byte) = byte < 256
 IsText keys context units (Bytes bytes) = IsBytes bytes × (1 ≤ units) × (length bytes ≡ units * (512 * unit_sectors keys context))
 
+-- an operation whose bio, key or device the script has; there is a device of each number below the count
 abbrev pub IsOp : List KeyData → Op → Type 0
 IsOp keys (Write context sector units text) = IsBio keys context sector units × IsText keys context units text
 IsOp keys (Read context sector units) = IsBio keys context sector units
@@ -116,23 +128,24 @@ IsOp keys (Reset device) = device < device_count
 IsOp keys Plug = ⊤
 IsOp keys Unplug = ⊤
 
--- whether a plug is open behind these operations; none where one is opened twice, or closed without being open
-abbrev pub open_behind : Bool → List Op → Option Bool
-open_behind plugged [] = Some plugged
-open_behind plugged (Plug ∷ ops) = if plugged then None else open_behind true ops
-open_behind plugged (Unplug ∷ ops) = if plugged then open_behind false ops else None
-open_behind plugged (op ∷ ops) = open_behind plugged ops
+-- whether a plug is open after these operations; none where one is opened twice, or closed without being open
+abbrev pub open_after : Bool → List Op → Option Bool
+open_after plugged [] = Some plugged
+open_after plugged (Plug ∷ ops) = if plugged then None else open_after true ops
+open_after plugged (Unplug ∷ ops) = if plugged then open_after false ops else None
+open_after plugged (op ∷ ops) = open_after plugged ops
 
 -- valid operations, of which each plug is closed again
 pub record IsSection (keys : List KeyData) (section : List Op) : Type 0 where
   pub each : AllByRecursion (IsOp keys) section
-  pub plugs : open_behind false section ≡ Some false
+  pub plugs : open_after false section ≡ Some false
 
+-- few enough sections, with few enough operations and data units together
 pub record AreSections (keys : List KeyData) (threads : List (List Op)) : Type 0 where
   pub count : length threads ≤ max_threads
   pub each : AllByRecursion (IsSection keys) threads
   pub few_ops : sum_by length threads ≤ max_ops
-  pub few_units : sum_by units_of_section threads ≤ max_units
+  pub few_units : sum_by unit_count_of_section threads ≤ max_units
 
 -- What holds of every script. Software does what no device can, and no fault is planned, as long as the other lines aren't
 -- built.

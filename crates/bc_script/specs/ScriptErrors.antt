@@ -9,7 +9,7 @@ use Rattle.std.specs.Str.{bytes_eq}
 use Rattle.std.specs.Str.Parse.{digits_value}
 use Rattle.std.specs.Fmt.{decimal}
 use Rattle.hex.specs.Hex.{encode_lower, decode_of}
-use Rattle.bc_text.specs.Lines.{Line, lines_of}
+use Rattle.bc_text.specs.Lines.{Line, lines_of, is_nothing}
 use Rattle.bc_key.specs.NumberText.{number_text}
 use Rattle.bc_key.specs.KeyRefusal.{key_refusal}
 use Rattle.bc_script.specs.declared.sort.Sort.{Sort}
@@ -18,9 +18,10 @@ use Rattle.bc_script.specs.declared.script_error.ScriptWhy.{ScriptWhy}
 use Rattle.bc_script.specs.declared.script_error.ScriptWhy.TheVariants as why
 use Rattle.bc_script.specs.declared.script_error.ScriptError.{ScriptError}
 use Rattle.bc_script.specs.Name.{is_name}
-use Rattle.bc_script.specs.Script.{max_keys, max_threads, max_ops, max_units, max_bio_units, max_bio_sectors}
+use Rattle.bc_script.specs.Script.{max_blocks, max_keys, max_threads, max_ops, max_units, max_bio_units, max_bio_sectors}
 use Rattle.bc_script.specs.ScriptText.{dash}
-use Rattle.bc_script.specs.Forms.{Form, Disk, Key, Thread, Write, Read, Evict, Reset, Plug, Unplug, End, KeyForm, BioForm, TextForm, Fill, Hex, form_of, sort_of, may_follow, is_unbuilt}
+use Rattle.bc_script.specs.Forms.{Form, Disk, Key, Thread, Write, Read, Evict, Reset, Plug, Unplug, End, KeyForm, BioForm, TextForm, Fill, Hex, form_of, sort_of}
+use Rattle.bc_script.specs.Order.{may_follow, is_unbuilt}
 
 -- ---- what fields say: a field is malformed where it isn't the text of its value
 
@@ -47,18 +48,22 @@ is_hex_text least most field =
 
 -- ---- what the lines above say
 
+-- what the nearest line is for, if there is one
 abbrev pub last_sort : List Form → Option Sort
 last_sort [] = None
 last_sort (form ∷ above) = Some (sort_of form)
 
+-- whether a line declares a key
 abbrev pub is_key : Form → Bool
 is_key (Key key) = true
 is_key _ = false
 
+-- whether it begins a section
 abbrev pub is_thread : Form → Bool
 is_thread Thread = true
 is_thread _ = false
 
+-- whether it is an operation
 abbrev pub is_operation : Form → Bool
 is_operation (Write bio text) = true
 is_operation (Read bio) = true
@@ -68,6 +73,7 @@ is_operation Plug = true
 is_operation Unplug = true
 is_operation _ = false
 
+-- how many data units a line's bio has
 abbrev pub units_in : Form → ℕ
 units_in (Write bio text) = number_in bio.units
 units_in (Read bio) = number_in bio.units
@@ -79,6 +85,7 @@ key_named name [] = None
 key_named name (Key key ∷ above) = if bytes_eq key.name name then Some key else key_named name above
 key_named name (form ∷ above) = key_named name above
 
+-- whether a key has this name
 abbrev pub is_declared : List ℕ → List Form → Bool
 is_declared name above = is_some (key_named name above)
 
@@ -95,6 +102,7 @@ is_open (form ∷ above) = is_open above
 
 -- ---- the tests of each form, in their order: its fields from left to right, then the key, the order and the limits
 
+-- the test that a line fails, if it fails one
 abbrev pub Why : Type 0
 Why = Option ScriptWhy
 
@@ -102,9 +110,11 @@ Why = Option ScriptWhy
 abbrev pub first_of : Bool → ScriptWhy → Why → Why
 first_of passed kind next = if passed then next else Some kind
 
+-- go on to the next test where the field is the decimal text of a number in the range
 abbrev pub number_test : ℕ → ℕ → List ℕ → Why → Why
 number_test least most field next = first_of (is_number least most field) why.Number next
 
+-- why the values of a key's fields are no key, if they are none
 abbrev pub key_refused : KeyForm → Why
 key_refused key =
     option_map (λ error. why.Key error) (key_refusal key.mode (bytes_in key.digits) (number_in key.unit) (number_in key.dun_bytes))
@@ -114,6 +124,7 @@ abbrev pub key_test : Why → Why → Why
 key_test None next = next
 key_test (Some kind) next = Some kind
 
+-- a new name; a mode, a unit and number bytes; some digits; a valid key; and room for one more key
 abbrev pub key_tests : List Form → KeyForm → Why
 key_tests above key =
     first_of (is_name key.name && not (is_declared key.name above)) why.Name
@@ -153,8 +164,9 @@ is_text size (Hex digits) = is_hex_text size size digits && nat_lt 0 size
 abbrev pub size_of : List Form → BioForm → ℕ
 size_of above bio = number_in bio.units * (512 * sectors_under bio.key above)
 
+-- the first test of its own that a line of this form fails
 abbrev pub tests_of : List Form → Form → Why
-tests_of above (Disk blocks) = number_test 1 16384 blocks None
+tests_of above (Disk blocks) = number_test 1 max_blocks blocks None
 tests_of above (Key key) = key_tests above key
 tests_of above Thread = first_of (not (is_open above)) why.Order (first_of (nat_lt (count_by is_thread above) max_threads) why.Limit None)
 tests_of above (Write bio text) = bio_tests above bio (first_of (is_text (size_of above bio) text) why.Hex (bio_limits above bio))
@@ -169,6 +181,7 @@ tests_of above _ = None
 
 -- ---- the first line that fails
 
+-- whether the nearest line is the `end` line
 abbrev pub is_end : Option Sort → Bool
 is_end (Some sorts.End) = true
 is_end _ = false
@@ -185,15 +198,11 @@ error_at above line =
     (first_of (not (is_unbuilt (last_sort above) line)) why.NotBuilt
     (error_of_form above (form_of line)))
 
--- a line of one empty field, as stands behind the last line feed
-abbrev pub is_nothing : Line → Bool
-is_nothing ([] ∷ []) = true
-is_nothing _ = false
-
--- the text ends here: behind the `end` line, and with a line feed; or too early
+-- the text ends here: after the `end` line, and with a line feed; or too early
 abbrev pub error_at_end : List Form → Line → Why
 error_at_end above tail = first_of (is_end (last_sort above) && is_nothing tail) why.End None
 
+-- the forms above, with the form of one line more
 abbrev pub with_form : Option Form → List Form → List Form
 with_form None above = above
 with_form (Some form) above = form ∷ above
@@ -203,7 +212,7 @@ abbrev pub or_below : ℕ → Why → Option ScriptError → Option ScriptError
 or_below number None below = below
 or_below number (Some kind) below = Some (record { line = number; why = kind })
 
--- The first line, from 1, that fails, and the test. The last of the lines is what stands behind the last line feed.
+-- The first line, from 1, that fails, and the test. The last of the lines is what stands after the last line feed.
 abbrev pub first_error : List Form → List Line → Option ScriptError
 first_error above [] = None
 first_error above (tail ∷ []) = or_below (length above + 1) (error_at_end above tail) None

@@ -20,24 +20,30 @@ use Rattle.bc_script.specs.Script.{Script, IsScript}
 
 -- ---- the first three lines
 
+-- the name of the language, and its version
 abbrev pub version_line : Line
 version_line = codes "blkcrypt" ∷ codes "1" ∷ []
 
+-- how many blocks the disk has
 abbrev pub disk_line : ℕ → Line
 disk_line blocks = codes "disk" ∷ decimal blocks ∷ []
 
+-- a switch
 abbrev pub on_off : Bool → List ℕ
 on_off true = codes "on"
 on_off false = codes "off"
 
+-- whether software does what no device can
 abbrev pub fallback_line : Bool → Line
 fallback_line fallback = codes "fallback" ∷ on_off fallback ∷ []
 
+-- the first three lines
 abbrev pub head_lines : Script → List Line
 head_lines s = version_line ∷ disk_line s.blocks ∷ fallback_line s.fallback ∷ []
 
 -- ---- a line for each key
 
+-- the word of a mode
 abbrev pub mode_text : Mode → List ℕ
 mode_text Aes256Xts = codes "aes-256-xts"
 mode_text Aes128CbcEssiv = codes "aes-128-cbc-essiv"
@@ -60,17 +66,21 @@ fault_line fault = codes "fault" ∷ decimal fault.0 ∷ decimal fault.1 ∷ []
 abbrev pub name_of : List NamedKey → KeyNo → List ℕ
 name_of keys number = unwrap_or (option_map (λ (named : NamedKey). named.name) (slice_get keys number.0)) []
 
+-- what stands for no key, and for no number
 abbrev pub dash : List ℕ
 dash = codes "-"
 
+-- the name of a bio's key
 abbrev pub key_field : List NamedKey → Option Context → List ℕ
 key_field keys None = dash
 key_field keys (Some context) = name_of keys context.key
 
+-- the number of a bio's first data unit
 abbrev pub number_field : Option Context → List ℕ
 number_field None = dash
 number_field (Some context) = number_text context.dun
 
+-- what a write writes, in hexadecimal digits
 abbrev pub text_fields : Text → Line
 text_fields (Fill byte) = codes "fill" ∷ byte_text byte ∷ []
 text_fields (Bytes bytes) = codes "hex" ∷ encode_lower bytes ∷ []
@@ -79,6 +89,7 @@ text_fields (Bytes bytes) = codes "hex" ∷ encode_lower bytes ∷ []
 abbrev pub bio_fields : List NamedKey → Option Context → ℕ → ℕ → Line
 bio_fields keys context sector units = key_field keys context ∷ decimal sector ∷ decimal units ∷ number_field context ∷ []
 
+-- the line of an operation
 abbrev pub op_line : List NamedKey → Op → Line
 op_line keys (Write context sector units text) = codes "write" ∷ (bio_fields keys context sector units ++ text_fields text)
 op_line keys (Read context sector units) = codes "read" ∷ bio_fields keys context sector units
@@ -87,17 +98,21 @@ op_line keys (Reset device) = codes "reset" ∷ decimal device ∷ []
 op_line keys Plug = codes "plug" ∷ []
 op_line keys Unplug = codes "unplug" ∷ []
 
+-- the line that begins a section
 abbrev pub thread_line : Line
 thread_line = codes "thread" ∷ []
 
+-- a section's first line, and a line for each of its operations
 abbrev pub section_lines : List NamedKey → List Op → List Line
 section_lines keys section = thread_line ∷ map (op_line keys) section
 
 -- ---- the whole text
 
+-- the last line
 abbrev pub end_line : Line
 end_line = codes "end" ∷ []
 
+-- the lines of a script: the first three, then keys, faults and sections, then the last
 abbrev pub script_lines : Script → List Line
 script_lines s =
     head_lines s ++ (map key_line s.keys ++ (map fault_line s.faults ++ (flat_map (section_lines s.keys) s.threads ++ end_line ∷ [])))

@@ -1,9 +1,8 @@
 //! The form of a line: what sort of line it is, and its fields as they are written.
 
-ghost use Rattle.std.specs.Prelude.{◌≡◌, ◌<◌, ℕ, List, [], ◌∷◌, length, Some, MatchOption};
+ghost use Rattle.std.specs.Prelude.{◌≡◌, ◌<◌, ℕ, List, [], ◌∷◌, length, MatchOption};
 ghost use Rattle.std.specs.Option.{option_map};
 ghost use Rattle.std.specs.Str.{bytes_eq};
-ghost use Rattle.bc_script.specs.declared.sort.Sort.TheVariants as sorts;
 ghost use Rattle.bc_script.specs.Forms as specs;
 ghost use Rattle.bc_script.specs.Lent.{bio_lent, text_lent, form_lent};
 
@@ -118,7 +117,7 @@ fn form_of_word<'a>(word: &[u8], fields: Parts<'a>) -> Option<Form<'a>>
 }
 
 /// Whether the field is this word.
-fn is(field: &[u8], word: &[u8]) -> bool
+pub(crate) fn is(field: &[u8], word: &[u8]) -> bool
     ensures { result ≡ bytes_eq field.now word.now }
 {
     field == word
@@ -141,8 +140,10 @@ fn with_word<'a>(word: &[u8], form: Form<'a>, mut fields: Parts<'a>) -> Option<F
 }
 
 /// The one field that is left.
-fn one<'a>(mut fields: Parts<'a>) -> Option<&'a [u8]>
-    ensures { MatchOption result ((field : List ℕ) → fields.entry ≡ field ∷ [] → ⊥) (λ field. fields.entry ≡ field.now ∷ []) }
+pub(crate) fn one<'a>(mut fields: Parts<'a>) -> Option<&'a [u8]>
+    ensures { MatchOption result
+        ((field : List ℕ) → fields.entry ≡ field ∷ [] → ⊥)
+        (λ field. fields.entry ≡ field.now ∷ []) }
 {
     let field = fields.next()?;
     if fields.is_empty() { Some(field) } else { None }
@@ -237,49 +238,4 @@ fn with_bio_and_text(mut fields: Parts) -> Option<Form>
         return None;
     }
     Some(Form::Write(bio, text))
-}
-
-/// Whether a line of this sort may stand behind one of that sort, or first.
-pub(crate) fn may_follow(last: Option<Sort>, sort: Sort) -> bool
-    ensures { result ≡ specs.may_follow last sort }
-{
-    match last {
-        None => sort == Sort::Version,
-        Some(Sort::Version) => sort == Sort::Disk,
-        Some(Sort::Disk) => sort == Sort::Fallback,
-        Some(Sort::Fallback) | Some(Sort::Key) => {
-            sort == Sort::Key || sort == Sort::Thread || sort == Sort::End
-        }
-        Some(Sort::Thread) | Some(Sort::Operation) => {
-            sort == Sort::Operation || sort == Sort::Thread || sort == Sort::End
-        }
-        Some(Sort::End) => false,
-    }
-}
-
-/// Whether a line has a form that isn't built yet, and stands where it may.
-pub(crate) fn is_unbuilt(last: Option<Sort>, line: &Parts) -> bool
-    ensures { result ≡ specs.is_unbuilt last line.now }
-{
-    let Some(word) = line.first() else {
-        return false;
-    };
-    match last {
-        Some(Sort::Disk) => is_without_fallback(line.again()),
-        Some(Sort::Fallback) => is(word, b"device") || is(word, b"fault"),
-        Some(Sort::Key) => is(word, b"fault"),
-        _ => false,
-    }
-}
-
-fn is_without_fallback(mut fields: Parts) -> bool
-    ensures { result ≡ specs.is_unbuilt (Some sorts.Disk) fields.entry }
-{
-    let Some(word) = fields.next() else {
-        return false;
-    };
-    let Some(switch) = one(fields) else {
-        return false;
-    };
-    is(word, b"fallback") && is(switch, b"off")
 }

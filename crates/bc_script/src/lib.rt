@@ -1,20 +1,27 @@
 //! The script language: what a script says, its text, and why a text is none.
 #![tactic(auto)]
 
-mod field;
-mod form;
-mod item;
-mod laws;
+// what a script says, and within which limits
+pub mod limits;
 mod name;
 mod named_key;
-mod named_keys;
 mod op;
+mod script;
+mod script_error;
+
+// the forms of lines, their order, and what their fields say
+mod field;
+mod form;
+mod order;
+mod sort;
+mod statement;
+
+// a text is read, and printed
+mod laws;
+mod named_keys;
 mod parser;
 mod printing;
 mod reader;
-mod script;
-mod script_error;
-mod sort;
 
 pub use laws::{errors_are_exact, no_proper_prefix};
 pub use name::Name;

@@ -1,16 +1,14 @@
 //! The name of a key.
 
-ghost use Rattle.std.specs.Prelude.{◌≡◌, ◌↔◌, ◌≤◌, IsTrue, IsSome, IfSome, length};
+ghost use Rattle.std.specs.Prelude.{◌≡◌, ◌↔◌, IsTrue, IsSome, IfSome};
 ghost use Rattle.std.specs.List.{list_all};
 ghost use Rattle.bc_script.specs.Name.{is_name, is_name_byte, is_lower_letter};
 
+use crate::limits::MAX_NAME;
 use arrayvec::ArrayVec;
 use std::marker::Model;
 
-/// The most bytes of a name.
-const MAX_NAME: usize = 16;
-
-/// The name of a key: a lower-case letter, and then at most 15 lower-case letters or digits.
+/// The name of a key: a lower-case letter, and then at most 15 lower-case letters or digits, all of ASCII.
 #[derive(Debug, Drop)]
 pub struct Name {
     bytes: ArrayVec<u8, MAX_NAME>,
@@ -28,7 +26,7 @@ impl Model for Name {
 }
 
 impl Name {
-    /// The name that has these bytes, if they are one.
+    /// The name that has these bytes; `None` where they are no name.
     pub fn of(bytes: &[u8]) -> Option<Name>
         ensures exactly { IsSome result ↔ IsTrue (is_name bytes.now) }
         ensures value { IfSome result (λ name. name ≡ bytes.now) }
@@ -36,10 +34,13 @@ impl Name {
         if !is_name(bytes) {
             return None;
         }
-        Some(Name { bytes: kept(bytes) })
+        let Ok(bytes) = ArrayVec::try_from(bytes) else {
+            unreachable!()
+        };
+        Some(Name { bytes })
     }
 
-    /// Its bytes.
+    /// Its bytes, 1 to 16.
     pub fn as_bytes(&self) -> &[u8]
         ensures value { result.now ≡ self.now }
         ensures rule { IsTrue (is_name self.now) }
@@ -69,15 +70,4 @@ fn is_name_byte(b: u8) -> bool
     ensures { result ≡ is_name_byte b }
 {
     b.is_ascii_lowercase() || b.is_ascii_digit()
-}
-
-fn kept(bytes: &[u8]) -> ArrayVec<u8, MAX_NAME>
-    requires { length bytes.now ≤ MAX_NAME }
-    ensures { result.items ≡ bytes.now }
-{
-    let mut kept = ArrayVec::new();
-    let Ok(()) = kept.try_extend_from_slice(bytes) else {
-        unreachable!()
-    };
-    kept
 }

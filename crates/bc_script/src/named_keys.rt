@@ -1,7 +1,7 @@
 //! The keys of a script, found by their names.
 
-ghost use Rattle.std.specs.Prelude.{◌≡◌, ◌^◌, ◌<◌, [], ◌∷◌, ◌++◌, length, true, false, IfOk, OnErr, MatchOption};
-ghost use Rattle.bc_script.specs.NamedKeys.{IsNamed, IsNoName, HasName};
+ghost use Rattle.std.specs.Prelude.{◌≡◌, ◌^◌, ◌<◌, [], ◌∷◌, ◌++◌, length, OnOk, OnErr, MatchOption};
+ghost use Rattle.bc_script.specs.NamedKeys.{IsNamed, IsNoName};
 
 use crate::name::Name;
 use crate::named_key::NamedKey;
@@ -43,17 +43,14 @@ impl NamedKeys {
         }
     }
 
-    /// Appends a key, whose number is the count of those before it, and tells that it did so: `false` where one of them
-    /// has its name, and then nothing changes. Nor does it where there is no memory.
-    pub(crate) fn add(&mut self, alloc: Global, named: NamedKey) -> Result<bool, AllocError>
+    /// Appends a key with a new name. Its number is the count of those before it. Nothing changes where there is no
+    /// memory.
+    pub(crate) fn add(&mut self, alloc: Global, named: NamedKey) -> Result<(), AllocError>
         requires room { length self.old < 2 ^ 16 }
-        ensures added { IfOk result (λ added. added ≡ true → (self.new ≡ self.old ++ named ∷ []) × IsNoName self.old named.name) }
-        ensures taken { IfOk result (λ added. added ≡ false → (self.new ≡ self.old) × HasName self.old named.name) }
-        ensures memory { OnErr result (self.new ≡ self.old) }
+        requires fresh { IsNoName self.old named.name }
+        ensures ok { OnOk result (self.new ≡ self.old ++ named ∷ []) }
+        ensures err { OnErr result (self.new ≡ self.old) }
     {
-        if self.number_of(named.name.as_bytes()).is_some() {
-            return Ok(false);
-        }
         let name = named.name.as_bytes().to_vec(alloc)?;
         let number = KeyNo(self.keys.len() as u16);
         self.keys.reserve(1)?;
@@ -61,7 +58,7 @@ impl NamedKeys {
         let Ok(()) = self.keys.push(named) else {
             unreachable!()
         };
-        Ok(true)
+        Ok(())
     }
 
     /// The number of the key with this name.

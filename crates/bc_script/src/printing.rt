@@ -15,11 +15,15 @@ use arrayvec::ArrayVec;
 use bc_base::Items;
 use bc_bio::Context;
 use bc_key::{Config, KeyNo, Mode};
-use itoa::Buffer;
+use bc_text::{put_hex, put_number};
 use std::alloc::{AllocError, Global};
 
 /// The one text of the script: its first three lines, a line for each key, for each fault that is planned and for each
-/// thread's section and its operations, and the `end` line. `Err` is want of memory.
+/// thread's section and its operations, and the `end` line.
+///
+/// # Errors
+///
+/// `AllocError` where there is no memory for the text.
 #[tactic(auto, using(crate::proofs::Printed::all_parts))]
 pub fn print(alloc: Global, script: &Script) -> Result<Vec<u8>, AllocError>
     ensures text { IfOk result (λ text. text.items ≡ script_text script.now) }
@@ -48,7 +52,7 @@ fn put_disk(text: &mut Vec<u8>, blocks: u32) -> Result<(), AllocError>
     ensures { OnOk result (text.new.items ≡ text.old.items ++ line_text (disk_line blocks)) }
 {
     text.extend_from_slice(b"disk ")?;
-    put_number(text, blocks)?;
+    put_number(text, u64::from(blocks))?;
     text.push(b'\n')?;
     Ok(())
 }
@@ -93,17 +97,18 @@ fn put_key(text: &mut Vec<u8>, named: &NamedKey) -> Result<(), AllocError>
 
 /// The mode, the data unit's bytes and the number bytes, each with a space before it.
 fn put_config(text: &mut Vec<u8>, config: Config) -> Result<(), AllocError>
-    ensures { OnOk result (text.new.items ≡ text.old.items ++ (codes " " ++ fields_text (mode_text config.mode ∷ decimal (bytes_of config.unit) ∷ decimal config.dun_bytes ∷ []))) }
+    ensures { OnOk result (text.new.items ≡ text.old.items ++ (codes " "
+        ++ fields_text (mode_text config.mode ∷ decimal (bytes_of config.unit) ∷ decimal config.dun_bytes ∷ []))) }
 {
     text.push(b' ')?;
     text.extend_from_slice(mode_text(config.mode))?;
     text.push(b' ')?;
-    put_number(text, config.unit.bytes())?;
+    put_number(text, u64::from(config.unit.bytes()))?;
     text.push(b' ')?;
-    put_number(text, u32::from(config.dun_bytes))
+    put_number(text, u64::from(config.dun_bytes))
 }
 
-/// The last field of a key's line, with a space before it and a line feed behind it.
+/// The last field of a key's line, with a space before it and a line feed after it.
 fn put_digits(text: &mut Vec<u8>, raw: &[u8]) -> Result<(), AllocError>
     ensures { OnOk result (text.new.items ≡ text.old.items ++ (codes " " ++ (encode_lower raw.now ++ codes "\n"))) }
 {
@@ -138,9 +143,9 @@ fn put_fault(text: &mut Vec<u8>, shard: u16, place: u32) -> Result<(), AllocErro
     ensures { OnOk result (text.new.items ≡ text.old.items ++ line_text (fault_line (shard, place))) }
 {
     text.extend_from_slice(b"fault ")?;
-    put_number(text, u32::from(shard))?;
+    put_number(text, u64::from(shard))?;
     text.push(b' ')?;
-    put_number(text, place)?;
+    put_number(text, u64::from(place))?;
     text.push(b'\n')?;
     Ok(())
 }
@@ -153,7 +158,8 @@ fn put_sections(
     keys: &[NamedKey],
     threads: &[Items<Op>],
 ) -> Result<(), AllocError>
-    ensures { OnOk result (text.new.items ≡ text.old.items ++ text_of (flat_map (section_lines keys.now) threads.now)) }
+    ensures { OnOk result
+        (text.new.items ≡ text.old.items ++ text_of (flat_map (section_lines keys.now) threads.now)) }
 {
     for section in threads {
         put_section(text, keys, section.as_slice())?;
@@ -196,7 +202,7 @@ fn put_op(text: &mut Vec<u8>, keys: &[NamedKey], op: &Op) -> Result<(), AllocErr
         }
         Op::Reset(device) => {
             text.extend_from_slice(b"reset ")?;
-            put_number(text, u32::from(*device))?;
+            put_number(text, u64::from(*device))?;
         }
         Op::Plug => text.extend_from_slice(b"plug")?,
         Op::Unplug => text.extend_from_slice(b"unplug")?,
@@ -215,7 +221,8 @@ fn put_bio(
     sector: u32,
     units: u32,
 ) -> Result<(), AllocError>
-    ensures { OnOk result (text.new.items ≡ text.old.items ++ fields_text (word.now ∷ bio_fields keys.now context.now sector units)) }
+    ensures { OnOk result (text.new.items
+        ≡ text.old.items ++ fields_text (word.now ∷ bio_fields keys.now context.now sector units)) }
 {
     text.extend_from_slice(word)?;
     put_key_field(text, keys, context)?;
@@ -241,12 +248,13 @@ fn put_key_field(
 }
 
 fn put_extent(text: &mut Vec<u8>, sector: u32, units: u32) -> Result<(), AllocError>
-    ensures { OnOk result (text.new.items ≡ text.old.items ++ (codes " " ++ fields_text (decimal sector ∷ decimal units ∷ []))) }
+    ensures { OnOk result (text.new.items
+        ≡ text.old.items ++ (codes " " ++ fields_text (decimal sector ∷ decimal units ∷ []))) }
 {
     text.push(b' ')?;
-    put_number(text, sector)?;
+    put_number(text, u64::from(sector))?;
     text.push(b' ')?;
-    put_number(text, units)
+    put_number(text, u64::from(units))
 }
 
 fn put_number_field(text: &mut Vec<u8>, context: &Option<Context>) -> Result<(), AllocError>
@@ -288,20 +296,6 @@ fn put_name(text: &mut Vec<u8>, keys: &[NamedKey], number: KeyNo) -> Result<(), 
         None => Ok(()),
         Some(named) => text.extend_from_slice(named.name.as_bytes()),
     }
-}
-
-fn put_number(text: &mut Vec<u8>, n: u32) -> Result<(), AllocError>
-    ensures { OnOk result (text.new.items ≡ text.old.items ++ decimal n) }
-{
-    let mut buffer = Buffer::new();
-    text.extend_from_slice(buffer.format(n).as_bytes())
-}
-
-fn put_hex(text: &mut Vec<u8>, bytes: &[u8]) -> Result<(), AllocError>
-    ensures { OnOk result (text.new.items ≡ text.old.items ++ encode_lower bytes.now) }
-{
-    let digits = hex::encode(*text.allocator(), bytes)?;
-    text.extend_from_slice(digits.as_bytes())
 }
 
 #[cfg(test)]

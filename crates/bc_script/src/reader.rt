@@ -1,25 +1,26 @@
 //! A script that is being read, line after line.
 
 ghost use Rattle.std.specs.Prelude.{◌≡◌, ◌+◌, ◌++◌, true, [], length, Some, OnOk, OnErr, IfOk, IfErr};
-ghost use Rattle.bc_script.specs.declared.item.Item.TheVariants as items;
+ghost use Rattle.bc_script.specs.declared.statement.Statement.TheVariants as statements;
 ghost use Rattle.bc_script.specs.declared.sort.Sort.TheVariants as sorts;
 ghost use Rattle.bc_script.specs.Script.{IsScript, IsDiskSize};
 ghost use Rattle.bc_script.specs.ScriptText.{script_lines};
-ghost use Rattle.bc_script.specs.Forms.{may_follow};
-ghost use Rattle.bc_script.specs.ScriptErrors.{error_at, error_at_end, is_end, is_nothing};
+ghost use Rattle.bc_script.specs.Order.{may_follow};
+ghost use Rattle.bc_script.specs.ScriptErrors.{error_at, error_at_end, is_end};
+ghost use Rattle.bc_text.specs.Lines.{is_nothing};
 ghost use Rattle.bc_script.specs.Progress.{IsProgress, lines_read, forms_read, is_in_section, with_section};
-ghost use Rattle.bc_script.specs.Items.{Fits, FitsKey, FitsOp, IsClosed, EndsSection, HasRoomFor, sort_of_item, with_item, with_section_ended};
-ghost use Rattle.bc_script.specs.Reading.{Took, IsWhole, TellsNext, left_section};
+ghost use Rattle.bc_script.specs.Statements.{Fits, FitsKey, FitsOp, IsClosed, EndsSection, HasRoomFor, sort_of_statement, with_statement, with_section_ended};
+ghost use Rattle.bc_script.specs.Reading.{Took, IsWhole, ReportsNext, left_section};
 
 mod line;
 
-use crate::item::{Item, Unread};
 use crate::named_key::NamedKey;
 use crate::named_keys::NamedKeys;
 use crate::op::{Op, add_op};
 use crate::script::Script;
 use crate::script_error::{ParseError, ScriptError, ScriptWhy};
 use crate::sort::Sort;
+use crate::statement::{Statement, Unread};
 use bc_base::Items;
 use bc_text::Parts;
 use std::alloc::{AllocError, Global};
@@ -75,10 +76,10 @@ impl Reader {
     /// Reads the next line.
     pub(crate) fn take(&mut self, alloc: Global, line: Parts) -> Result<(), ParseError>
         ensures ok { OnOk result (Took self.old line.entry self.new) }
-        ensures bad { IfErr result (TellsNext self.old (error_at (forms_read self.old) line.entry)) }
+        ensures bad { IfErr result (ReportsNext self.old (error_at (forms_read self.old) line.entry)) }
     {
-        match self.item(alloc, line) {
-            Ok(item) => match self.add(alloc, item) {
+        match self.statement(alloc, line) {
+            Ok(statement) => match self.add(alloc, statement) {
                 Ok(()) => Ok(()),
                 Err(_) => Err(ParseError::Memory),
             },
@@ -106,34 +107,34 @@ impl Reader {
     }
 
     /// Appends what the next line says.
-    fn add(&mut self, alloc: Global, item: Item) -> Result<(), AllocError>
-        requires follows { may_follow self.old.last (sort_of_item item) ≡ true }
-        requires fits { Fits self.old item }
-        ensures ok { OnOk result (self.new ≡ with_item self.old item) }
+    fn add(&mut self, alloc: Global, statement: Statement) -> Result<(), AllocError>
+        requires follows { may_follow self.old.last (sort_of_statement statement) ≡ true }
+        requires fits { Fits self.old statement }
+        ensures ok { OnOk result (self.new ≡ with_statement self.old statement) }
     {
-        match item {
-            Item::Version => {
+        match statement {
+            Statement::Version => {
                 self.add_version();
                 Ok(())
             }
-            Item::Disk(blocks) => {
+            Statement::Disk(blocks) => {
                 self.add_disk(blocks);
                 Ok(())
             }
-            Item::Fallback => {
+            Statement::Fallback => {
                 self.add_fallback();
                 Ok(())
             }
-            Item::Key(named) => self.add_key(alloc, named),
-            Item::Thread => self.end_section(alloc, Sort::Thread),
-            Item::Operation(op) => self.add_operation(op),
-            Item::End => self.end_section(alloc, Sort::End),
+            Statement::Key(named) => self.add_key(alloc, named),
+            Statement::Thread => self.end_section(alloc, Sort::Thread),
+            Statement::Operation(op) => self.add_operation(op),
+            Statement::End => self.end_section(alloc, Sort::End),
         }
     }
 
     fn add_version(&mut self)
         requires { may_follow self.old.last sorts.Version ≡ true }
-        ensures { self.new ≡ with_item self.old items.Version }
+        ensures { self.new ≡ with_statement self.old statements.Version }
     {
         self.last = Some(Sort::Version);
         self.lines += 1;
@@ -142,7 +143,7 @@ impl Reader {
     fn add_disk(&mut self, blocks: u32)
         requires follows { may_follow self.old.last sorts.Disk ≡ true }
         requires size { IsDiskSize blocks }
-        ensures { self.new ≡ with_item self.old (items.Disk blocks) }
+        ensures { self.new ≡ with_statement self.old (statements.Disk blocks) }
     {
         self.last = Some(Sort::Disk);
         self.blocks = blocks;
@@ -151,7 +152,7 @@ impl Reader {
 
     fn add_fallback(&mut self)
         requires { may_follow self.old.last sorts.Fallback ≡ true }
-        ensures { self.new ≡ with_item self.old items.Fallback }
+        ensures { self.new ≡ with_statement self.old statements.Fallback }
     {
         self.last = Some(Sort::Fallback);
         self.lines += 1;
@@ -160,7 +161,7 @@ impl Reader {
     fn add_key(&mut self, alloc: Global, named: NamedKey) -> Result<(), AllocError>
         requires follows { may_follow self.old.last sorts.Key ≡ true }
         requires fits { FitsKey self.old named }
-        ensures { OnOk result (self.new ≡ with_item self.old (items.Key named)) }
+        ensures { OnOk result (self.new ≡ with_statement self.old (statements.Key named)) }
     {
         self.keys.add(alloc, named)?;
         self.last = Some(Sort::Key);
@@ -171,7 +172,7 @@ impl Reader {
     fn add_operation(&mut self, op: Op) -> Result<(), AllocError>
         requires follows { may_follow self.old.last sorts.Operation ≡ true }
         requires fits { FitsOp self.old op }
-        ensures { OnOk result (self.new ≡ with_item self.old (items.Operation op)) }
+        ensures { OnOk result (self.new ≡ with_statement self.old (statements.Operation op)) }
     {
         let units = op.units();
         let plugged = op.plugs(self.plugged);
@@ -184,7 +185,7 @@ impl Reader {
         Ok(())
     }
 
-    /// Puts the section that is being read, if one is, behind those that have ended.
+    /// Puts the section that is being read, if one is, after those that have ended.
     fn end_section(&mut self, alloc: Global, sort: Sort) -> Result<(), AllocError>
         requires sort { EndsSection sort }
         requires follows { may_follow self.old.last sort ≡ true }
@@ -199,12 +200,12 @@ impl Reader {
         Ok(())
     }
 
-    /// The script, whose last line has been read, and which has nothing behind it but this.
+    /// The script, whose last line has been read, and which has nothing after it but this.
     pub(crate) fn finish(self, alloc: Global, rest: Parts) -> Result<Script, ParseError>
         ensures ok { IfOk result (IsWhole self rest.entry) }
-        ensures bad { IfErr result (TellsNext self (error_at_end (forms_read self) rest.entry)) }
+        ensures bad { IfErr result (ReportsNext self (error_at_end (forms_read self) rest.entry)) }
     {
-        if !is_end(self.last_sort()) || !is_nothing(rest) {
+        if !is_end(self.last_sort()) || !rest.is_nothing() {
             return Err(ParseError::Bad(ScriptError {
                 line: self.next_line(),
                 why: ScriptWhy::End,
@@ -249,7 +250,7 @@ fn is_in_section(last: Option<Sort>) -> bool
     }
 }
 
-/// Puts the section, if one is being read, behind those that have ended.
+/// Puts the section, if one is being read, after those that have ended.
 fn put_section(
     alloc: Global,
     inside: bool,
@@ -270,14 +271,4 @@ fn put_section(
         unreachable!()
     };
     Ok(())
-}
-
-/// Whether nothing stands in what is left.
-fn is_nothing(mut rest: Parts) -> bool
-    ensures { result ≡ is_nothing rest.entry }
-{
-    let Some(()) = rest.expect(b"") else {
-        return false;
-    };
-    rest.is_empty()
 }

@@ -51,7 +51,7 @@ impl Script {
         }
     }
 
-    /// How many blocks of 4096 bytes the disk has.
+    /// How many blocks of 4096 bytes the disk has, 1 to 16384.
     pub fn blocks(&self) -> u32
         ensures value { result ≡ self.now.blocks }
         ensures rules { specs.IsScript self.now }
@@ -59,7 +59,7 @@ impl Script {
         self.blocks
     }
 
-    /// Whether software does what no device can.
+    /// Whether software enciphers what no device can. It is so in each script for now.
     pub fn fallback(&self) -> bool
         ensures value { result ≡ self.now.fallback }
         ensures rules { specs.IsScript self.now }
@@ -67,7 +67,7 @@ impl Script {
         self.fallback
     }
 
-    /// The keys, each with its name, by number.
+    /// The keys, each with its name. A key's number is its place, from 0.
     pub fn keys(&self) -> &[NamedKey]
         ensures value { result.now ≡ self.now.keys }
         ensures rules { specs.IsScript self.now }
@@ -75,7 +75,8 @@ impl Script {
         self.keys.as_slice()
     }
 
-    /// The faults that are planned, each by its shard and its place in the shard's order.
+    /// The faults that are planned, each by its shard and its place in the shard's order, both from 0. There are none in
+    /// each script for now.
     pub fn faults(&self) -> &[(u16, u32)]
         ensures value { result.now ≡ self.now.faults }
         ensures rules { specs.IsScript self.now }
@@ -83,7 +84,7 @@ impl Script {
         self.faults.as_slice()
     }
 
-    /// The sections, by the number of their thread.
+    /// The sections. A thread's number is the place of its section, from 0.
     pub fn threads(&self) -> &[Items<Op>]
         ensures value { result.now ≡ self.now.threads }
         ensures rules { specs.IsScript self.now }

@@ -14,10 +14,10 @@ pub struct ScriptError {
 /// What is wrong with a line. The tests of a line go in this order, but those of its fields, which go from left to right.
 #[derive(Clone, Copy, Debug, PartialEq, Eq, Error)]
 pub enum ScriptWhy {
-    /// The text ends before its `end` line, or in a line without a line feed; or the line stands behind the `end` line.
+    /// The text ends before its `end` line, or in a line without a line feed; or the line stands after the `end` line.
     #[error("end")]
     End,
-    /// The line is of a form that isn't built yet.
+    /// The line is of a form that isn't built yet, and stands where it may.
     #[error("not built")]
     NotBuilt,
     /// The line has none of the forms that may stand there, by its first word, its number of fields and its fixed words.
@@ -53,6 +53,6 @@ pub enum ParseError {
     #[error("{0}")]
     Bad(ScriptError),
     /// There was no memory for the script.
-    #[error("no memory")]
+    #[error("out of memory")]
     Memory,
 }

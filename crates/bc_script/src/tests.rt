@@ -1,6 +1,7 @@
 //! Texts and what is wrong with them, by the rules of the language.
 
 use super::*;
+use bc_key::KeyNo;
 use std::alloc::Global;
 use std::process::Abort;
 use std::test::Fail;
@@ -12,7 +13,7 @@ const HEAD: &str = "blkcrypt 1\ndisk 1\nfallback on\n";
 const DIGITS: &str =
     "000102030405060708090a0b0c0d0e0f101112131415161718191a1b1c1d1e1f202122232425262728292a2b2c2d2e2f303132333435363738393a3b3c3d3e3f";
 
-/// Parses the text, and tells what is wrong with it.
+/// What is wrong with the text, if anything is.
 fn error_of(alloc: Global, text: &str) -> Option<ParseError> {
     match parse(alloc, text.as_bytes()) {
         Ok(_) => None,
@@ -24,36 +25,36 @@ fn bad(line: u32, why: ScriptWhy) -> Option<ParseError> {
     Some(ParseError::Bad(ScriptError { line, why }))
 }
 
-/// Each text behind the front is answered so.
-fn fail_behind(
+/// Each text after the prefix is answered so.
+fn fail_after(
     rt: &impl Abort,
     alloc: Global,
-    front: &str,
+    prefix: &str,
     want: Option<ParseError>,
     cases: &[&str],
 ) -> Result<(), Fail> {
     for rest in cases {
-        let text = format!(in alloc; "{front}{rest}")?;
+        let text = format!(in alloc; "{prefix}{rest}")?;
         assert_eq!(rt; error_of(alloc, &text), want, "{rest}");
     }
     Ok(())
 }
 
-/// Each text behind the front is read whole.
-fn pass_behind(rt: &impl Abort, alloc: Global, front: &str, cases: &[&str]) -> Result<(), Fail> {
-    fail_behind(rt, alloc, front, None, cases)
+/// Each text after the prefix is read whole.
+fn pass_after(rt: &impl Abort, alloc: Global, prefix: &str, cases: &[&str]) -> Result<(), Fail> {
+    fail_after(rt, alloc, prefix, None, cases)
 }
 
 #[test]
 fn the_first_lines(rt: HostRuntime) -> Result<(), Fail> {
-    fail_behind(
+    fail_after(
         &rt,
         rt.alloc(),
         "",
         bad(1, ScriptWhy::End),
         &["", "blkcrypt 1"],
     )?;
-    fail_behind(
+    fail_after(
         &rt,
         rt.alloc(),
         "",
@@ -67,14 +68,14 @@ fn the_first_lines(rt: HostRuntime) -> Result<(), Fail> {
             "fallback off\n",
         ],
     )?;
-    fail_behind(
+    fail_after(
         &rt,
         rt.alloc(),
         "",
         bad(2, ScriptWhy::End),
         &["blkcrypt 1\n"],
     )?;
-    fail_behind(
+    fail_after(
         &rt,
         rt.alloc(),
         "",
@@ -85,7 +86,7 @@ fn the_first_lines(rt: HostRuntime) -> Result<(), Fail> {
             "blkcrypt 1\nend\n",
         ],
     )?;
-    fail_behind(
+    fail_after(
         &rt,
         rt.alloc(),
         "",
@@ -97,14 +98,14 @@ fn the_first_lines(rt: HostRuntime) -> Result<(), Fail> {
             "blkcrypt 1\ndisk 1\nend\n",
         ],
     )?;
-    fail_behind(
+    fail_after(
         &rt,
         rt.alloc(),
         "",
         bad(3, ScriptWhy::NotBuilt),
         &["blkcrypt 1\ndisk 1\nfallback off\n"],
     )?;
-    fail_behind(
+    fail_after(
         &rt,
         rt.alloc(),
         "",
@@ -115,7 +116,7 @@ fn the_first_lines(rt: HostRuntime) -> Result<(), Fail> {
 
 #[test]
 fn the_size_of_the_disk(rt: HostRuntime) -> Result<(), Fail> {
-    fail_behind(
+    fail_after(
         &rt,
         rt.alloc(),
         "blkcrypt 1\n",
@@ -132,14 +133,14 @@ fn the_size_of_the_disk(rt: HostRuntime) -> Result<(), Fail> {
             "disk 1\0\n",
         ],
     )?;
-    fail_behind(
+    fail_after(
         &rt,
         rt.alloc(),
         "blkcrypt 1\n",
         bad(3, ScriptWhy::End),
         &["disk 16384\n"],
     )?;
-    fail_behind(
+    fail_after(
         &rt,
         rt.alloc(),
         "blkcrypt 1\n",
@@ -157,15 +158,15 @@ fn the_size_of_the_disk(rt: HostRuntime) -> Result<(), Fail> {
 
 #[test]
 fn the_end(rt: HostRuntime) -> Result<(), Fail> {
-    fail_behind(&rt, rt.alloc(), HEAD, bad(4, ScriptWhy::End), &["", "end"])?;
-    fail_behind(
+    fail_after(&rt, rt.alloc(), HEAD, bad(4, ScriptWhy::End), &["", "end"])?;
+    fail_after(
         &rt,
         rt.alloc(),
         HEAD,
         bad(4, ScriptWhy::Word),
         &["end \n", "\nend\n", "fallback on\n", "evict a\n", "plug\n"],
     )?;
-    fail_behind(
+    fail_after(
         &rt,
         rt.alloc(),
         HEAD,
@@ -179,14 +180,14 @@ fn the_end(rt: HostRuntime) -> Result<(), Fail> {
             "end\nfault 0 1\n",
         ],
     )?;
-    fail_behind(
+    fail_after(
         &rt,
         rt.alloc(),
         HEAD,
         bad(5, ScriptWhy::Word),
         &["thread\nkey\n", "thread\ndisk 1\n"],
     )?;
-    pass_behind(
+    pass_after(
         &rt,
         rt.alloc(),
         HEAD,
@@ -196,21 +197,21 @@ fn the_end(rt: HostRuntime) -> Result<(), Fail> {
 
 #[test]
 fn lines_that_are_not_built(rt: HostRuntime) -> Result<(), Fail> {
-    fail_behind(
+    fail_after(
         &rt,
         rt.alloc(),
         HEAD,
         bad(4, ScriptWhy::NotBuilt),
         &["device 0 1 1 1 0 8\n", "fault 0 1\n", "fault\n"],
     )?;
-    fail_behind(
+    fail_after(
         &rt,
         rt.alloc(),
         HEAD,
         bad(5, ScriptWhy::Word),
         &["thread\ndevice 0 1 1 1 0 8\n", "thread\nfault 0 1\n"],
     )?;
-    fail_behind(
+    fail_after(
         &rt,
         rt.alloc(),
         HEAD,
@@ -218,39 +219,39 @@ fn lines_that_are_not_built(rt: HostRuntime) -> Result<(), Fail> {
         &["fallback off\n"],
     )?;
     let alloc = rt.alloc();
-    let front = format!(in alloc; "{HEAD}key a aes-256-xts 512 8 {DIGITS}\n")?;
-    fail_behind(
+    let prefix = format!(in alloc; "{HEAD}key a aes-256-xts 512 8 {DIGITS}\n")?;
+    fail_after(
         &rt,
         rt.alloc(),
-        &front,
+        &prefix,
         bad(5, ScriptWhy::Word),
         &["device 0 1 1 1 0 8\n"],
     )?;
-    fail_behind(
+    fail_after(
         &rt,
         rt.alloc(),
-        &front,
+        &prefix,
         bad(5, ScriptWhy::NotBuilt),
         &["fault 0 1\n"],
     )?;
-    fail_behind(
+    fail_after(
         &rt,
         rt.alloc(),
-        &front,
+        &prefix,
         bad(6, ScriptWhy::Word),
         &["thread\nfault 0 1\n"],
     )
 }
 
-/// Line 6, behind a key `a` with data units of 512 bytes.
+/// Line 6, after a key `a` with data units of 512 bytes.
 #[test]
 fn the_lines_of_operations(rt: HostRuntime) -> Result<(), Fail> {
     let alloc = rt.alloc();
-    let front = format!(in alloc; "{HEAD}key a aes-256-xts 512 8 {DIGITS}\nthread\n")?;
-    fail_behind(
+    let prefix = format!(in alloc; "{HEAD}key a aes-256-xts 512 8 {DIGITS}\nthread\n")?;
+    fail_after(
         &rt,
         rt.alloc(),
-        &front,
+        &prefix,
         bad(6, ScriptWhy::Hex),
         &[
             "write a 0 1 0 fill 0\n",
@@ -262,10 +263,10 @@ fn the_lines_of_operations(rt: HostRuntime) -> Result<(), Fail> {
             "write a 0 1 0 hex 00\n",
         ],
     )?;
-    fail_behind(
+    fail_after(
         &rt,
         rt.alloc(),
-        &front,
+        &prefix,
         bad(6, ScriptWhy::Number),
         &[
             "write a 0 1 00 fill 00\n",
@@ -279,10 +280,10 @@ fn the_lines_of_operations(rt: HostRuntime) -> Result<(), Fail> {
             "reset 0\n",
         ],
     )?;
-    fail_behind(
+    fail_after(
         &rt,
         rt.alloc(),
-        &front,
+        &prefix,
         bad(6, ScriptWhy::Name),
         &[
             "write b 0 1 0 fill 00\n",
@@ -293,10 +294,10 @@ fn the_lines_of_operations(rt: HostRuntime) -> Result<(), Fail> {
             "evict -\n",
         ],
     )?;
-    fail_behind(
+    fail_after(
         &rt,
         rt.alloc(),
-        &front,
+        &prefix,
         bad(6, ScriptWhy::Word),
         &[
             "write a 0 1 - fill 00\n",
@@ -313,25 +314,59 @@ fn the_lines_of_operations(rt: HostRuntime) -> Result<(), Fail> {
             "trim a 0 1 0\n",
         ],
     )?;
-    fail_behind(
+    fail_after(
         &rt,
         rt.alloc(),
-        &front,
+        &prefix,
         bad(6, ScriptWhy::Order),
         &["unplug\n"],
     )?;
-    fail_behind(
+    fail_after(
         &rt,
         rt.alloc(),
-        &front,
+        &prefix,
         bad(7, ScriptWhy::Order),
         &["plug\nplug\n", "plug\nend\n", "plug\nthread\n"],
     )?;
-    fail_behind(
+    fail_after(
         &rt,
         rt.alloc(),
-        &front,
+        &prefix,
         bad(8, ScriptWhy::Order),
         &["plug\nread a 0 1 0\nend\n", "plug\nunplug\nunplug\n"],
     )
+}
+
+/// 20 keys and 300 operations under them are read, each in its place, and printed as they were written.
+#[test]
+fn a_script_of_many_lines(rt: HostRuntime) -> Result<(), Fail> {
+    let alloc = rt.alloc();
+    let mut text = format!(in alloc; "{HEAD}")?;
+    for key in 0u32..20 {
+        let line = format!(in alloc; "key k{key} aes-256-xts 512 8 {DIGITS}\n")?;
+        text.push_str(&line)?;
+    }
+    text.push_str("thread\n")?;
+    for op in 0u32..300 {
+        let key = op % 20;
+        let line = format!(in alloc; "write k{key} {op} 1 {key} fill 5a\n")?;
+        text.push_str(&line)?;
+    }
+    text.push_str("end\n")?;
+    let script = parse(alloc, text.as_bytes())?;
+    assert_eq!(rt; script.keys().len(), 20);
+    assert_eq!(rt; script.threads().len(), 1);
+    let section = script.threads().first().ok_or("a section")?;
+    assert_eq!(rt; section.as_slice().len(), 300);
+    let last = section
+        .as_slice()
+        .last()
+        .and_then(|op| op.bio())
+        .ok_or("a bio")?;
+    assert_eq!(rt; last.sector, 299);
+    assert_eq!(rt; last.units, 1);
+    assert_eq!(rt; last.context.map(|context| context.key), Some(KeyNo(19)));
+    let printed = print(alloc, &script)?;
+    assert_eq!(rt; printed.as_slice(), text.as_bytes());
+    Ok(())
 }

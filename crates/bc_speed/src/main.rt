@@ -17,14 +17,18 @@
 
 ghost use Rattle.std.specs.Prelude.{◌≡◌, length};
 
-mod measure;
-mod scripts;
+// data units, one and many
+mod direction;
 mod single;
 mod units;
 
+// what is measured
+mod measure;
+mod scripts;
+
 use anyhow::{Context, Result, bail};
 use bc_key::{DataUnit, Mode};
-use measure::Direction;
+use direction::Direction;
 use std::alloc::Global;
 use std::env;
 use std::rt::Clock;
@@ -58,17 +62,6 @@ fn number(word: &str, most: u32) -> Result<u32> {
     Ok(number)
 }
 
-/// Which way to go.
-fn direction(word: &str) -> Option<Direction> {
-    if word == "encrypt" {
-        Some(Direction::Encrypt)
-    } else if word == "decrypt" {
-        Some(Direction::Decrypt)
-    } else {
-        None
-    }
-}
-
 /// Which mode.
 fn mode(word: &str) -> Result<Mode> {
     if word == "xts" {
@@ -90,7 +83,7 @@ fn many_units(rt: &(impl Print + Clock), alloc: Global, words: &[String]) -> Res
     if words[0].as_str() == "digest" {
         return measure::digests(rt, alloc, mode, unit, units);
     }
-    let way = direction(words[0].as_str()).context(USAGE)?;
+    let way = Direction::of_word(words[0].as_str()).context(USAGE)?;
     measure::speed(rt, alloc, way, mode, unit, units)
 }
 
@@ -109,7 +102,7 @@ fn run(rt: &(impl Print + Clock), alloc: Global, words: &[String]) -> Result<()>
         return measure::script(rt, alloc, writes, reads);
     }
     if words.len() == 5 && words[0].as_str() == "unit" {
-        let way = direction(words[1].as_str()).context(USAGE)?;
+        let way = Direction::of_word(words[1].as_str()).context(USAGE)?;
         let (key, number, text) = (words[2].as_str(), words[3].as_str(), words[4].as_str());
         return single::show(rt, alloc, way, key, number, text);
     }

@@ -1,7 +1,5 @@
 //! Measurements.
-ghost use Rattle.std.specs.Prelude.{◌≡◌, ◌*◌, length};
-ghost use Rattle.bc_key.specs.DataUnits.{bytes_of};
-
+use crate::direction::Direction;
 use crate::{scripts, units};
 use anyhow::Result;
 use bc_key::{DataUnit, Mode};
@@ -15,13 +13,6 @@ use std::time::{Duration, Instant};
 /// How often a script's text is parsed and printed.
 const TIMES: u32 = 5;
 
-/// Which way the units go.
-#[derive(Clone, Copy, Debug, PartialEq, Eq)]
-pub enum Direction {
-    Encrypt,
-    Decrypt,
-}
-
 /// The key of all measurements: the bytes 00 to 3f, of which ESSIV takes the first 16.
 fn key() -> [u8; 64] {
     let mut key = [0; 64];
@@ -31,27 +22,16 @@ fn key() -> [u8; 64] {
     key
 }
 
-/// Takes all units one way.
-fn carry_out(way: Direction, cipher: &UnitCipher, texts: &mut [u8], size: usize, units: usize)
-    requires size { size ≡ bytes_of cipher.now.unit }
-    requires whole { length texts.old ≡ units * size }
-{
-    match way {
-        Direction::Encrypt => units::encrypt_all(cipher, texts, size, units),
-        Direction::Decrypt => units::decrypt_all(cipher, texts, size, units),
-    }
-}
-
 /// The work in a microsecond, which is in millions a second.
 fn a_microsecond(work: u64, took: Duration) -> u64 {
     let micros = took.as_micros().max(1);
     (u128::from(work) / micros) as u64
 }
 
-/// Prints the digest of the bytes.
-fn print_digest(rt: &impl Print, alloc: Global, what: &str, bytes: &[u8]) -> Result<()> {
-    let digest = hex::encode(alloc, Sha256::digest(bytes))?;
-    println!(rt; "{what} sha256 {digest}")?;
+/// Prints a digest.
+fn print_digest(rt: &impl Print, alloc: Global, what: &str, digest: &[u8; 32]) -> Result<()> {
+    let digits = hex::encode(alloc, digest)?;
+    println!(rt; "{what} sha256 {digits}")?;
     Ok(())
 }
 
@@ -68,11 +48,11 @@ pub fn speed(
     let mut texts = units::texts(alloc, units as usize * size)?;
     let cipher = UnitCipher::of_parts(mode, unit, &key());
     let start = Instant::now(rt)?;
-    carry_out(way, &cipher, texts.as_mut_slice(), size, units as usize);
+    units::carry_units(way, &cipher, texts.as_mut_slice(), size, units as usize);
     let took = start.elapsed(rt)?;
     let rate = a_microsecond(texts.len() as u64, took);
     println!(rt; "{way:?} {mode:?} {size}: {rate} MB/s")?;
-    print_digest(rt, alloc, "out", texts.as_slice())
+    print_digest(rt, alloc, "out", &Sha256::digest(texts.as_slice()))
 }
 
 /// Prints the digests of the units enciphered, and of the same units deciphered.
@@ -85,12 +65,10 @@ pub fn digests(
 ) -> Result<()> {
     let size = unit.bytes() as usize;
     let cipher = UnitCipher::of_parts(mode, unit, &key());
-    let mut texts = units::texts(alloc, units as usize * size)?;
-    units::encrypt_all(&cipher, texts.as_mut_slice(), size, units as usize);
-    print_digest(rt, alloc, "enciphered", texts.as_slice())?;
-    let mut texts = units::texts(alloc, units as usize * size)?;
-    units::decrypt_all(&cipher, texts.as_mut_slice(), size, units as usize);
-    print_digest(rt, alloc, "deciphered", texts.as_slice())
+    let enciphered = units::digest(alloc, Direction::Encrypt, &cipher, size, units)?;
+    print_digest(rt, alloc, "enciphered", &enciphered)?;
+    let deciphered = units::digest(alloc, Direction::Decrypt, &cipher, size, units)?;
+    print_digest(rt, alloc, "deciphered", &deciphered)
 }
 
 /// Prints how many thousand keys are expanded in a second.

@@ -1,7 +1,7 @@
 //! A script's text: built in memory, parsed, and printed.
 ghost use Rattle.std.specs.Prelude.{◌≡◌, ◌++◌, OnOk, codes};
 
-use crate::units;
+use crate::units::{self, PERIOD};
 use anyhow::{Result, bail};
 use std::alloc::{AllocError, Global};
 use std::rt::Clock;
@@ -13,9 +13,6 @@ const HEAD: &[u8] = b"blkcrypt 1\ndisk 16384\nfallback on\nthread\n";
 /// Bytes of a data unit without a key.
 const UNIT: usize = 512;
 
-/// After so many bytes those of `units::texts` come again.
-const PERIOD: usize = 2048;
-
 /// How long a text took each way.
 #[derive(Drop)]
 pub struct Times {
@@ -23,7 +20,7 @@ pub struct Times {
     pub print: Duration,
 }
 
-/// The text of a script with so many writes by `hex` of one data unit each, and behind them so many reads of one. Each
+/// The text of a script with so many writes by `hex` of one data unit each, and after them so many reads of one. Each
 /// write has other digits than the one before it.
 pub fn text(alloc: Global, writes: u32, reads: u32) -> Result<Vec<u8>, AllocError> {
     let bytes = units::texts(alloc, PERIOD + UNIT)?;
@@ -42,7 +39,8 @@ pub fn text(alloc: Global, writes: u32, reads: u32) -> Result<Vec<u8>, AllocErro
 
 /// Appends the line of a write of these digits.
 fn put_write(text: &mut Vec<u8>, digits: &[u8]) -> Result<(), AllocError>
-    ensures { OnOk result (text.new.items ≡ ((text.old.items ++ codes "write - 0 1 - hex ") ++ digits.now) ++ codes "\n") }
+    ensures { OnOk result (text.new.items
+        ≡ ((text.old.items ++ codes "write - 0 1 - hex ") ++ digits.now) ++ codes "\n") }
 {
     text.extend_from_slice(b"write - 0 1 - hex ")?;
     text.extend_from_slice(digits)?;

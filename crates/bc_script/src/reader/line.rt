@@ -4,45 +4,35 @@ ghost use Rattle.std.specs.Prelude.{◌≡◌, ℕ, ◌+◌, ◌*◌, ◌≤◌,
 ghost use Rattle.std.specs.Str.{bytes_eq};
 ghost use Rattle.bc_bio.specs.Extent.{unit_sectors};
 ghost use Rattle.bc_script.specs.declared.script_error.ScriptWhy.TheVariants as why;
-ghost use Rattle.bc_script.specs.declared.item.Item.TheVariants as items;
+ghost use Rattle.bc_script.specs.declared.statement.Statement.TheVariants as statements;
 ghost use Rattle.bc_script.specs.Name.{is_name};
-ghost use Rattle.bc_script.specs.Script.{IsContext, bare_keys, units_of_section, max_bio_units, max_bio_sectors, max_ops, max_units};
+ghost use Rattle.bc_script.specs.Script.{IsContext, bare_keys, unit_count_of_section, max_blocks, max_bio_units, max_bio_sectors, max_ops, max_units};
 ghost use Rattle.bc_script.specs.ScriptText.{dash};
 ghost use Rattle.bc_script.specs.Forms as forms;
-ghost use Rattle.bc_script.specs.ScriptErrors.{error_at, tests_of, is_declared, is_number_text, is_text, is_number};
+ghost use Rattle.bc_script.specs.ScriptErrors.{error_at, is_declared, is_number};
 ghost use Rattle.bc_script.specs.Progress.{IsProgress, forms_read, sections_read};
 ghost use Rattle.bc_script.specs.Says.{SaysNumber};
 ghost use Rattle.bc_script.specs.Lent.{key_lent, bio_lent, text_lent, form_lent};
-ghost use Rattle.bc_script.specs.Items.{IsNext, IsSaid, DashesAgree, Tells, Refuses};
-ghost use Rattle.bc_script.specs.BioFields.{IsNewName, IsDeclared, SaysKey, SaysNumberField, SaysBio, RefusesBio, SaysText, context_with};
+ghost use Rattle.bc_script.specs.Statements.{IsNext, DashesAgree, ReadsForm, Reports, Refuses};
+ghost use Rattle.bc_script.specs.BioFields.{IsNewName, IsDeclared, SaysKey, SaysBio, RefusesBio, context_with};
 
 use super::{Reader, is_end, is_in_section};
-use crate::field;
 use crate::form::{self, BioForm, Form, KeyForm, TextForm};
-use crate::item::{Item, Unread};
+use crate::limits::{
+    MAX_BIO_SECTORS, MAX_BIO_UNITS, MAX_BLOCKS, MAX_KEYS, MAX_OPS, MAX_THREADS, MAX_UNITS,
+};
 use crate::name::Name;
 use crate::named_key::NamedKey;
-use crate::op::{Op, Text};
+use crate::op::Op;
 use crate::script_error::ScriptWhy;
 use crate::sort::Sort;
+use crate::statement::{Statement, Unread};
+use crate::{field, order};
+use bc_base::SECTOR_BYTES;
 use bc_bio::Context;
 use bc_key::{Dun, Key, KeyNo};
 use bc_text::Parts;
 use std::alloc::Global;
-
-/// The most keys, sections, operations of all sections together, and data units of all bios together.
-const MAX_KEYS: usize = 4096;
-
-const MAX_THREADS: usize = 16;
-
-const MAX_OPS: u32 = 65536;
-
-const MAX_UNITS: u32 = 65536;
-
-/// The most data units of a bio, and the most sectors of them.
-const MAX_BIO_UNITS: u32 = 256;
-
-const MAX_BIO_SECTORS: u32 = 256;
 
 /// The fields that a bio has beside its text.
 #[derive(Clone, Copy)]
@@ -54,35 +44,35 @@ struct BioFields {
 
 impl Reader {
     /// What the next line says.
-    pub(super) fn item(&self, alloc: Global, line: Parts) -> Result<Item, Unread>
+    pub(super) fn statement(&self, alloc: Global, line: Parts) -> Result<Statement, Unread>
         ensures ok { IfOk result (IsNext self.now line.entry) }
-        ensures bad { IfErr result (Tells (error_at (forms_read self.now) line.entry)) }
+        ensures bad { IfErr result (Reports (error_at (forms_read self.now) line.entry)) }
     {
         let last = self.last_sort();
         if is_end(last) {
             return Err(Unread::Bad(ScriptWhy::End));
         }
-        if form::is_unbuilt(last, &line) {
+        if order::is_unbuilt(last, &line) {
             return Err(Unread::Bad(ScriptWhy::NotBuilt));
         }
         let Some(form) = form::form_of(line) else {
             return Err(Unread::Bad(ScriptWhy::Word));
         };
-        if !form::may_follow(last, form.sort()) {
+        if !order::may_follow(last, form.sort()) {
             return Err(Unread::Bad(ScriptWhy::Word));
         }
-        self.said(alloc, form)
+        self.statement_of_form(alloc, form)
     }
 
     /// What a line of this form says, where it may stand.
-    fn said(&self, alloc: Global, form: Form) -> Result<Item, Unread>
+    fn statement_of_form(&self, alloc: Global, form: Form) -> Result<Statement, Unread>
         requires { DashesAgree (form_lent form) }
-        ensures { MatchResult result (IsSaid self.now (form_lent form.entry)) (Tells (tests_of (forms_read self.now) (form_lent form.entry))) }
+        ensures { ReadsForm self.now (form_lent form.entry) result }
     {
         match form {
-            Form::Version => Ok(Item::Version),
+            Form::Version => Ok(Statement::Version),
             Form::Disk(blocks) => disk(blocks),
-            Form::Fallback => Ok(Item::Fallback),
+            Form::Fallback => Ok(Statement::Fallback),
             Form::Key(key) => self.key(key),
             Form::Thread => self.thread(),
             Form::Write(bio, text) => self.write(alloc, bio, text),
@@ -95,12 +85,12 @@ impl Reader {
         }
     }
 
-    fn key(&self, form: KeyForm) -> Result<Item, Unread>
-        ensures { MatchResult result (IsSaid self.now (forms.Key (key_lent form.entry))) (Tells (tests_of (forms_read self.now) (forms.Key (key_lent form.entry)))) }
+    fn key(&self, form: KeyForm) -> Result<Statement, Unread>
+        ensures { ReadsForm self.now (forms.Key (key_lent form.entry)) result }
     {
         let name = self.new_name(form.name)?;
-        let unit = number(form.unit, 0, u32::MAX)?;
-        let dun_bytes = number(form.dun_bytes, 0, 255)?;
+        let unit = field::number(form.unit, 0, u32::MAX)?;
+        let dun_bytes = field::number(form.dun_bytes, 0, 255)?;
         let Some(raw) = field::key_bytes(form.digits) else {
             return Err(Unread::Bad(ScriptWhy::Hex));
         };
@@ -111,12 +101,14 @@ impl Reader {
         if self.keys.len() >= MAX_KEYS {
             return Err(Unread::Bad(ScriptWhy::Limit));
         }
-        Ok(Item::Key(NamedKey { name, key }))
+        Ok(Statement::Key(NamedKey { name, key }))
     }
 
     /// A name that no key has yet.
     fn new_name(&self, name: &[u8]) -> Result<Name, Unread>
-        ensures { MatchResult result (IsNewName self.now name.now) (Refuses (is_name name.now && not (is_declared name.now (forms_read self.now))) why.Name) }
+        ensures { MatchResult result
+            (IsNewName self.now name.now)
+            (Refuses (is_name name.now && not (is_declared name.now (forms_read self.now))) why.Name) }
     {
         if self.keys.number_of(name).is_some() {
             return Err(Unread::Bad(ScriptWhy::Name));
@@ -127,8 +119,8 @@ impl Reader {
         }
     }
 
-    fn thread(&self) -> Result<Item, Unread>
-        ensures { MatchResult result (IsSaid self.now (forms.Thread)) (Tells (tests_of (forms_read self.now) (forms.Thread))) }
+    fn thread(&self) -> Result<Statement, Unread>
+        ensures { ReadsForm self.now forms.Thread result }
     {
         if self.plugged {
             return Err(Unread::Bad(ScriptWhy::Order));
@@ -136,7 +128,7 @@ impl Reader {
         if self.section_count() >= MAX_THREADS {
             return Err(Unread::Bad(ScriptWhy::Limit));
         }
-        Ok(Item::Thread)
+        Ok(Statement::Thread)
     }
 
     /// How many sections there are, with the one that is being read.
@@ -146,9 +138,9 @@ impl Reader {
         self.threads.len() + usize::from(is_in_section(self.last))
     }
 
-    fn write(&self, alloc: Global, form: BioForm, text: TextForm) -> Result<Item, Unread>
+    fn write(&self, alloc: Global, form: BioForm, text: TextForm) -> Result<Statement, Unread>
         requires dashes { forms.dashes_agree (bio_lent form) ≡ true }
-        ensures { MatchResult result (IsSaid self.now (forms.Write (bio_lent form.entry) (text_lent text.entry))) (Tells (tests_of (forms_read self.now) (forms.Write (bio_lent form.entry) (text_lent text.entry)))) }
+        ensures { ReadsForm self.now (forms.Write (bio_lent form.entry) (text_lent text.entry)) result }
     {
         let BioFields {
             context,
@@ -156,11 +148,12 @@ impl Reader {
             units,
         } = self.bio(&form)?;
         let sectors = self.unit_sectors(&context);
-        let text = text_of(alloc, text, units as usize * (512 * sectors as usize))?;
+        let size = units as usize * (SECTOR_BYTES * sectors as usize);
+        let text = field::write_text(alloc, text, size)?;
         if !self.has_room_for(units, sectors) {
             return Err(Unread::Bad(ScriptWhy::Limit));
         }
-        Ok(Item::Operation(Op::Write {
+        Ok(Statement::Operation(Op::Write {
             context,
             sector,
             units,
@@ -168,9 +161,9 @@ impl Reader {
         }))
     }
 
-    fn read(&self, form: BioForm) -> Result<Item, Unread>
+    fn read(&self, form: BioForm) -> Result<Statement, Unread>
         requires dashes { forms.dashes_agree (bio_lent form) ≡ true }
-        ensures { MatchResult result (IsSaid self.now (forms.Read (bio_lent form.entry))) (Tells (tests_of (forms_read self.now) (forms.Read (bio_lent form.entry)))) }
+        ensures { ReadsForm self.now (forms.Read (bio_lent form.entry)) result }
     {
         let BioFields {
             context,
@@ -180,7 +173,7 @@ impl Reader {
         if !self.has_room_for(units, self.unit_sectors(&context)) {
             return Err(Unread::Bad(ScriptWhy::Limit));
         }
-        Ok(Item::Operation(Op::Read {
+        Ok(Statement::Operation(Op::Read {
             context,
             sector,
             units,
@@ -192,11 +185,11 @@ impl Reader {
         ensures { MatchResult result (SaysBio self.now (bio_lent form.now)) (RefusesBio self.now (bio_lent form.now)) }
     {
         let key = self.bio_key(form.key)?;
-        let sector = number(form.sector, 0, u32::MAX)?;
-        let units = number(form.units, 0, MAX_BIO_UNITS)?;
-        let dun = bio_number(form.number)?;
+        let sector = field::number(form.sector, 0, u32::MAX)?;
+        let units = field::number(form.units, 0, MAX_BIO_UNITS)?;
+        let dun = field::bio_number(form.number)?;
         Ok(BioFields {
-            context: context_of(key, dun),
+            context: context_with(key, dun),
             sector,
             units,
         })
@@ -204,17 +197,21 @@ impl Reader {
 
     /// The key of a bio, which has none where the field is `-`.
     fn bio_key(&self, name: &[u8]) -> Result<Option<KeyNo>, Unread>
-        ensures { MatchResult result (SaysKey self.now name.now) (Refuses (bytes_eq name.now dash || is_declared name.now (forms_read self.now)) why.Name) }
+        ensures { MatchResult result
+            (SaysKey self.now name.now)
+            (Refuses (bytes_eq name.now dash || is_declared name.now (forms_read self.now)) why.Name) }
     {
         if name == b"-".as_slice() {
             return Ok(None);
         }
-        Ok(Some(self.declared(name)?))
+        Ok(Some(self.declared_key(name)?))
     }
 
     /// The key with this name.
-    fn declared(&self, name: &[u8]) -> Result<KeyNo, Unread>
-        ensures { MatchResult result (IsDeclared self.now name.now) (Refuses (is_declared name.now (forms_read self.now)) why.Name) }
+    fn declared_key(&self, name: &[u8]) -> Result<KeyNo, Unread>
+        ensures { MatchResult result
+            (IsDeclared self.now name.now)
+            (Refuses (is_declared name.now (forms_read self.now)) why.Name) }
     {
         match self.keys.number_of(name) {
             Some(key) => Ok(key),
@@ -243,7 +240,9 @@ impl Reader {
     fn has_room_for(&self, units: u32, sectors: u32) -> bool
         requires units { units ≤ max_bio_units }
         requires sectors { sectors ≤ 8 }
-        ensures test { result ≡ (nat_le (units * sectors) max_bio_sectors && (nat_le (sum_by units_of_section (sections_read self.now) + units) max_units && nat_lt (sum_by length (sections_read self.now)) max_ops)) }
+        ensures test { result ≡ (nat_le (units * sectors) max_bio_sectors
+            && (nat_le (sum_by unit_count_of_section (sections_read self.now) + units) max_units
+            && nat_lt (sum_by length (sections_read self.now)) max_ops)) }
         ensures rules { IsProgress self.now }
     {
         units * sectors <= MAX_BIO_SECTORS && self.units + units <= MAX_UNITS && self.has_room()
@@ -257,18 +256,18 @@ impl Reader {
         self.ops < MAX_OPS
     }
 
-    fn evict(&self, name: &[u8]) -> Result<Item, Unread>
-        ensures { MatchResult result (IsSaid self.now (forms.Evict name.now)) (Tells (tests_of (forms_read self.now) (forms.Evict name.now))) }
+    fn evict(&self, name: &[u8]) -> Result<Statement, Unread>
+        ensures { ReadsForm self.now (forms.Evict name.now) result }
     {
-        let key = self.declared(name)?;
+        let key = self.declared_key(name)?;
         if !self.has_room() {
             return Err(Unread::Bad(ScriptWhy::Limit));
         }
-        Ok(Item::Operation(Op::Evict(key)))
+        Ok(Statement::Operation(Op::Evict(key)))
     }
 
-    fn plug(&self) -> Result<Item, Unread>
-        ensures { MatchResult result (IsSaid self.now (forms.Plug)) (Tells (tests_of (forms_read self.now) (forms.Plug))) }
+    fn plug(&self) -> Result<Statement, Unread>
+        ensures { ReadsForm self.now forms.Plug result }
     {
         if self.plugged {
             return Err(Unread::Bad(ScriptWhy::Order));
@@ -276,11 +275,11 @@ impl Reader {
         if !self.has_room() {
             return Err(Unread::Bad(ScriptWhy::Limit));
         }
-        Ok(Item::Operation(Op::Plug))
+        Ok(Statement::Operation(Op::Plug))
     }
 
-    fn unplug(&self) -> Result<Item, Unread>
-        ensures { MatchResult result (IsSaid self.now (forms.Unplug)) (Tells (tests_of (forms_read self.now) (forms.Unplug))) }
+    fn unplug(&self) -> Result<Statement, Unread>
+        ensures { ReadsForm self.now forms.Unplug result }
     {
         if !self.plugged {
             return Err(Unread::Bad(ScriptWhy::Order));
@@ -288,75 +287,33 @@ impl Reader {
         if !self.has_room() {
             return Err(Unread::Bad(ScriptWhy::Limit));
         }
-        Ok(Item::Operation(Op::Unplug))
+        Ok(Statement::Operation(Op::Unplug))
     }
 
-    fn end(&self) -> Result<Item, Unread>
-        ensures { MatchResult result (IsSaid self.now (forms.End)) (Tells (tests_of (forms_read self.now) (forms.End))) }
+    fn end(&self) -> Result<Statement, Unread>
+        ensures { ReadsForm self.now forms.End result }
     {
         if self.plugged {
             return Err(Unread::Bad(ScriptWhy::Order));
         }
-        Ok(Item::End)
+        Ok(Statement::End)
     }
 }
 
-fn disk(blocks: &[u8]) -> Result<Item, Unread>
-    ensures { MatchResult result (λ item. (n : ℕ) × (item ≡ items.Disk n) × SaysNumber 1 16384 blocks.now n) (Refuses (is_number 1 16384 blocks.now) why.Number) }
+fn disk(blocks: &[u8]) -> Result<Statement, Unread>
+    ensures { MatchResult result
+        (λ statement. (n : ℕ) × (statement ≡ statements.Disk n) × SaysNumber 1 max_blocks blocks.now n)
+        (Refuses (is_number 1 max_blocks blocks.now) why.Number) }
 {
-    Ok(Item::Disk(number(blocks, 1, 16384)?))
-}
-
-/// The number that a field says, if it is one of these.
-fn number(field: &[u8], least: u32, most: u32) -> Result<u32, Unread>
-    ensures { MatchResult result (SaysNumber least most field.now) (Refuses (is_number least most field.now) why.Number) }
-{
-    match field::number(field, least, most) {
-        Some(number) => Ok(number),
-        None => Err(Unread::Bad(ScriptWhy::Number)),
-    }
-}
-
-/// The number of a bio's first data unit, of which it has none where the field is `-`.
-fn bio_number(field: &[u8]) -> Result<Option<Dun>, Unread>
-    ensures { MatchResult result (SaysNumberField field.now) (Refuses (bytes_eq field.now dash || is_number_text field.now) why.Number) }
-{
-    if field == b"-".as_slice() {
-        return Ok(None);
-    }
-    match field::data_unit_number(field) {
-        Some(number) => Ok(Some(number)),
-        None => Err(Unread::Bad(ScriptWhy::Number)),
-    }
+    Ok(Statement::Disk(field::number(blocks, 1, MAX_BLOCKS)?))
 }
 
 /// A key and a number make a context.
-fn context_of(key: Option<KeyNo>, dun: Option<Dun>) -> Option<Context>
+fn context_with(key: Option<KeyNo>, dun: Option<Dun>) -> Option<Context>
     ensures { result ≡ context_with key dun }
 {
     match (key, dun) {
         (Some(key), Some(dun)) => Some(Context { key, dun }),
         _ => None,
-    }
-}
-
-/// What a write writes, which has so many bytes.
-fn text_of(alloc: Global, form: TextForm, size: usize) -> Result<Text, Unread>
-    ensures { MatchResult result (SaysText size (text_lent form.entry)) (Refuses (is_text size (text_lent form.entry)) why.Hex) }
-{
-    match form {
-        TextForm::Fill(digits) => match field::fill_byte(digits) {
-            Some(byte) => Ok(Text::Fill(byte)),
-            None => Err(Unread::Bad(ScriptWhy::Hex)),
-        },
-        TextForm::Hex(digits) => {
-            if size == 0 {
-                return Err(Unread::Bad(ScriptWhy::Hex));
-            }
-            match field::hex_bytes(alloc, digits, size)? {
-                Some(bytes) => Ok(Text::Bytes(bytes)),
-                None => Err(Unread::Bad(ScriptWhy::Hex)),
-            }
-        }
     }
 }

@@ -1,10 +1,11 @@
-use Rattle.std.proofs.Common.{List, ℕ, ◌-◌, length}
+use Rattle.std.proofs.Common.{List, ℕ, ◌≡◌, ◌-◌, ◌<◌, length}
 use Rattle.bc_aes.specs.Cipher.{after_inv_round}
-use Rattle.bc_aes.specs.Slices.{slices_of, EachSlicedBlock}
-use Rattle.bc_aes.specs.SlicedRounds.{AreRoundKeys}
+use Rattle.bc_aes.specs.Slices.{slices_of, block_of}
+use Rattle.bc_aes.specs.SlicedRounds.{raised, AreRoundKeys}
 use Rattle.bc_aes.proofs.eight.deciphered.Given as goal
 
+-- the state has the constant
 abbrev pub invariant-loop-before : goal.invariant-loop-before
 invariant-loop-before l =
-    (schedule : List ℕ) → AreRoundKeys schedule l.keys
-    → EachSlicedBlock (λ block. after_inv_round (length l.keys - 1) schedule block l.before) (slices_of l.fn.q) (slices_of l.state)
+    (schedule : List ℕ) → AreRoundKeys schedule l.keys → (k : ℕ) → k < 8
+    → raised (block_of (slices_of l.state) k) ≡ after_inv_round (length l.keys - 1) schedule (block_of (slices_of l.fn.q) k) l.before

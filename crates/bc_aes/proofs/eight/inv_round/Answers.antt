@@ -1,17 +1,18 @@
 use Rattle.std.proofs.Common.{List, ℕ, ap, ◌∙◌}
-use Rattle.bc_aes.specs.State.{inv_sub_bytes, inv_mix_columns, add_round_key}
-use Rattle.bc_aes.specs.Cipher.{inv_round}
+use Rattle.bc_aes.specs.State.{inv_mix_columns, add_round_key}
 use Rattle.bc_aes.specs.Slices.{slices_of, block_of}
+use Rattle.bc_aes.specs.SlicedRounds.{bare_inv_sub_bytes}
+use Rattle.bc_aes.proofs.FoldLemmas.{inv_round-raised}
 use Rattle.bc_aes.proofs.eight.inv_round.Goals as goal
 
 pub returns : goal.returns
-unfolding inv_round
 returns c = record {
   goes_on = record {
     each = λ k h. c.inv_mix_columns.ensures.unmixes.each k h
         ∙ ap (λ (s : List ℕ). inv_mix_columns s)
         (c.add.ensures.adds.each k h
         ∙ ap (λ (s : List ℕ). add_round_key s (block_of (slices_of c.args.key) k))
-        (c.inv_sub_bytes.ensures.substitutes.each k h ∙ ap inv_sub_bytes (c.inv_shift_rows.ensures.shifts_back.each k h)));
+        (c.inv_sub_bytes.ensures.substitutes.each k h ∙ ap bare_inv_sub_bytes (c.inv_shift_rows.ensures.shifts_back.each k h)))
+        ∙ inv_round-raised (slices_of c.args.q) k (block_of (slices_of c.args.key) k);
   };
 }

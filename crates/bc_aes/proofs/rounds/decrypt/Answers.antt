@@ -9,7 +9,7 @@ returns c =
     let words : List ℕ = c.args.schedule.now in
     let before : length words / 4 - 2 ≡ length words / 4 - 1 - 1 = omega arith in
     record {
-      deciphers = c.store.ensures.holds ∙ c.final_inv_round.ensures.ends
+      deciphers = c.store.ensures.holds ∙ c.inv_last_round.ensures.ends
           ∙ ap₂ (λ (s k : List ℕ). inv_last_round s k)
           (c.unmixing_rounds-state.ensures.goes_on ∙ ap (λ (n : ℕ). after_inv_round (length words / 4 - 1) (schedule_bytes words) c.args.block.now n) before)
           c.key_of_round.ensures.holds;

@@ -12,5 +12,5 @@ loop-before-init c =
 
 pub loop-before-preserved : goal.loop-before-preserved
 loop-before-preserved c =
-    c.whole_round-next.ensures.goes_on ∙ ap₂ (λ (s k : List ℕ). round s k) c.loop-before.invariant c.key_of_round-key.ensures.holds
+    c.round-next.ensures.goes_on ∙ ap₂ (λ (s k : List ℕ). round s k) c.loop-before.invariant c.key_of_round-key.ensures.holds
     ∙ sym (after_round-more (schedule_bytes c.args.schedule.now) c.args.block.now c.loop-before.before)

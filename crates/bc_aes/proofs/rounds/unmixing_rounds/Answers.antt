@@ -14,7 +14,7 @@ loop-before-preserved c =
     let words : List ℕ = c.args.schedule.now in
     let last : ℕ = length words / 4 - 1 in
     let key : ℕ = last - (c.loop-before.before + 1) in
-    c.whole_inv_round-next.ensures.goes_on
+    c.equivalent_inv_round-next.ensures.goes_on
     ∙ ap₂ (λ (s k : List ℕ). add_round_key (inv_mix_columns (inv_sub_bytes (inv_shift_rows s))) k)
     c.loop-before.invariant
     (c.key_of_round-key.ensures.holds ∙ round_key-unmixed words c.args.unmixed_schedule.now key c.requires.unmixed (omega arith) (omega arith))

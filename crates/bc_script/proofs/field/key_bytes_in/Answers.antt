@@ -15,4 +15,4 @@ returns-in_err-bytes_into c =
 pub returns : goal.returns
 returns c =
     let count : length c.bytes_into.new.out ≡ length c.args.field.now / 2 = grind (arith, c.split_at_mut-bytes.ensures.front_len) in
-    rw c.kept.ensures (said_bytes 1 128 c.args.field.now c.bytes_into.new.out c.in_ok-bytes_into.ensures.0 c.in_ok-bytes_into.ensures.1 (omega arith) (omega arith))
+    rw c.in-Ok.ensures.0 (said_bytes 1 128 c.args.field.now c.bytes_into.new.out c.in_ok-bytes_into.ensures.0 c.in_ok-bytes_into.ensures.1 (omega arith) (omega arith))

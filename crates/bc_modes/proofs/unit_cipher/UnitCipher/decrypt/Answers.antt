@@ -1,4 +1,5 @@
-use Rattle.std.proofs.Common.{◌∙◌, sym, ap}
+use Rattle.std.proofs.Common.{◌≡◌, length, ◌∙◌, sym, ap, subst}
+use Rattle.bc_key.specs.KeyData.{key_size}
 use Rattle.bc_modes.specs.declared.unit_cipher.Schedules.{Schedules}
 use Rattle.bc_modes.specs.Schedules.{mode_of, raw_of}
 use Rattle.bc_modes.specs.UnitCipher.{CipherParts, decipher_unit}
@@ -10,6 +11,7 @@ returns-in-Xts c =
     let dun = c.args.dun.now in
     let text = c.args.text.now in
     record {
+      size = subst (λ (parts : CipherParts). length parts.raw ≡ key_size parts.mode) c.self.view_is c.self.invariant;
       deciphers =
           c.decrypt.ensures ∙ ap (λ (s : Schedules). decipher_unit (mode_of s) (raw_of s) dun text) (sym c.in-Xts.is)
           ∙ ap (λ (parts : CipherParts). decipher_unit parts.mode parts.raw dun text) c.self.view_is;
@@ -21,6 +23,7 @@ returns-in-Essiv c =
     let dun = c.args.dun.now in
     let text = c.args.text.now in
     record {
+      size = subst (λ (parts : CipherParts). length parts.raw ≡ key_size parts.mode) c.self.view_is c.self.invariant;
       deciphers =
           c.decrypt-in-Essiv.ensures ∙ ap (λ (s : Schedules). decipher_unit (mode_of s) (raw_of s) dun text) (sym c.in-Essiv.is)
           ∙ ap (λ (parts : CipherParts). decipher_unit parts.mode parts.raw dun text) c.self.view_is;

@@ -1,9 +1,9 @@
 use Rattle.std.proofs.Common.{◌≡◌, true, subst, sym, arith}
 use Rattle.bc_script.specs.declared.sort.Sort.TheVariants as sorts
-use Rattle.bc_script.specs.Forms.{may_follow}
+use Rattle.bc_script.specs.Order.{may_follow}
 use Rattle.bc_script.specs.Progress.{Progress}
-use Rattle.bc_script.specs.Items.{FitsKey}
-use Rattle.bc_script.proofs.Readings.{few_lines, reading_key, added_is}
+use Rattle.bc_script.specs.Statements.{FitsKey}
+use Rattle.bc_script.proofs.Readings.{few_lines, reading_key}
 use Rattle.bc_script.proofs.reader.Reader.add_key.Goals as goal
 
 pub overflow_add-self : goal.overflow_add-self
@@ -15,5 +15,5 @@ invariant_of-self-2 c =
     let back = sym c.self.view_is in
     let follows = subst (λ (p : Progress). may_follow p.last sorts.Key ≡ true) back c.requires.follows in
     let fits = subst (λ (p : Progress). FitsKey p c.args.named) back c.requires.fits in
-    rw (added_is here.keys c.add.new.self c.args.named c.in_ok-add.field-0 c.in_ok-add.ensures.added c.in_ok-add.ensures.taken fits.fresh)
+    rw c.in_ok-add.ensures.ok
     (reading_key _ here.lines here.ops here.units here.plugged c.self.invariant c.args.named follows fits)

@@ -1,8 +1,8 @@
 use Rattle.std.proofs.Common.{◌≡◌, true, subst, sym, arith}
 use Rattle.bc_script.specs.declared.sort.Sort.TheVariants as sorts
-use Rattle.bc_script.specs.Forms.{may_follow}
+use Rattle.bc_script.specs.Order.{may_follow}
 use Rattle.bc_script.specs.Progress.{Progress}
-use Rattle.bc_script.specs.Items.{FitsOp}
+use Rattle.bc_script.specs.Statements.{FitsOp}
 use Rattle.bc_script.proofs.Readings.{few_lines, may_plug, reading_op}
 use Rattle.bc_script.proofs.reader.Reader.add_operation.Goals as goal
 

@@ -27,4 +27,4 @@ returns-in_err-dun c =
 
 pub returns : goal.returns
 returns c =
-    says_bio c.args.self.now (bio_lent c.args.form.now) c.in_ok-key.key c.in_ok-dun.dun c.context_of.result c.in_ok-sector.sector c.in_ok-units.units c.requires.dashes c.in_ok-key.ensures c.in_ok-sector.ensures c.in_ok-units.ensures c.in_ok-dun.ensures c.context_of.ensures
+    says_bio c.args.self.now (bio_lent c.args.form.now) c.in_ok-key.key c.in_ok-dun.dun c.context_with.result c.in_ok-sector.sector c.in_ok-units.units c.requires.dashes c.in_ok-key.ensures c.in_ok-sector.ensures c.in_ok-units.ensures c.in_ok-dun.ensures c.context_with.ensures

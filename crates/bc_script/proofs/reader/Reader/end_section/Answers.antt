@@ -1,7 +1,7 @@
 use Rattle.std.proofs.Common.{◌≡◌, ◌∙◌, ◌++◌, Bool, true, subst, sym, ap, arith}
-use Rattle.bc_script.specs.Forms.{may_follow}
+use Rattle.bc_script.specs.Order.{may_follow}
 use Rattle.bc_script.specs.Progress.{Progress, with_section}
-use Rattle.bc_script.specs.Items.{IsClosed, HasRoomFor}
+use Rattle.bc_script.specs.Statements.{IsClosed, HasRoomFor}
 use Rattle.bc_script.specs.Reading.{left_section}
 use Rattle.bc_script.proofs.Readings.{few_lines, reading_ended, none_left}
 use Rattle.bc_script.proofs.reader.Reader.end_section.Goals as goal

@@ -1,7 +1,9 @@
 use Rattle.std.proofs.Common.{◌≡◌, ◌∙◌, ◌&&◌, Bool, false, sym, ap}
-use Rattle.bc_script.specs.ScriptErrors.{is_end, is_nothing}
+use Rattle.bc_script.specs.ScriptErrors.{is_end}
+use Rattle.bc_text.specs.Lines.{is_nothing}
+use Rattle.bc_text.proofs.LineLaws.{nothing_at}
 use Rattle.bc_script.proofs.Refusals.{and_no}
-use Rattle.bc_script.proofs.Readings.{fails_at_end, passes_at_end, is_nothing_at, and_both}
+use Rattle.bc_script.proofs.Readings.{fails_at_end, passes_at_end, and_both}
 use Rattle.bc_script.proofs.reader.Reader.finish.Goals as goal
 use Rattle.bc_script.proofs.reader.Reader.finish.Goals.{then-not-is_end-via-then-not-is_end, then-not-is_end-via-else-not-is_end+then-not-is_nothing}
 
@@ -22,6 +24,6 @@ returns-clause-ok c =
     record {
       valid = c.into_script.ensures.valid;
       lines = c.into_script.ensures.lines;
-      rest_is = is_nothing_at c.args.rest empty;
+      rest_is = nothing_at c.args.rest empty;
       passes = passes_at_end c.args.self c.last_sort.ensures.rules c.args.rest c.last_sort.result c.last_sort.ensures.value (and_both _ _ ended empty);
     }

@@ -1,0 +1,155 @@
+-- What one line states: the line that states it, whether it fits after the lines that have been read, and what is read with it.
+-- The contracts of private functions speak of this; no public one does.
+use Rattle.std.specs.Prelude.{◌≡◌, ◌+◌, ◌<◌, ◌≤◌, Bool, true, false, List, [], ◌∷◌, ◌++◌, codes, length, sum_by, Some, IsSome, Result, MatchResult, ⊤}
+use Rattle.bc_text.specs.Lines.{Line}
+use Rattle.bc_script.specs.declared.op.Op.{Op}
+use Rattle.bc_script.specs.declared.sort.Sort.{Sort}
+use Rattle.bc_script.specs.declared.sort.Sort.TheVariants as sorts
+use Rattle.bc_script.specs.declared.script_error.ScriptWhy.{ScriptWhy}
+use Rattle.bc_script.specs.declared.statement.Statement.{Statement}
+use Rattle.bc_script.specs.declared.statement.Statement.TheVariants as statements
+use Rattle.bc_script.specs.declared.statement.Unread.{Unread}
+use Rattle.bc_script.specs.declared.statement.Unread.TheVariants as unread
+use Rattle.bc_script.specs.declared.named_key.NamedKey.{NamedKey}
+use Rattle.bc_script.specs.Script.{IsDiskSize, IsNamedKey, IsOp, bare_keys, open_after, unit_count, unit_count_of_section, max_keys, max_threads, max_ops, max_units}
+use Rattle.bc_script.specs.ScriptText.{version_line, disk_line, fallback_line, key_line, thread_line, op_line, end_line, mode_text}
+use Rattle.bc_script.specs.Forms.{Form, Version, Disk, Fallback, Key, Thread, Write, Read, Evict, Reset, Plug, Unplug, End, TextForm, Fill, Hex, sort_of, dashes_agree}
+use Rattle.bc_script.specs.Order.{may_follow}
+use Rattle.bc_script.specs.ScriptErrors.{Why, tests_of}
+use Rattle.bc_script.specs.NamedKeys.{IsNoName}
+use Rattle.bc_script.specs.Progress.{Progress, IsProgress, forms_read, sections_read}
+
+-- ---- lines by their forms
+
+-- the last two fields of a write's line
+abbrev pub text_line : TextForm → Line
+text_line (Fill digits) = codes "fill" ∷ digits ∷ []
+text_line (Hex digits) = codes "hex" ∷ digits ∷ []
+
+-- the one line that has this form
+abbrev pub form_line : Form → Line
+form_line Version = codes "blkcrypt" ∷ codes "1" ∷ []
+form_line (Disk blocks) = codes "disk" ∷ blocks ∷ []
+form_line Fallback = codes "fallback" ∷ codes "on" ∷ []
+form_line (Key key) = codes "key" ∷ key.name ∷ mode_text key.mode ∷ key.unit ∷ key.dun_bytes ∷ key.digits ∷ []
+form_line Thread = codes "thread" ∷ []
+form_line (Write bio text) = codes "write" ∷ bio.key ∷ bio.sector ∷ bio.units ∷ bio.number ∷ text_line text
+form_line (Read bio) = codes "read" ∷ bio.key ∷ bio.sector ∷ bio.units ∷ bio.number ∷ []
+form_line (Evict key) = codes "evict" ∷ key ∷ []
+form_line (Reset device) = codes "reset" ∷ device ∷ []
+form_line Plug = codes "plug" ∷ []
+form_line Unplug = codes "unplug" ∷ []
+form_line End = codes "end" ∷ []
+
+-- ---- items
+
+-- the line that states it
+abbrev pub line_of : List NamedKey → Statement → Line
+line_of keys statements.Version = version_line
+line_of keys (statements.Disk blocks) = disk_line blocks
+line_of keys statements.Fallback = fallback_line true
+line_of keys (statements.Key named) = key_line named
+line_of keys statements.Thread = thread_line
+line_of keys (statements.Operation op) = op_line keys op
+line_of keys statements.End = end_line
+
+-- what its line is for
+abbrev pub sort_of_statement : Statement → Sort
+sort_of_statement statements.Version = sorts.Version
+sort_of_statement (statements.Disk blocks) = sorts.Disk
+sort_of_statement statements.Fallback = sorts.Fallback
+sort_of_statement (statements.Key named) = sorts.Key
+sort_of_statement statements.Thread = sorts.Thread
+sort_of_statement (statements.Operation op) = sorts.Operation
+sort_of_statement statements.End = sorts.End
+
+-- a valid key with a new name, of which there is room for one more
+pub record FitsKey (p : Progress) (named : NamedKey) : Type 0 where
+  pub valid : IsNamedKey named
+  pub fresh : IsNoName p.keys named.name
+  pub room : length p.keys < max_keys
+
+-- a valid operation, which opens no plug twice and closes none that isn't open, and for which there is room
+pub record FitsOp (p : Progress) (op : Op) : Type 0 where
+  pub valid : IsOp (bare_keys p.keys) op
+  pub plugs : IsSome (open_after false (p.section ++ op ∷ []))
+  pub room : sum_by length (sections_read p) < max_ops
+  pub units : sum_by unit_count_of_section (sections_read p) + unit_count op ≤ max_units
+
+-- each plug of the section that is being read is closed
+abbrev pub IsClosed : Progress → Type 0
+IsClosed p = open_after false p.section ≡ Some false
+
+-- a line of this sort ends the section above it
+abbrev pub EndsSection : Sort → Type 0
+EndsSection sorts.Thread = ⊤
+EndsSection sorts.End = ⊤
+EndsSection _ = ⊥
+
+-- there is room for one more section, where one begins
+abbrev pub HasRoomFor : Progress → Sort → Type 0
+HasRoomFor p sorts.Thread = length (sections_read p) < max_threads
+HasRoomFor p _ = ⊤
+
+-- it fits after what has been read
+abbrev pub Fits : Progress → Statement → Type 0
+Fits p statements.Version = ⊤
+Fits p (statements.Disk blocks) = IsDiskSize blocks
+Fits p statements.Fallback = ⊤
+Fits p (statements.Key named) = FitsKey p named
+Fits p statements.Thread = IsClosed p × (length (sections_read p) < max_threads)
+Fits p (statements.Operation op) = FitsOp p op
+Fits p statements.End = IsClosed p
+
+-- the section that is being read has ended, with a line of this sort
+abbrev pub with_section_ended : Progress → Sort → Progress
+with_section_ended p sort = record { last = Some sort; blocks = p.blocks; keys = p.keys; threads = sections_read p; section = [] }
+
+-- what has been read with the statement
+abbrev pub with_statement : Progress → Statement → Progress
+with_statement p statements.Version = record p { last = Some sorts.Version }
+with_statement p (statements.Disk blocks) = record p { last = Some sorts.Disk; blocks = blocks }
+with_statement p statements.Fallback = record p { last = Some sorts.Fallback }
+with_statement p (statements.Key named) = record p { last = Some sorts.Key; keys = p.keys ++ named ∷ [] }
+with_statement p statements.Thread = with_section_ended p sorts.Thread
+with_statement p (statements.Operation op) = record p { last = Some sorts.Operation; section = p.section ++ op ∷ [] }
+with_statement p statements.End = with_section_ended p sorts.End
+
+-- a line of this form makes the statement, which fits after what has been read
+pub record IsStatementOf (p : Progress) (form : Form) (statement : Statement) : Type 0 where
+  pub line_is : form_line form ≡ line_of p.keys statement
+  pub sort_is : sort_of form ≡ sort_of_statement statement
+  pub fits : Fits p statement
+
+-- the line makes the statement, which may stand after what has been read and fits
+pub record IsNext (p : Progress) (line : Line) (statement : Statement) : Type 0 where
+  pub rules : IsProgress p
+  pub line_is : line ≡ line_of p.keys statement
+  pub follows : may_follow p.last (sort_of_statement statement) ≡ true
+  pub fits : Fits p statement
+
+-- `-` stands for the key exactly where it stands for the number
+abbrev pub DashesAgree : Form → Type 0
+DashesAgree (Write bio text) = dashes_agree bio ≡ true
+DashesAgree (Read bio) = dashes_agree bio ≡ true
+DashesAgree _ = ⊤
+
+-- ---- refusals
+
+-- a line is not read since it fails this test, or since there was no memory
+abbrev pub Reports : Why → Unread → Type 0
+Reports why (unread.Bad kind) = why ≡ Some kind
+Reports why unread.Memory = ⊤
+
+-- the same of one test alone
+abbrev pub Refuses : Bool → ScriptWhy → Unread → Type 0
+Refuses passed kind (unread.Bad why) = (passed ≡ false) × (why ≡ kind)
+Refuses passed kind unread.Memory = ⊤
+
+-- a line of this form is read as the statement that it makes, or refused by the first test that it fails
+abbrev pub ReadsForm : Progress → Form → Result Statement Unread → Type 0
+ReadsForm p form r = MatchResult r (IsStatementOf p form) (Reports (tests_of (forms_read p) form))
+
+-- a field that passes its test is read as this value, and another is refused as this kind
+abbrev pub ReadsField : {X : Type 0} → (X → Type 0) → Bool → ScriptWhy → Result X Unread → Type 0
+ReadsField Says passed kind r = MatchResult r Says (Refuses passed kind)

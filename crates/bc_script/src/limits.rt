@@ -1,0 +1,46 @@
+//! The limits of the script language, and of what a script is carried out with.
+
+/// The most bytes of a script's text: 16 MiB.
+pub const MAX_TEXT: u64 = 16777216;
+
+/// The most blocks of a disk, which has one at least.
+pub const MAX_BLOCKS: u32 = 16384;
+
+/// The most devices of a script.
+pub const MAX_DEVICES: usize = 8;
+
+/// The most keyslots of a device.
+pub const MAX_SLOTS: usize = 32;
+
+/// The most keys of a script.
+pub const MAX_KEYS: usize = 4096;
+
+/// The most bytes of a key's name.
+pub const MAX_NAME: usize = 16;
+
+/// The most bytes of a key that are read. A key has 16 or 64, and one with another number of bytes is refused as a key.
+pub const MAX_KEY_BYTES: usize = 128;
+
+/// The most fault lines of a script.
+pub const MAX_FAULTS: usize = 1024;
+
+/// The most shards of a disk, which has one at least.
+pub const MAX_SHARDS: usize = 64;
+
+/// The most sections of a script.
+pub const MAX_THREADS: usize = 16;
+
+/// The most operations of all sections together.
+pub const MAX_OPS: u32 = 65536;
+
+/// The most data units of all bios together.
+pub const MAX_UNITS: u32 = 65536;
+
+/// The most data units of a bio.
+pub const MAX_BIO_UNITS: u32 = 256;
+
+/// The most sectors of a bio, in all its data units together.
+pub const MAX_BIO_SECTORS: u32 = 256;
+
+/// The most bios that a plug holds.
+pub const MAX_PLUGGED: usize = 64;
