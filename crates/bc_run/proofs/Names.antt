@@ -3,7 +3,7 @@ use Rattle.std.proofs.Common.{◌≡◌, ℕ, zero, suc, ◌+◌, ◌<◌, ◌�
 use Rattle.std.specs.Prelude.{◌==◌, ◌&&◌, find, flat_map, is_none, slice_index_or}
 use Rattle.std.specs.List.{range_with_len, enumerate_from, AllByRecursion}
 use Rattle.std.proofs.lemmas.Bool.{eq-eqb, ne_eqb, and_left, and_right}
-use Rattle.bc_bio.specs.declared.bio.Access.TheVariants as access
+use Rattle.bc_bio.specs.declared.access.Access.TheVariants as access
 use Rattle.bc_bio.specs.declared.refusal.Refusal.{Refusal}
 use Rattle.bc_bio.specs.declared.extent.Extent.{Extent}
 use Rattle.bc_bio.specs.PlannedUnit.{PlannedUnit}
@@ -43,7 +43,7 @@ all_every P (x ∷ xs) f = (f x, all_every P xs f)
 
 -- one unit has another's name
 abbrev pub shares : PlannedUnit → PlannedUnit → Bool
-shares u v = (u.op == v.op) && (u.unit == v.unit)
+shares u v = (u.tag == v.tag) && (u.unit == v.unit)
 
 -- no later unit has the name of an earlier one
 abbrev pub Apart : List PlannedUnit → Type 0
@@ -65,12 +65,12 @@ module _ (keys : List KeyData) (op : ℕ) (operation : Op) (bio : Extent) where
   pub apart_bio : (first n : ℕ) → Apart (map (unit_at keys op operation bio) (range_with_len first n))
   apart_bio first zero = tt
   apart_bio first (suc n) = (
-    all_of (λ (u : PlannedUnit). first + 1 ≤ u.unit) (λ (u : PlannedUnit). ((op == u.op) && (first == u.unit)) ≡ false) (map (unit_at keys op operation bio) (range_with_len (first + 1) n))
-        (λ u low. and_right (op == u.op) (first == u.unit) (ne_eqb first u.unit (λ e. omega arith))) (later_units (first + 1) n),
+    all_of (λ (u : PlannedUnit). first + 1 ≤ u.unit) (λ (u : PlannedUnit). ((op == u.tag) && (first == u.unit)) ≡ false) (map (unit_at keys op operation bio) (range_with_len (first + 1) n))
+        (λ u low. and_right (op == u.tag) (first == u.unit) (ne_eqb first u.unit (λ e. omega arith))) (later_units (first + 1) n),
     apart_bio (first + 1) n,
   )
 
-  pub ops_bio : (first n : ℕ) → AllByRecursion (λ u. u.op ≡ op) (map (unit_at keys op operation bio) (range_with_len first n))
+  pub ops_bio : (first n : ℕ) → AllByRecursion (λ u. u.tag ≡ op) (map (unit_at keys op operation bio) (range_with_len first n))
   ops_bio first zero = tt
   ops_bio first (suc n) = (refl, ops_bio (first + 1) n)
 
@@ -99,28 +99,28 @@ by_bio P script op ops.Plug none some = none
 by_bio P script op ops.Unplug none some = none
 
 module _ (script : Script) where
-  pub ops_of : (op : ℕ) (operation : Op) → AllByRecursion (λ u. u.op ≡ op) (units_of script (op, operation))
+  pub ops_of : (op : ℕ) (operation : Op) → AllByRecursion (λ u. u.tag ≡ op) (units_of script (op, operation))
   ops_of op operation =
-      by_bio (AllByRecursion (λ u. u.op ≡ op)) script op operation tt (λ bio _ _. ops_bio (keys_of script) op operation bio 0 bio.units)
+      by_bio (AllByRecursion (λ u. u.tag ≡ op)) script op operation tt (λ bio _ _. ops_bio (keys_of script) op operation bio 0 bio.units)
 
   apart_of : (op : ℕ) (operation : Op) → Apart (units_of script (op, operation))
   apart_of op operation = by_bio Apart script op operation tt (λ bio _ _. apart_bio (keys_of script) op operation bio 0 bio.units)
 
-  pub later_ops : (op : ℕ) (section : List Op) → AllByRecursion (λ u. op ≤ u.op) (flat_map (units_of script) (enumerate_from op section))
+  pub later_ops : (op : ℕ) (section : List Op) → AllByRecursion (λ u. op ≤ u.tag) (flat_map (units_of script) (enumerate_from op section))
   later_ops op [] = tt
   later_ops op (operation ∷ section) =
-      all_append (λ (u : PlannedUnit). op ≤ u.op) (units_of script (op, operation)) (flat_map (units_of script) (enumerate_from (op + 1) section))
-      (all_of (λ (u : PlannedUnit). u.op ≡ op) (λ (u : PlannedUnit). op ≤ u.op) (units_of script (op, operation)) (λ u e. omega arith) (ops_of op operation))
-      (all_of (λ (u : PlannedUnit). op + 1 ≤ u.op) (λ (u : PlannedUnit). op ≤ u.op) (flat_map (units_of script) (enumerate_from (op + 1) section)) (λ u low. omega arith) (later_ops (op + 1) section))
+      all_append (λ (u : PlannedUnit). op ≤ u.tag) (units_of script (op, operation)) (flat_map (units_of script) (enumerate_from (op + 1) section))
+      (all_of (λ (u : PlannedUnit). u.tag ≡ op) (λ (u : PlannedUnit). op ≤ u.tag) (units_of script (op, operation)) (λ u e. omega arith) (ops_of op operation))
+      (all_of (λ (u : PlannedUnit). op + 1 ≤ u.tag) (λ (u : PlannedUnit). op ≤ u.tag) (flat_map (units_of script) (enumerate_from (op + 1) section)) (λ u low. omega arith) (later_ops (op + 1) section))
 
   apart_from : (op : ℕ) (section : List Op) → Apart (flat_map (units_of script) (enumerate_from op section))
   apart_from op [] = tt
   apart_from op (operation ∷ section) =
       let rest = flat_map (units_of script) (enumerate_from (op + 1) section) in
       apart_append (units_of script (op, operation)) rest (apart_of op operation) (apart_from (op + 1) section)
-      (all_of (λ (u : PlannedUnit). u.op ≡ op) (λ (u : PlannedUnit). AllByRecursion (λ v. shares u v ≡ false) rest) (units_of script (op, operation))
-      (λ u here. all_of (λ (v : PlannedUnit). op + 1 ≤ v.op) (λ (v : PlannedUnit). shares u v ≡ false) rest
-      (λ v low. and_left (u.op == v.op) (u.unit == v.unit) (ne_eqb u.op v.op (λ e. omega arith))) (later_ops (op + 1) section))
+      (all_of (λ (u : PlannedUnit). u.tag ≡ op) (λ (u : PlannedUnit). AllByRecursion (λ v. shares u v ≡ false) rest) (units_of script (op, operation))
+      (λ u here. all_of (λ (v : PlannedUnit). op + 1 ≤ v.tag) (λ (v : PlannedUnit). shares u v ≡ false) rest
+      (λ v low. and_left (u.tag == v.tag) (u.unit == v.unit) (ne_eqb u.tag v.tag (λ e. omega arith))) (later_ops (op + 1) section))
       (ops_of op operation))
 
   pub apart_section : (section : List Op) → Apart (units_of_section script section)
@@ -130,7 +130,7 @@ module _ (script : Script) where
 pub finds : (thread : ℕ) (us : List PlannedUnit) → Apart us → AllByRecursion (λ u. find (is_named (name_of thread u)) us ≡ Some u) us
 finds thread [] apart = tt
 finds thread (u ∷ us) apart = (
-  rw (eq-eqb u.op u.op refl, eq-eqb u.unit u.unit refl) refl,
+  rw (eq-eqb u.tag u.tag refl, eq-eqb u.unit u.unit refl) refl,
   all_both (λ (v : PlannedUnit). shares u v ≡ false) (λ (v : PlannedUnit). find (is_named (name_of thread v)) us ≡ Some v)
       (λ (v : PlannedUnit). find (is_named (name_of thread v)) (u ∷ us) ≡ Some v) us
       (λ v differs found. ap (λ (b : Bool). cond b (Some u) (find (is_named (name_of thread v)) us)) differs ∙ found)
@@ -171,7 +171,7 @@ apart_steps thread (us ∷ plan) apart =
     (all_map (λ (x : Step). AllByRecursion (λ y. is_same (name x) (name y) ≡ false) (steps_from (thread + 1) plan)) (λ (u : PlannedUnit). (thread, u)) us
     (all_every (λ (u : PlannedUnit). AllByRecursion (λ y. is_same (name_of thread u) (name y) ≡ false) (steps_from (thread + 1) plan)) us
     (λ u. all_of (λ (y : Step). thread + 1 ≤ y.0) (λ (y : Step). is_same (name_of thread u) (name y) ≡ false) (steps_from (thread + 1) plan)
-    (λ y low. and_left ((thread == y.0) && (u.op == y.1.op)) (u.unit == y.1.unit) (and_left (thread == y.0) (u.op == y.1.op) (ne_eqb thread y.0 (λ e. omega arith))))
+    (λ y low. and_left ((thread == y.0) && (u.tag == y.1.tag)) (u.unit == y.1.unit) (and_left (thread == y.0) (u.tag == y.1.tag) (ne_eqb thread y.0 (λ e. omega arith))))
     (later_threads (thread + 1) plan))))
 
 -- each step's name finds its unit in the plan

@@ -12,8 +12,8 @@ use Rattle.bc_key.specs.DataUnits as data_units
 use Rattle.bc_key.specs.KeyData.{KeyData, IsValid}
 use Rattle.bc_key.specs.KeyList.{key_at}
 use Rattle.bc_modes.specs.UnitCipher.{enc}
-use Rattle.bc_bio.specs.declared.bio.Access.TheVariants.{Read, Write}
-use Rattle.bc_bio.specs.declared.bio.Context.{Context}
+use Rattle.bc_bio.specs.declared.access.Access.TheVariants.{Read, Write}
+use Rattle.bc_bio.specs.declared.context.Context.{Context}
 use Rattle.bc_bio.specs.declared.refusal.BioError.TheVariants as errors
 use Rattle.bc_bio.specs.declared.refusal.Refusal.TheVariants as refusals
 use Rattle.bc_bio.specs.declared.extent.Extent.{Extent}

@@ -7,7 +7,7 @@ use Rattle.std.proofs.lemmas.Bool.{eq-eqb, ne_eqb, eqb-true, and_parts}
 use Rattle.std.proofs.lemmas.List.{map-append}
 use Rattle.std.proofs.lemmas.List.Elements.{filter-append}
 use Rattle.bc_key.specs.KeyData.{KeyData}
-use Rattle.bc_bio.specs.declared.bio.Access.TheVariants as access
+use Rattle.bc_bio.specs.declared.access.Access.TheVariants as access
 use Rattle.bc_bio.specs.declared.extent.Extent.{Extent}
 use Rattle.bc_bio.specs.PlannedUnit.{PlannedUnit}
 use Rattle.bc_script.specs.declared.op.Op.{Op}
@@ -105,7 +105,7 @@ tells run keys disk [] apart are = tt
 tells run keys disk (step ∷ steps) apart are =
     let answer = (accessed step.1.access keys disk step.1).answer in
     let next = (accessed step.1.access keys disk step.1).disk in
-    let itself : is_same (name step) (name step) ≡ true = rw (eq-eqb step.0 step.0 refl, eq-eqb step.1.op step.1.op refl, eq-eqb step.1.unit step.1.unit refl) refl in (
+    let itself : is_same (name step) (name step) ≡ true = rw (eq-eqb step.0 step.0 refl, eq-eqb step.1.tag step.1.tag refl, eq-eqb step.1.unit step.1.unit refl) refl in (
       are.0 ∙ ap (λ (t : Bool). option_map (λ (at : UnitName × UnitAnswer). at.1) (cond t (Some (name step, answer)) (find (λ (at : UnitName × UnitAnswer). is_same at.0 (name step)) (trace keys next steps)))) itself,
       tells run keys next steps apart.1
           (all_both (λ (other : Step). is_same (name step) (name other) ≡ false)
@@ -134,16 +134,16 @@ told_units run keys disk thread (u ∷ us) all =
 
 -- ---- the units of one operation among its section's
 
-ops_same : (op : ℕ) (us : List PlannedUnit) → AllByRecursion (λ u. u.op ≡ op) us → filter (λ u. u.op == op) us ≡ us
+ops_same : (op : ℕ) (us : List PlannedUnit) → AllByRecursion (λ u. u.tag ≡ op) us → filter (λ u. u.tag == op) us ≡ us
 ops_same op [] all = refl
 ops_same op (u ∷ us) all =
-    ap (λ (t : Bool). cond t (u ∷ filter (λ v. v.op == op) us) (filter (λ v. v.op == op) us)) (eq-eqb u.op op all.0)
+    ap (λ (t : Bool). cond t (u ∷ filter (λ v. v.tag == op) us) (filter (λ v. v.tag == op) us)) (eq-eqb u.tag op all.0)
     ∙ ap (λ (l : List PlannedUnit). u ∷ l) (ops_same op us all.1)
 
-ops_other : (op : ℕ) (us : List PlannedUnit) → AllByRecursion (λ u. u.op ≡ op → ⊥) us → filter (λ u. u.op == op) us ≡ []
+ops_other : (op : ℕ) (us : List PlannedUnit) → AllByRecursion (λ u. u.tag ≡ op → ⊥) us → filter (λ u. u.tag == op) us ≡ []
 ops_other op [] all = refl
 ops_other op (u ∷ us) all =
-    ap (λ (t : Bool). cond t (u ∷ filter (λ v. v.op == op) us) (filter (λ v. v.op == op) us)) (ne_eqb u.op op all.0)
+    ap (λ (t : Bool). cond t (u ∷ filter (λ v. v.tag == op) us) (filter (λ v. v.tag == op) us)) (ne_eqb u.tag op all.0)
     ∙ ops_other op us all.1
 
 module _ (script : Script) (run : Run) (thread : ℕ) (us : List PlannedUnit) (no_faults : (op : ℕ) → fault_of run thread op ≡ None) (own : slice_index_or run.plan thread [] ≡ us) where
@@ -151,14 +151,14 @@ module _ (script : Script) (run : Run) (thread : ℕ) (us : List PlannedUnit) (n
   keys = keys_of script
 
   -- an operation whose units have been told
-  op_answered : (op : ℕ) (disk : Sectors) (mine : List PlannedUnit) → filter (λ u. u.op == op) us ≡ mine → Tells run keys disk (steps_of thread mine)
+  op_answered : (op : ℕ) (disk : Sectors) (mine : List PlannedUnit) → filter (λ u. u.tag == op) us ≡ mine → Tells run keys disk (steps_of thread mine)
       → answered run thread op ≡ unit_answers keys disk mine
   op_answered op disk mine are all =
-      ap (λ (l : List PlannedUnit). filter_map (λ u. unit_answer run (name_of thread u)) (filter (λ u. u.op == op) l)) own
+      ap (λ (l : List PlannedUnit). filter_map (λ u. unit_answer run (name_of thread u)) (filter (λ u. u.tag == op) l)) own
       ∙ ap (filter_map (λ u. unit_answer run (name_of thread u))) are
       ∙ told_units run keys disk thread mine all
 
-  bio_answered : (op : ℕ) (operation : Op) (bio : Extent) (disk : Sectors) → filter (λ u. u.op == op) us ≡ units_of_bio script op operation bio
+  bio_answered : (op : ℕ) (operation : Op) (bio : Extent) (disk : Sectors) → filter (λ u. u.tag == op) us ≡ units_of_bio script op operation bio
       → Tells run keys disk (steps_of thread (units_of_bio script op operation bio))
       → option_map_or answers.Refused (refusal_of script bio) (told (without_fault bio.access (unit_answers keys disk (units_of_bio script op operation bio))))
       ≡ option_map_or answers.Refused (refusal_of script bio) (told (bio_answer run bio.access thread op))
@@ -168,7 +168,7 @@ module _ (script : Script) (run : Run) (thread : ℕ) (us : List PlannedUnit) (n
       ∙ ap (λ (o : Option ℕ). option_map_or answers.Refused (refusal_of script bio) (told (option_map_or (λ unit. Fault unit) o (without_fault bio.access (answered run thread op)))))
       (sym (no_faults op))
 
-  is_answer : (op : ℕ) (operation : Op) (disk : Sectors) → filter (λ u. u.op == op) us ≡ units_of script (op, operation)
+  is_answer : (op : ℕ) (operation : Op) (disk : Sectors) → filter (λ u. u.tag == op) us ≡ units_of script (op, operation)
       → Tells run keys disk (steps_of thread (units_of script (op, operation)))
       → IsAnswer script run thread (op, operation) (answer_over script disk (op, operation))
   is_answer op (ops.Write context sector units text) disk are all = bio_answered op (ops.Write context sector units text) (record { access = access.Write; context = context; sector = sector; units = units }) disk are all
@@ -180,7 +180,7 @@ module _ (script : Script) (run : Run) (thread : ℕ) (us : List PlannedUnit) (n
 
   -- the operations from this one on
   are_answers : (op : ℕ) (section : List Op) (disk : Sectors)
-      → ((later : ℕ) → op ≤ later → filter (λ u. u.op == later) us ≡ filter (λ u. u.op == later) (flat_map (units_of script) (enumerate_from op section)))
+      → ((later : ℕ) → op ≤ later → filter (λ u. u.tag == later) us ≡ filter (λ u. u.tag == later) (flat_map (units_of script) (enumerate_from op section)))
       → Tells run keys disk (steps_of thread (flat_map (units_of script) (enumerate_from op section)))
       → AllZip (IsAnswer script run thread) (enumerate_from op section) (answers_over script disk (enumerate_from op section))
   are_answers op [] disk same all = tt
@@ -188,19 +188,19 @@ module _ (script : Script) (run : Run) (thread : ℕ) (us : List PlannedUnit) (n
       let mine = units_of script (op, operation) in
       let rest = flat_map (units_of script) (enumerate_from (op + 1) section) in
       let parts : Tells run keys disk (steps_of thread mine ++ steps_of thread rest) = subst (Tells run keys disk) (map-append (λ (u : PlannedUnit). (thread, u)) mine rest) all in
-      let here : filter (λ (u : PlannedUnit). u.op == op) us ≡ mine =
+      let here : filter (λ (u : PlannedUnit). u.tag == op) us ≡ mine =
       same op (omega arith)
-      ∙ filter-append (λ (u : PlannedUnit). u.op == op) mine rest
-      ∙ ap (λ (l : List PlannedUnit). l ++ filter (λ (u : PlannedUnit). u.op == op) rest) (ops_same op mine (ops_of script op operation))
-      ∙ ap (λ (l : List PlannedUnit). mine ++ l) (ops_other op rest (all_of (λ (u : PlannedUnit). op + 1 ≤ u.op) (λ (u : PlannedUnit). u.op ≡ op → ⊥) rest (λ u low e. omega arith) (later_ops script (op + 1) section)))
+      ∙ filter-append (λ (u : PlannedUnit). u.tag == op) mine rest
+      ∙ ap (λ (l : List PlannedUnit). l ++ filter (λ (u : PlannedUnit). u.tag == op) rest) (ops_same op mine (ops_of script op operation))
+      ∙ ap (λ (l : List PlannedUnit). mine ++ l) (ops_other op rest (all_of (λ (u : PlannedUnit). op + 1 ≤ u.tag) (λ (u : PlannedUnit). u.tag ≡ op → ⊥) rest (λ u low e. omega arith) (later_ops script (op + 1) section)))
       ∙ append-nil mine in (
         is_answer op operation disk here (tells_first run keys disk (steps_of thread mine) (steps_of thread rest) parts),
         are_answers (op + 1) section (disk_after keys disk mine)
             (λ later low.
             same later (omega arith)
-            ∙ filter-append (λ (u : PlannedUnit). u.op == later) mine rest
-            ∙ ap (λ (l : List PlannedUnit). l ++ filter (λ (u : PlannedUnit). u.op == later) rest)
-            (ops_other later mine (all_of (λ (u : PlannedUnit). u.op ≡ op) (λ (u : PlannedUnit). u.op ≡ later → ⊥) mine (λ u e e'. omega arith) (ops_of script op operation))))
+            ∙ filter-append (λ (u : PlannedUnit). u.tag == later) mine rest
+            ∙ ap (λ (l : List PlannedUnit). l ++ filter (λ (u : PlannedUnit). u.tag == later) rest)
+            (ops_other later mine (all_of (λ (u : PlannedUnit). u.tag ≡ op) (λ (u : PlannedUnit). u.tag ≡ later → ⊥) mine (λ u e e'. omega arith) (ops_of script op operation))))
             (tells_rest run keys disk thread mine (steps_of thread rest) parts),
       )
 

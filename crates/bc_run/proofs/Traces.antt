@@ -8,8 +8,8 @@ use Rattle.std.proofs.Math.Logic.{⊎_elim}
 use Rattle.std.proofs.lemmas.Bool.{eq-eqb, ne_eqb, cases_eq, cases_lt, cases_Bool, and_parts, and_right, leb-true, ltb-true}
 use Rattle.std.proofs.lemmas.Option.{none-some}
 use Rattle.bc_key.specs.KeyData.{KeyData}
-use Rattle.bc_bio.specs.declared.bio.Access.{Access}
-use Rattle.bc_bio.specs.declared.bio.Access.TheVariants.{Read, Write}
+use Rattle.bc_bio.specs.declared.access.Access.{Access}
+use Rattle.bc_bio.specs.declared.access.Access.TheVariants.{Read, Write}
 use Rattle.bc_bio.specs.Extent.{unit_sectors}
 use Rattle.bc_bio.specs.PlannedUnit.{PlannedUnit}
 use Rattle.bc_run.specs.declared.orders.UnitName.{UnitName}

@@ -1,7 +1,7 @@
 -- The bios of a script's operations, and why one is refused. A bio that is held back by a plug is submitted at once for now.
 use Rattle.std.specs.Prelude.{Option, Some, None}
 use Rattle.std.specs.Option.{option_map}
-use Rattle.bc_bio.specs.declared.bio.Access.TheVariants as access
+use Rattle.bc_bio.specs.declared.access.Access.TheVariants as access
 use Rattle.bc_bio.specs.declared.refusal.Refusal.{Refusal}
 use Rattle.bc_bio.specs.declared.refusal.Refusal.TheVariants as refusals
 use Rattle.bc_bio.specs.declared.extent.Extent.{Extent}

@@ -7,7 +7,7 @@ use Rattle.bc_run.specs.Places.{shard_of}
 
 -- a unit of a thread's plan, by name
 abbrev pub name_of : ℕ → PlannedUnit → UnitName
-name_of thread u = record { thread = thread; op = u.op; unit = u.unit }
+name_of thread u = record { thread = thread; op = u.tag; unit = u.unit }
 
 -- two names of one unit
 abbrev pub is_same : UnitName → UnitName → Bool

@@ -5,8 +5,8 @@ use Rattle.std.specs.Prelude.{ℕ, ◌/◌, Bool, true, false, ◌&&◌, ◌==�
 use Rattle.std.specs.List.{range_with_len}
 use Rattle.std.specs.Option.{option_map_or}
 use Rattle.bc_key.specs.KeyData.{KeyData}
-use Rattle.bc_bio.specs.declared.bio.Access.{Access}
-use Rattle.bc_bio.specs.declared.bio.Access.TheVariants.{Read, Write}
+use Rattle.bc_bio.specs.declared.access.Access.{Access}
+use Rattle.bc_bio.specs.declared.access.Access.TheVariants.{Read, Write}
 use Rattle.bc_bio.specs.PlannedUnit.{PlannedUnit}
 use Rattle.bc_run.specs.Places.{shard_of}
 use Rattle.bc_run.specs.KeyedDisk.{Sectors, sectors_of, bytes_at, UnitAnswer, Faulted, Text, disk_along, answers_along}
@@ -21,7 +21,7 @@ pub record Run : Type 0 where
   pub orders : List (List UnitName)
 
 abbrev pub is_named : UnitName → PlannedUnit → Bool
-is_named name u = (u.op == name.op) && (u.unit == name.unit)
+is_named name u = (u.tag == name.op) && (u.unit == name.unit)
 
 -- the unit of the plan that has this name
 abbrev pub planned : Run → UnitName → Option PlannedUnit
@@ -73,7 +73,7 @@ unit_answer run name =
 -- the units of a bio with their answers, as far as they were attempted, by unit
 abbrev pub answered : Run → ℕ → ℕ → List UnitAnswer
 answered run thread op =
-    filter_map (λ u. unit_answer run (name_of thread u)) (filter (λ u. u.op == op) (slice_index_or run.plan thread []))
+    filter_map (λ u. unit_answer run (name_of thread u)) (filter (λ u. u.tag == op) (slice_index_or run.plan thread []))
 
 -- the unit of a bio that met a fault
 abbrev pub fault_of : Run → ℕ → ℕ → Option ℕ

@@ -27,7 +27,7 @@ written_at _ size i = []
 abbrev pub unit_at : List KeyData → ℕ → Op → Extent → ℕ → PlannedUnit
 unit_at keys op operation bio i =
     let sectors = unit_sectors keys bio.context in record {
-      op = op;
+      tag = op;
       unit = i;
       access = bio.access;
       context = context_after i bio.context;

@@ -4,11 +4,11 @@ use Rattle.std.specs.Prelude.{◌≡◌, ℕ, ◌+◌, ◌*◌, ◌≤◌, ◌==
 use Rattle.std.specs.List.{enumerate_from, range_with_len}
 use Rattle.std.specs.Option.{option_map_or}
 use Rattle.bc_key.specs.KeyData.{KeyData}
-use Rattle.bc_bio.specs.declared.bio.Context.{Context}
+use Rattle.bc_bio.specs.declared.context.Context.{Context}
 use Rattle.bc_bio.specs.declared.extent.Extent.{Extent}
 use Rattle.bc_bio.specs.Extent.{end_of, context_after}
 use Rattle.bc_bio.specs.Conditions.{HasKey}
-use Rattle.bc_bio.specs.BioUnits.{context_on}
+use Rattle.bc_bio.specs.BioUnits.{context_wrapped}
 use Rattle.bc_bio.specs.PlannedUnit.{PlannedUnit}
 use Rattle.bc_script.specs.declared.op.Op.{Op}
 use Rattle.bc_script.specs.declared.op.Op.TheVariants as ops
@@ -107,7 +107,7 @@ pub record IsAccepted (keys : List KeyData) (bio : Extent) : Type 0 where
   pub key : HasKey keys bio.context
   pub end : end_of keys bio ≤ 131072
   pub few_units : bio.units ≤ 256
-  pub no_wrap : (i : ℕ) → i ≤ bio.units → context_on i bio.context ≡ context_after i bio.context
+  pub no_wrap : (i : ℕ) → i ≤ bio.units → context_wrapped i bio.context ≡ context_after i bio.context
 
 -- a text has bytes for this unit, of so many bytes each
 abbrev pub HasUnit : Text → ℕ → ℕ → Type 0

@@ -1,6 +1,6 @@
 -- The way of a data unit: in the clear, or by software.
 use Rattle.std.specs.Prelude.{Option, Some, None}
-use Rattle.bc_bio.specs.declared.bio.Context.{Context}
+use Rattle.bc_bio.specs.declared.context.Context.{Context}
 
 pub data Way : Type 0 where
   plain : Way

@@ -2,10 +2,10 @@
 
 ghost use Rattle.std.specs.Prelude.{◌≡◌, ℕ, ◌+◌, ◌*◌, ◌≤◌, ◌++◌, List, [], ◌∷◌, map, length, flat_map, Some, None, IfOk, OnOk};
 ghost use Rattle.std.specs.List.{enumerate_from};
-ghost use Rattle.bc_bio.specs.declared.bio.Access.{Access};
+ghost use Rattle.bc_bio.specs.declared.access.Access.{Access};
 ghost use Rattle.bc_bio.specs.Extent.{unit_sectors, context_after, end_of};
 ghost use Rattle.bc_bio.specs.Conditions.{HasKey};
-ghost use Rattle.bc_bio.specs.BioUnits.{context_on};
+ghost use Rattle.bc_bio.specs.BioUnits.{context_wrapped};
 ghost use Rattle.bc_script.specs.declared.op.Op.{Op};
 ghost use Rattle.bc_script.specs.Script.{keys_of, IsOp, IsSection};
 ghost use Rattle.bc_run.specs.Bios.{refusal_of};
@@ -47,7 +47,7 @@ fn refusal_of(script: &Script, ciphers: &Ciphers, bio: &Extent) -> Option<Refusa
     requires keys { ciphers.now ≡ keys_of script.now }
     requires key { HasKey ciphers.now bio.now.context }
     ensures refusal { result ≡ refusal_of script.now bio.now }
-    ensures no_wrap { result ≡ None → (i : ℕ) → i ≤ bio.now.units → context_on i bio.now.context ≡ context_after i bio.now.context }
+    ensures no_wrap { result ≡ None → (i : ℕ) → i ≤ bio.now.units → context_wrapped i bio.now.context ≡ context_after i bio.now.context }
 {
     match bio.check(ciphers.keys(), SECTORS_PER_BLOCK * script.blocks()) {
         Ok(()) => None,

@@ -1,7 +1,7 @@
 //! The data units of a bio, written into the image and read from it.
 
 ghost use Rattle.std.specs.Prelude.{◌≡◌, ◌+◌, ◌*◌, ◌≤◌, ◌<◌, ◌^◌, ℕ, length, flat_map, slice_range};
-ghost use Rattle.bc_bio.specs.declared.bio.Access.{Access};
+ghost use Rattle.bc_bio.specs.declared.access.Access.{Access};
 ghost use Rattle.bc_bio.specs.Extent.{unit_sectors, context_after, end_of};
 ghost use Rattle.bc_bio.specs.Conditions.{HasKey};
 ghost use Rattle.bc_script.specs.declared.op.Op.{Op};

@@ -4,7 +4,7 @@ use Rattle.std.specs.Prelude.{codes, sum_by, MatchOption, MatchResult, IfOk, IfE
 use Rattle.std.proofs.lemmas.Bool.{and_parts}
 use Rattle.bc_text.specs.Lines.{Line}
 use Rattle.bc_key.specs.declared.keys.KeyNo.{KeyNo}
-use Rattle.bc_bio.specs.declared.bio.Context.{Context}
+use Rattle.bc_bio.specs.declared.context.Context.{Context}
 use Rattle.bc_bio.specs.Extent.{unit_sectors}
 use Rattle.bc_script.specs.declared.named_key.NamedKey.{NamedKey}
 use Rattle.bc_script.specs.declared.op.Op.{Op}

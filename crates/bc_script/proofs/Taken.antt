@@ -17,7 +17,7 @@ use Rattle.bc_key.specs.declared.key.KeyError.{KeyError}
 use Rattle.bc_key.specs.declared.keys.KeyNo.{KeyNo}
 use Rattle.bc_key.specs.KeyData.{key_size, HasHalves}
 use Rattle.bc_key.specs.KeyRefusal.{key_refusal, has_equal_halves}
-use Rattle.bc_bio.specs.declared.bio.Context.{Context}
+use Rattle.bc_bio.specs.declared.context.Context.{Context}
 use Rattle.bc_bio.specs.Extent.{unit_sectors}
 use Rattle.bc_script.specs.declared.named_key.NamedKey.{NamedKey}
 use Rattle.bc_script.specs.declared.op.Op.{Op}

@@ -5,7 +5,7 @@ use Rattle.std.specs.Fmt.{decimal}
 use Rattle.hex.specs.Hex.{IsBytes}
 use Rattle.bc_key.specs.NumberText.{number_text}
 use Rattle.bc_key.specs.declared.keys.KeyNo.{KeyNo}
-use Rattle.bc_bio.specs.declared.bio.Context.{Context}
+use Rattle.bc_bio.specs.declared.context.Context.{Context}
 use Rattle.bc_script.specs.declared.op.Text.{Text}
 use Rattle.bc_script.specs.declared.op.Text.TheVariants as texts
 use Rattle.bc_script.specs.declared.item.Unread.{Unread}

@@ -1,6 +1,6 @@
 use Rattle.std.proofs.Common.{◌≡◌, ℕ, ◌+◌, ◌*◌, length, ap, ◌∙◌, arith, rules}
 use Rattle.bc_bio.specs.Extent.{unit_sectors, context_after}
-use Rattle.bc_bio.specs.BioUnits.{context_on}
+use Rattle.bc_bio.specs.BioUnits.{context_wrapped}
 use Rattle.bc_run.specs.Plan.{text_at}
 use Rattle.bc_run.specs.KeyedDisk.{sectors_of, with_bytes, enciphered}
 use Rattle.std.specs.Prelude.{slice_range}
@@ -17,7 +17,7 @@ returns-clause-disk c =
     let written = c.put_enciphered.new.place in
     let long : length written ≡ 512 * n = search rules in
     let at : c.context_at-context.result ≡ context_after c.args.unit bio.context =
-    c.context_at-context.ensures ∙ ap (λ i. context_on i bio.context) c.from.ensures ∙ c.requires.accepted.no_wrap c.args.unit (omega arith) in
+    c.context_at-context.ensures ∙ ap (λ i. context_wrapped i bio.context) c.from.ensures ∙ c.requires.accepted.no_wrap c.args.unit (omega arith) in
     let place : ℕ = length (slice_range image (512 * c.sector_of.result) (512 * c.sector_of.result + c.unit_bytes.result)) in
     let sized : place ≡ 512 * n = length-range image (512 * c.sector_of.result) c.unit_bytes.result (omega (arith, c.unit_bytes.ensures.bytes, c.sector_of.ensures.end, c.requires.on_disk)) ∙ c.unit_bytes.ensures.bytes in
     sectors_of-written image written c.sector_of.result n (512 * c.sector_of.result + c.unit_bytes.result) long (omega (arith, c.unit_bytes.ensures.bytes)) (omega (arith, c.unit_bytes.ensures.bytes, c.sector_of.ensures.end, c.requires.on_disk))

@@ -1,5 +1,5 @@
 use Rattle.std.proofs.Common.{◌+◌, ◌*◌, sym, ap, ◌∙◌}
-use Rattle.bc_bio.specs.declared.bio.Access.{Access}
+use Rattle.bc_bio.specs.declared.access.Access.{Access}
 use Rattle.bc_bio.specs.Extent.{unit_sectors, context_after}
 use Rattle.bc_script.specs.declared.op.Op.TheVariants as ops
 use Rattle.bc_run.specs.Plan.{text_at, unit_at}
