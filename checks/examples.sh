@@ -42,17 +42,46 @@ for script in examples/*.txt; do
     example "$(basename "$script" .txt)"
 done
 
-# words that are no command
-./blkcrypt <examples/first.txt >"$found" 2>"$said"
+# words that are no command: the program's own line
+program=crates/blkcrypt/out/blkcrypt
+"$program" <examples/first.txt >"$found" 2>"$said"
 ends "no word" $? 1 "bad command line"
-./blkcrypt serial x <examples/first.txt >"$found" 2>"$said"
+"$program" serial x <examples/first.txt >"$found" 2>"$said"
 ends "a word too many" $? 1 "bad command line"
-./blkcrypt Serial <examples/first.txt >"$found" 2>"$said"
+"$program" Serial <examples/first.txt >"$found" 2>"$said"
 ends "another word" $? 1 "bad command line"
-./blkcrypt "serial " <examples/first.txt >"$found" 2>"$said"
+"$program" "serial " <examples/first.txt >"$found" 2>"$said"
 ends "a word with a blank" $? 1 "bad command line"
-./blkcrypt "$(printf '\377')" <examples/first.txt >"$found" 2>"$said"
+"$program" "$(printf '\377')" <examples/first.txt >"$found" 2>"$said"
 ends "a word that isn't UTF-8" $? 1 "bad command line"
+"$program" --help <examples/first.txt >"$found" 2>"$said"
+ends "help, of which the program knows nothing" $? 1 "bad command line"
+
+# The launcher answers help itself, and shows the usage after the line of a bad command.
+usage() {
+    [ "$2" = "$3" ] || fail "$1 ends with status $2, not $3"
+    grep -q '^usage: blkcrypt serial' "$4" || fail "$1 shows no usage"
+    [ -s "$5" ] && fail "$1 writes where it should not"
+    count=$((count + 1))
+}
+for word in -h --help help; do
+    ./blkcrypt "$word" >"$found" 2>"$said"
+    usage "the word $word" $? 0 "$found" "$said"
+done
+./blkcrypt >"$found" 2>"$said"
+usage "the launcher without words" $? 1 "$said" "$found"
+[ "$(head -n 1 "$said")" = "blkcrypt: bad command line" ] || fail "the launcher without words says: $(cat "$said")"
+./blkcrypt cereal >"$found" 2>"$said"
+usage "the launcher with another word" $? 1 "$said" "$found"
+[ "$(./blkcrypt --version | head -n 1)" = "blkcrypt $(cat VERSION)" ] || fail "the version isn't that of VERSION"
+
+# It works from any folder, and through a symbolic link.
+mkdir "$scratch/bin"
+ln -s "$PWD/blkcrypt" "$scratch/bin/blkcrypt"
+first=$PWD/examples/first
+(cd / && "$scratch/bin/blkcrypt" serial <"$first.txt") >"$found" 2>"$said" || fail "through a link it ends with status $?"
+diff "$first.out" "$found" || fail "through a link it prints another report"
+count=$((count + 1))
 
 # broken NAME LINE KIND: the text in $broken is no script, as its line LINE fails the test KIND
 broken=$scratch/broken
@@ -110,7 +139,9 @@ ends "a text of 16777217 bytes" $? 7 "input longer than 16777216 bytes"
 
 # a disk of 64 MiB where a process gets less
 printf 'blkcrypt 1\ndisk 16384\nfallback on\nend\n' >"$scratch/large"
-(ulimit -v 60000 && exec ./blkcrypt serial) <"$scratch/large" >"$found" 2>"$said"
-ends "a disk larger than memory" $? 9 "no memory"
+if command -v prlimit >/dev/null 2>&1; then
+    prlimit --as=61440000 ./blkcrypt serial <"$scratch/large" >"$found" 2>"$said"
+    ends "a disk larger than memory" $? 9 "no memory"
+fi
 
 echo "examples: $count runs as expected"
