@@ -5,3 +5,4 @@ pub mod HexTexts
 pub mod Left
 pub mod FieldLaws
 pub mod Sorts
+pub mod Printing

@@ -1,4 +1,5 @@
--- What stands in a field: a number in decimal digits, or bytes in hexadecimal digits.
+-- What a field is the text of: a number in decimal digits, or bytes in hexadecimal digits. Each value has one text, so that
+-- reading is stated by printing.
 use Rattle.std.specs.Prelude.{◌≡◌, ◌==◌, ◌&&◌, nat_le, if◌then◌else◌, Bool, ℕ, false, List, [], ◌∷◌, length, Option, MatchOption}
 use Rattle.hex.specs.Hex.{encode_lower, IsBytes}
 
@@ -7,7 +8,7 @@ abbrev pub Reads : {X T : Type 0} → (X → Type 0) → (X → T) → T → Opt
 Reads Valid text_of text r =
     MatchOption r ((x : _) → Valid x → text ≡ text_of x → ⊥) (λ x. Valid x × (text ≡ text_of x))
 
--- Digits may begin so: with one from 1 to 9, or as the digit 0 alone.
+-- Digits begin plainly: with one from 1 to 9, or as the digit 0 alone.
 abbrev pub begins_plainly : List ℕ → Bool
 begins_plainly [] = false
 begins_plainly (b ∷ bs) = if b == 48 then length bs == 0 else nat_le 49 b && nat_le b 57
@@ -20,7 +21,7 @@ is_upper_digit c = nat_le 65 c && nat_le c 70
 abbrev pub byte_text : ℕ → List ℕ
 byte_text b = encode_lower (b ∷ [])
 
--- The text is that of these bytes, or of no bytes so many.
+-- The field is the digits of these bytes; or those of no bytes that are as many.
 abbrev pub ReadsBytes : {X : Type 0} → List ℕ → ℕ → List ℕ → Option X → Type 0
 ReadsBytes text count out r =
     MatchOption r ((bytes : List ℕ) → IsBytes bytes → length bytes ≡ count → text ≡ encode_lower bytes → ⊥)

@@ -4,7 +4,6 @@ use std::test::Fail;
 #[test]
 fn a_line_is_read_field_by_field(rt: HostRuntime) -> Result<(), Fail> {
     let mut lines = Lines::new(b"disk 16384 0f\nend\n");
-    assert!(rt; lines.starts_as(b"disk"));
     let mut fields = lines.next().ok_or("a line")?;
     assert_eq!(rt; fields.expect(b"disk"), Some(()));
     assert_eq!(rt;
@@ -13,7 +12,19 @@ fn a_line_is_read_field_by_field(rt: HostRuntime) -> Result<(), Fail> {
     );
     assert_eq!(rt; byte(fields.next().ok_or("a field")?), Some(15));
     assert!(rt; fields.is_empty());
-    assert!(rt; !lines.is_at_end());
+    assert_eq!(rt; lines.next().map(|fields| fields.is_nothing()), Some(false));
+    assert_eq!(rt; lines.next().map(|fields| fields.is_nothing()), Some(true));
+    assert!(rt; lines.next().is_none());
+    Ok(())
+}
+
+#[test]
+fn what_is_printed_is_read_again(rt: HostRuntime) -> Result<(), Fail> {
+    let mut text = Vec::new(rt.alloc());
+    put_number(&mut text, 16384)?;
+    text.push(b' ')?;
+    put_hex(&mut text, &[0x00, 0xa5, 0xff])?;
+    assert_eq!(rt; text.as_slice(), b"16384 00a5ff".as_slice());
     Ok(())
 }
 

@@ -1,0 +1,6 @@
+pub mod SlotJournal
+pub mod Programmings
+pub mod OneCaller
+pub mod Rows
+pub mod Solo
+pub mod Stamps

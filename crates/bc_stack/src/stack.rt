@@ -1,0 +1,145 @@
+//! Devices that lie one after the other over a disk.
+ghost use Rattle.std.specs.Prelude.{◌≡◌, ℕ, ◌<◌, ◌≤◌, length, slice_get, All, Some, None, OnOk, IfOk, IfErr, IfSome};
+ghost use Rattle.bc_key.specs.declared.config.Config.{Config};
+ghost use Rattle.bc_key.specs.Support.{supports};
+ghost use Rattle.bc_stack.specs.Devices.{device_at, caps_of, all_support};
+ghost use Rattle.bc_stack.specs.Targets.{HasSlots, IsRefusal, IsStack, refusal_of};
+
+use crate::{StackError, Target};
+use bc_key::Caps;
+use std::alloc::Global;
+use std::marker::Model;
+
+/// How many devices a stack can have.
+pub const MAX_DEVICES: usize = 8;
+
+/// The devices of a disk, each with the blocks after those of the one before it. Without devices no block lies on one.
+#[derive(Drop)]
+pub struct Stack {
+    targets: Vec<Target>,
+    blocks: u32,
+}
+
+impl Model for Stack {
+    ghost use Rattle.bc_stack.specs.Targets.{StackParts, IsStack};
+
+    ghost Value = { StackParts };
+
+    ghost view = { λ s. record { targets = s.targets.items; blocks = s.blocks } };
+
+    ghost invariant = { λ s. IsStack s.targets.items s.blocks };
+}
+
+impl Stack {
+    /// The stack of these targets over a disk of so many blocks. Each target has 1 to 32 keyslots.
+    ///
+    /// # Errors
+    ///
+    /// `TooMany` where there are more than [`MAX_DEVICES`] targets; then, from the first target on, `Empty` where it has no
+    /// blocks and `Gap` where it doesn't begin at the end of the one before; then `Gap` where there are targets and the
+    /// last one doesn't end with the disk. `Memory` where there is no memory for targets that pass.
+    pub fn new(alloc: Global, targets: &[Target], blocks: u32) -> Result<Stack, StackError>
+        requires { All HasSlots targets.now }
+        ensures accepts { OnOk result (refusal_of targets.now blocks ≡ None) }
+        ensures refuses { IfErr result (IsRefusal targets.now blocks) }
+        ensures stack { IfOk result (λ stack.
+            stack ≡ record { targets = targets.now; blocks = blocks }) }
+    {
+        check(targets, blocks)?;
+        Ok(Stack {
+            targets: Vec::from_slice(alloc, targets)?,
+            blocks,
+        })
+    }
+
+    /// How many devices there are.
+    pub fn children(&self) -> u8
+        ensures count { result ≡ length self.now.targets }
+        ensures stack { IsStack self.now.targets self.now.blocks }
+    {
+        self.targets.len() as u8
+    }
+
+    /// The device with this number.
+    pub fn target(&self, device: u8) -> &Target
+        requires { device < length self.now.targets }
+        ensures target { slice_get self.now.targets device ≡ Some result.now }
+        ensures slots { HasSlots result.now }
+    {
+        &self.targets[usize::from(device)]
+    }
+
+    /// What every device supports, and nothing without devices.
+    pub fn caps(&self) -> Caps
+        ensures meet { result ≡ caps_of self.now.targets }
+        ensures supports_what_all_support { (config : Config) →
+            supports result config ≡ all_support self.now.targets config }
+    {
+        caps_of(&self.targets)
+    }
+
+    /// The number of the device that has this sector of 512 bytes, if one has it.
+    pub fn locate(&self, sector: u32) -> Option<u8>
+        ensures { result ≡ device_at self.now.targets sector }
+    {
+        match position_of(&self.targets, sector) {
+            Some(device) => Some(device as u8),
+            None => None,
+        }
+    }
+}
+
+/// The place of the target that has this sector, if one has it.
+fn position_of(targets: &[Target], sector: u32) -> Option<usize>
+    ensures place { result ≡ device_at targets.now sector }
+    ensures within { IfSome result (λ device. device < length targets.now) }
+{
+    targets.iter().position(|target| target.has_sector(sector))
+}
+
+/// Whether these targets make a stack over a disk of so many blocks.
+fn check(targets: &[Target], blocks: u32) -> Result<(), StackError>
+    ensures accepts { OnOk result (refusal_of targets.now blocks ≡ None) }
+    ensures refuses { IfErr result (IsRefusal targets.now blocks) }
+{
+    if targets.is_empty() {
+        return Ok(());
+    }
+    if targets.len() > MAX_DEVICES {
+        return Err(StackError::TooMany);
+    }
+    let mut end = 0;
+    for target in targets {
+        if target.blocks == 0 {
+            return Err(StackError::Empty);
+        }
+        if u64::from(target.first) != end {
+            return Err(StackError::Gap);
+        }
+        end += u64::from(target.blocks);
+    }
+    if end != u64::from(blocks) {
+        return Err(StackError::Gap);
+    }
+    Ok(())
+}
+
+/// The meet of what all targets support, and nothing without targets.
+fn caps_of(targets: &[Target]) -> Caps
+    ensures meet { result ≡ caps_of targets.now }
+    ensures supports_what_all_support { (config : Config) →
+        supports result config ≡ all_support targets.now config }
+{
+    let Some((first, others)) = targets.split_first() else {
+        return Caps {
+            xts: 0,
+            essiv: 0,
+            max_dun_bytes: 0,
+        };
+    };
+    let mut caps = first.caps;
+    for target in others {
+        caps = caps.meet(&target.caps);
+    }
+    caps
+}
