@@ -1,5 +1,5 @@
 -- The size of a data unit and the block that it lies in; and what the tests of a bio leave.
-use Rattle.std.proofs.Common.{◌≡◌, ◌⊎◌, inl, inr, ⊎_elim, ℕ, ◌+◌, ◌*◌, ◌/◌, ◌%◌, ◌<◌, ◌≤◌, ◌^◌, Bool, true, false, not, cond, eqb, nat_le, List, Option, Some, None, IsTrue, refl, sym, subst, arith}
+use Rattle.std.proofs.Common.{◌≡◌, inl, inr, ⊎_elim, ℕ, ◌+◌, ◌*◌, ◌/◌, ◌%◌, ◌<◌, ◌≤◌, Bool, true, false, not, cond, eqb, nat_le, Option, Some, None, refl, sym, subst, arith}
 use Rattle.std.specs.Option.{option_map_or}
 use Rattle.std.proofs.lemmas.Bool.{eqb-true, leb-true}
 use Rattle.bc_key.specs.KeyData.{KeyData}
@@ -7,13 +7,10 @@ use Rattle.bc_key.specs.KeyList.{key_at}
 use Rattle.bc_key.specs.declared.config.DataUnit.{DataUnit}
 use Rattle.bc_key.specs.declared.config.DataUnit.TheVariants.{Bytes512, Bytes1024, Bytes2048, Bytes4096}
 use Rattle.bc_key.specs.DataUnits.{sectors_of, IsUnitSize}
-use Rattle.bc_bio.specs.declared.context.Context.{Context}
-use Rattle.bc_bio.specs.declared.extent.Extent.{Extent}
 use Rattle.bc_bio.specs.declared.refusal.BioError.{BioError}
 use Rattle.bc_bio.specs.declared.refusal.BioError.TheVariants as errors
 use Rattle.bc_bio.specs.Extent.{unit_sectors, end_of}
-use Rattle.bc_bio.specs.Check.{numbers_fit, check_of}
-use Rattle.bc_bio.specs.Conditions.{HasKey, IsAccepted}
+use Rattle.bc_bio.specs.Check.{numbers_fit}
 use Rattle.bc_bio.specs.Laws.{UnitsHaveSizes, UnitsLieInBlocks, UnrefusedIsAccepted}
 
 -- ---- a data unit has 1, 2, 4 or 8 sectors

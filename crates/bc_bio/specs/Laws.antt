@@ -11,7 +11,8 @@ use Rattle.bc_bio.specs.Conditions.{HasKey, IsAccepted}
 
 -- a data unit under any key or none has 1, 2, 4 or 8 sectors
 abbrev pub UnitsHaveSizes : Type 0
-UnitsHaveSizes = (keys : List KeyData) (context : Option Context) → IsUnitSize (unit_sectors keys context)
+UnitsHaveSizes =
+    (keys : List KeyData) (context : Option Context) → IsUnitSize (unit_sectors keys context)
 
 -- each data unit of an aligned bio lies in one block, and so in one shard: all its sectors are in its first one's block
 abbrev pub UnitsLieInBlocks : Type 0
@@ -24,4 +25,5 @@ UnitsLieInBlocks =
 abbrev pub UnrefusedIsAccepted : Type 0
 UnrefusedIsAccepted =
     (keys : List KeyData) (sectors : ℕ) (bio : Extent)
-    → HasKey keys bio.context → sectors < 2 ^ 32 → check_of keys sectors bio ≡ None → IsAccepted keys sectors bio
+    → HasKey keys bio.context → sectors < 2 ^ 32 → check_of keys sectors bio ≡ None
+    → IsAccepted keys sectors bio
