@@ -130,10 +130,9 @@ serial_runs_agree script image shards one other left other_left rules p q =
     let shards_are : one.shards ≡ other.shards =
     shards_agree run one.shards other.shards orders
     (by_recursion run one.shards (subst (λ (r : Run). HaveWays r one.shards) runs p.lawful.ways))
-    (by_recursion run other.shards q.lawful.ways) in
-    (
+    (by_recursion run other.shards q.lawful.ways) in (
       ap (λ (threads : List (List Answer)). record { threads = threads; shards = one.shards }) threads
-      ∙ ap (λ (shards : List (List Line)). record { threads = other.threads; shards = shards }) shards_are,
+          ∙ ap (λ (shards : List (List Line)). record { threads = other.threads; shards = shards }) shards_are,
       p.lawful.image_left ∙ ap final_image runs ∙ sym q.lawful.image_left,
     )
 

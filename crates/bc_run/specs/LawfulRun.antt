@@ -29,7 +29,7 @@ abbrev pub serial_order : Script → Report → ℕ → List UnitName
 serial_order script report shard =
     flat_map
     (attempted_on (length report.shards) (plan_of script) (faults_of script)
-        (orders_of report) shard)
+    (orders_of report) shard)
     (range_with_len 0 (length script.threads))
 
 -- beside a lawful run, what makes the whole report a function of script, image and shards: the sections

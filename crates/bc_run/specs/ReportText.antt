@@ -77,8 +77,8 @@ abbrev pub report_lines : Report → List TextLine
 report_lines report =
     head_line
     ∷ (flat_map thread_lines (enumerate_from 0 report.threads)
-      ++ flat_map shard_lines (enumerate_from 0 report.shards)
-      ++ foot_line ∷ [])
+    ++ flat_map shard_lines (enumerate_from 0 report.shards)
+    ++ foot_line ∷ [])
 
 -- the one text of a report
 abbrev pub report_text : Report → List ℕ

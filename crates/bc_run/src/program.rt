@@ -143,9 +143,7 @@ fn read_script<S: Source>(alloc: Global, source: &mut S) -> Result<Vec<u8>, Stat
     match read_all(alloc, source, MAX_TEXT) {
         Ok(bytes) => Ok(bytes),
         Err(ReadError::Failed) => Err(Status::ReadFault),
-        Err(ReadError::TooLong) => Err(Status::TooLong {
-            limit: MAX_TEXT,
-        }),
+        Err(ReadError::TooLong) => Err(Status::TooLong { limit: MAX_TEXT }),
         Err(ReadError::Memory) => Err(Status::NoMemory),
     }
 }

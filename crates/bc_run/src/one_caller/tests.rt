@@ -190,12 +190,17 @@ fn keys_of_each_mode_and_size(rt: HostRuntime) -> Result<(), Fail> {
 // Block b lies in shard b % shards: with three shards the blocks 0 and 3 in the first, with 64 the blocks 0 and 64.
 #[test]
 fn a_block_lies_in_its_shard(rt: HostRuntime) -> Result<(), Fail> {
-    let text = b"blkcrypt 1\ndisk 65\nfallback on\nthread\nwrite - 0 1 - fill 01\nwrite - 8 1 - fill 02\n\
+    let text =
+        b"blkcrypt 1\ndisk 65\nfallback on\nthread\nwrite - 0 1 - fill 01\nwrite - 8 1 - fill 02\n\
         write - 23 1 - fill 03\nwrite - 24 1 - fill 04\nwrite - 512 1 - fill 05\nend\n";
     let three = finished(rt.alloc(), text, 3)?;
-    let wanted = b"report 1\nthread 0\ndone\ndone\ndone\ndone\ndone\nshard 0 2\n0 0 0 plain\n0 3 0 plain\n\
+    let wanted =
+        b"report 1\nthread 0\ndone\ndone\ndone\ndone\ndone\nshard 0 2\n0 0 0 plain\n0 3 0 plain\n\
         shard 1 2\n0 1 0 plain\n0 4 0 plain\nshard 2 1\n0 2 0 plain\nend\n";
-    assert_eq!(rt; print(rt.alloc(), &three.report)?.as_slice(), wanted.as_slice());
+    assert_eq!(rt;
+        print(rt.alloc(), &three.report)?.as_slice(),
+        wanted.as_slice()
+    );
     let most = finished(rt.alloc(), text, 64)?;
     assert_eq!(rt; most.report.shards().len(), 64);
     for (shard, entries) in most.report.shards().iter().enumerate() {
