@@ -1,0 +1,11 @@
+use Rattle.std.proofs.Common.{◌≡◌, length, arith}
+use Rattle.bc_report.proofs.Stuck.{stuck_shard, stuck_other_shard}
+use Rattle.bc_report.proofs.reader.Reader.shard.Goals as goal
+
+pub returns-in_default-clause-bad : goal.returns-in_default-clause-bad
+returns-in_default-clause-bad c = stuck_shard c.args.self.now c.args.line c.requires.part c.requires.sort c.in_default.ensures
+
+pub returns-then-number-len-clause-bad : goal.returns-then-number-len-clause-bad
+returns-then-number-len-clause-bad c =
+    stuck_other_shard c.args.self.now c.args.line c.in-Some.number c.in-Some.count c.requires.part c.requires.sort c.in-Some.ensures.0.0 c.in-Some.ensures.1
+    (λ (e : c.in-Some.number ≡ length c.args.self.now.shards). let f = rw (← c.self.view_is) at e in c.if-number-len.true (omega arith))

@@ -1,0 +1,100 @@
+-- Where a report's lines stand, and which line may follow. The contracts of private functions speak of this; no public one
+-- does.
+use Rattle.std.specs.Prelude.{◌≡◌, ℕ, suc, zero, ◌+◌, ◌-◌, ◌^◌, ◌<◌, if◌then◌else◌, List, [], ◌∷◌, codes}
+use Rattle.std.specs.Str.{bytes_eq}
+use Rattle.bc_text.specs.Lines.{Line}
+use Rattle.bc_report.specs.declared.sort.Sort.{Sort}
+use Rattle.bc_report.specs.declared.sort.Sort.TheVariants as sorts
+use Rattle.bc_report.specs.declared.answer.Answer.{Answer}
+use Rattle.bc_report.specs.declared.line.Line.{Line as Entry}
+use Rattle.bc_profile.specs.declared.event.Event.{Event}
+use Rattle.bc_report.specs.declared.limits.TheConstants.{MAX_THREADS, MAX_SHARDS, MAX_DEVICES}
+use Rattle.bc_report.specs.Report.{IsAnswer, IsEntry, IsEvent}
+use Rattle.bc_report.specs.ReportText.{answer_line, entry_line, event_line, thread_line, shard_line, device_line, head_line, foot_line}
+
+-- Before the head; in a thread, with how many have begun; between whole parts, with how many threads, shards and devices
+-- have begun; in a shard or a device, with the number of lines that it still needs at the end; after the foot.
+pub data At : Type 0 where
+  Head : At
+  InThread : ℕ → At
+  Between : ℕ → ℕ → ℕ → At
+  InShard : ℕ → ℕ → ℕ → At
+  InDevice : ℕ → ℕ → ℕ → ℕ → At
+  Foot : At
+
+-- a shard that needs so many more entries
+abbrev pub shard_at : ℕ → ℕ → ℕ → At
+shard_at threads shards zero = Between threads shards 0
+shard_at threads shards (suc owed) = InShard threads shards (suc owed)
+
+-- a device that needs so many more events
+abbrev pub device_at : ℕ → ℕ → ℕ → ℕ → At
+device_at threads shards devices zero = Between threads shards devices
+device_at threads shards devices (suc owed) = InDevice threads shards devices (suc owed)
+
+-- what a line is by its first field, between parts
+abbrev pub sort_of_word : List ℕ → Sort
+sort_of_word word =
+    if bytes_eq word (codes "thread") then sorts.Thread
+    else (if bytes_eq word (codes "shard") then sorts.Shard
+    else (if bytes_eq word (codes "device") then sorts.Device
+    else (if bytes_eq word (codes "end") then sorts.End else sorts.Other)))
+
+abbrev pub sort_of : Line → Sort
+sort_of [] = sorts.Other
+sort_of (word ∷ fields) = sort_of_word word
+
+-- the line is that of an answer, an entry, an event
+abbrev pub SaysAnswer : Line → Type 0
+SaysAnswer line = (answer : Answer) × IsAnswer answer × (line ≡ answer_line answer)
+
+abbrev pub SaysEntry : Line → Type 0
+SaysEntry line = (entry : Entry) × IsEntry entry × (line ≡ entry_line entry)
+
+abbrev pub SaysEvent : Line → Type 0
+SaysEvent line = (event : Event) × IsEvent event × (line ≡ event_line event)
+
+-- the next thread, shard or device begins
+abbrev pub BeginsThread : ℕ → Line → At → Type 0
+BeginsThread threads line next =
+    (threads < MAX_THREADS) × (line ≡ thread_line threads) × (next ≡ InThread (threads + 1))
+
+abbrev pub BeginsShard : ℕ → ℕ → Line → At → Type 0
+BeginsShard threads shards line next =
+    (shards < MAX_SHARDS) × ((count : ℕ) × (count < 2 ^ 32) × (line ≡ shard_line shards count) × (next ≡ shard_at threads (shards + 1) count))
+
+abbrev pub BeginsDevice : ℕ → ℕ → ℕ → Line → At → Type 0
+BeginsDevice threads shards devices line next =
+    (devices < MAX_DEVICES)
+    × ((count : ℕ) × (count < 2 ^ 32) × (line ≡ device_line devices count) × (next ≡ device_at threads shards (devices + 1) count))
+
+-- a line of this sort follows between parts, and then the lines stand so
+abbrev pub Follows : ℕ → ℕ → ℕ → Sort → Line → At → Type 0
+Follows threads shards devices sorts.Thread line next = (shards ≡ 0) × (devices ≡ 0) × BeginsThread threads line next
+Follows threads shards devices sorts.Shard line next = (devices ≡ 0) × BeginsShard threads shards line next
+Follows threads shards devices sorts.Device line next = BeginsDevice threads shards devices line next
+Follows threads shards devices sorts.End line next = (line ≡ foot_line) × (next ≡ Foot)
+Follows threads shards devices sorts.Other line next = ⊥
+
+-- a line of this sort follows in a thread
+abbrev pub FollowsInThread : ℕ → Sort → Line → At → Type 0
+FollowsInThread threads sorts.Other line next = SaysAnswer line × (next ≡ InThread threads)
+FollowsInThread threads sort line next = Follows threads 0 0 sort line next
+
+-- the line follows, and then the lines stand so
+abbrev pub Goes : At → Line → At → Type 0
+Goes Head line next = (line ≡ head_line) × (next ≡ Between 0 0 0)
+Goes (InThread threads) line next = FollowsInThread threads (sort_of line) line next
+Goes (Between threads shards devices) line next = Follows threads shards devices (sort_of line) line next
+Goes (InShard threads shards owed) line next = SaysEntry line × (next ≡ shard_at threads shards (owed - 1))
+Goes (InDevice threads shards devices owed) line next = SaysEvent line × (next ≡ device_at threads shards devices (owed - 1))
+Goes Foot line next = ⊥
+
+-- the line follows nowhere
+abbrev pub IsStuck : At → Line → Type 0
+IsStuck at line = (next : At) → Goes at line next → ⊥
+
+-- the same place with the thread whole
+abbrev pub whole_at : At → At
+whole_at (InThread threads) = Between threads 0 0
+whole_at at = at
