@@ -5,7 +5,7 @@ use Rattle.bc_text.specs.Lines.{Line}
 use Rattle.bc_profile.specs.declared.event.Event.TheVariants as events
 use Rattle.bc_report.specs.declared.part.Part.{Part}
 use Rattle.bc_report.specs.declared.part.Part.TheVariants as parts
-use Rattle.bc_report.specs.declared.via.Via.TheVariants as vias
+use Rattle.bc_medium.specs.declared.via.Via.TheVariants as vias
 use Rattle.bc_report.specs.declared.line.Line.{Line as Entry}
 use Rattle.bc_report.specs.Report.{IsReport, IsAnswer, IsEntry, IsEvent, IsPart}
 use Rattle.bc_report.specs.ReportText.{entry_line, event_line, all_threads, all_shards, all_devices, head_line, foot_line}

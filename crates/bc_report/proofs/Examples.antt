@@ -4,8 +4,8 @@ use Rattle.std.specs.Prelude.{codes}
 use Rattle.std.specs.Fmt.{digits}
 use Rattle.hex.specs.Hex.{encode_with}
 use Rattle.bc_profile.specs.declared.event.Event.TheVariants as events
-use Rattle.bc_report.specs.declared.via.Via.{Via}
-use Rattle.bc_report.specs.declared.via.Via.TheVariants as vias
+use Rattle.bc_medium.specs.declared.via.Via.{Via}
+use Rattle.bc_medium.specs.declared.via.Via.TheVariants as vias
 use Rattle.bc_report.specs.declared.answer.Answer.TheVariants as answers
 use Rattle.bc_report.specs.declared.line.Line.{Line as Entry}
 use Rattle.bc_report.specs.Report.{Report}

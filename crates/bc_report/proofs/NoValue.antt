@@ -14,8 +14,8 @@ use Rattle.std.specs.List.{join_with_byte}
 use Rattle.bc_text.specs.Lines.{Line, parts_at}
 use Rattle.bc_text.specs.Fields.{Reads, byte_text}
 use Rattle.bc_text.proofs.LineLaws.{IsWithout, parts_at-cons, parts_at-one}
-use Rattle.bc_report.specs.declared.via.Via.{Via}
-use Rattle.bc_report.specs.declared.via.Via.TheVariants as vias
+use Rattle.bc_medium.specs.declared.via.Via.{Via}
+use Rattle.bc_medium.specs.declared.via.Via.TheVariants as vias
 use Rattle.bc_profile.specs.declared.limits.TheConstants.{MAX_SLOTS}
 use Rattle.bc_profile.specs.declared.skips.Skip.{Skip}
 use Rattle.bc_profile.specs.declared.event.Event.{Event}

@@ -25,8 +25,8 @@ use Rattle.bc_bio.specs.declared.refusal.Refusal.TheVariants.{Bio, Unsupported}
 use Rattle.bc_profile.specs.declared.skips.Skip.{Skip}
 use Rattle.bc_profile.specs.declared.event.Event.{Event}
 use Rattle.bc_profile.specs.declared.event.Event.TheVariants as events
-use Rattle.bc_report.specs.declared.via.Via.{Via}
-use Rattle.bc_report.specs.declared.via.Via.TheVariants as vias
+use Rattle.bc_medium.specs.declared.via.Via.{Via}
+use Rattle.bc_medium.specs.declared.via.Via.TheVariants as vias
 use Rattle.bc_report.specs.declared.answer.Answer.{Answer}
 use Rattle.bc_report.specs.declared.answer.Answer.TheVariants as answers
 use Rattle.bc_report.specs.declared.line.Line.{Line as Entry}

@@ -4,8 +4,8 @@ use Rattle.std.specs.Prelude.{◌≡◌, ◌^◌, ◌<◌, ◌≤◌, List, leng
 use Rattle.std.specs.List.{AllByRecursion}
 use Rattle.hex.specs.Hex.{IsBytes}
 use Rattle.bc_report.specs.declared.limits.TheConstants.{MAX_THREADS, MAX_SHARDS, MAX_DEVICES}
-use Rattle.bc_report.specs.declared.via.Via.{Via}
-use Rattle.bc_report.specs.declared.via.Via.TheVariants.{Inline}
+use Rattle.bc_medium.specs.declared.via.Via.{Via}
+use Rattle.bc_medium.specs.declared.via.Via.TheVariants.{Inline}
 use Rattle.bc_profile.specs.declared.limits.TheConstants.{MAX_SLOTS}
 use Rattle.bc_profile.specs.declared.skips.Skip.{Skip}
 use Rattle.bc_profile.specs.declared.event.Event.{Event}

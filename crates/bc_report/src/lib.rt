@@ -8,7 +8,6 @@ mod answer;
 mod limits;
 mod line;
 mod report;
-mod via;
 
 // its text
 mod printing;
@@ -26,6 +25,7 @@ mod unread;
 mod laws;
 
 pub use answer::Answer;
+pub use bc_medium::Via;
 pub use bc_profile::{Event, Skip, Skips};
 pub use laws::{
     no_proper_prefix, one_first_bad_line, one_report_for_each_text, one_text_for_each_report,
@@ -36,7 +36,6 @@ pub use parser::parse;
 pub use printing::print;
 pub use report::Report;
 pub use report_error::ReportError;
-pub use via::Via;
 
 #[cfg(test)]
 mod tests;

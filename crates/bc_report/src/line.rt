@@ -1,6 +1,6 @@
 //! An entry of a shard's order.
 
-use crate::via::Via;
+use bc_medium::Via;
 
 /// A data unit in a shard's order: its thread, operation and place in the bio, each from 0, and its way.
 #[derive(Clone, Copy, Debug, PartialEq, Eq)]

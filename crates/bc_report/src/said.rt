@@ -13,8 +13,8 @@ use crate::answer::Answer;
 use crate::limits::{MAX_DEVICES, MAX_SHARDS, MAX_THREADS};
 use crate::line::Line;
 use crate::sort::Sort;
-use crate::via::Via;
 use bc_bio::{BioError, Refusal};
+use bc_medium::Via;
 use bc_profile::{Event, Skip, Skips};
 use bc_text::{Parts, number};
 
