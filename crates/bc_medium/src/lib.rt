@@ -8,8 +8,13 @@ mod unit_at;
 mod unit_name;
 mod via;
 
+// shards
+mod shard;
+mod shards;
+
 pub use entry::Entry;
 pub use fault::Fault;
+pub use shards::Shards;
 pub use unit_at::UnitAt;
 pub use unit_name::UnitName;
 pub use via::Via;

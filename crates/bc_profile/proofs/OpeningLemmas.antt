@@ -1,7 +1,7 @@
 -- A device that was just opened.
-use Rattle.std.proofs.Common.{◌≡◌, ◌≢◌, ℕ, zero, suc, ◌<◌, ◌≤◌, ◌+◌, ◌⊎◌, true, List, [], ◌∷◌, ◌++◌, length, map, get_or, refl, sym, ap, subst, ◌∙◌, Option, Some, None, arith, add-one, replicate}
-use Rattle.std.specs.Prelude.{◌==◌, All}
-use Rattle.std.specs.List.{list_any, range_with_len}
+use Rattle.std.proofs.Common.{◌≡◌, ℕ, zero, suc, ◌<◌, ◌≤◌, ◌+◌, List, [], ◌∷◌, ◌++◌, length, map, get_or, refl, sym, ap, subst, ◌∙◌, Option, None, arith, add-one, replicate}
+use Rattle.std.specs.Prelude.{◌==◌}
+use Rattle.std.specs.List.{range_with_len}
 use Rattle.std.proofs.Math.Logic.{⊎_elim}
 use Rattle.std.proofs.lemmas.Bool.{eq-eqb, cases_lt}
 use Rattle.std.proofs.lemmas.Option.{none-some}
@@ -12,7 +12,7 @@ use Rattle.bc_profile.specs.declared.event.Event.{Event}
 use Rattle.bc_profile.specs.declared.limits.TheConstants.{MAX_SLOTS, MAX_EVENTS}
 use Rattle.bc_profile.specs.SlotJournal.{opening}
 use Rattle.bc_profile.specs.Rows.{cleared, row_of, HasRow}
-use Rattle.bc_profile.specs.Stamps.{Named, IsTold, AreStamped, HasRoom, IsSolo}
+use Rattle.bc_profile.specs.Stamps.{AreStamped, IsSolo}
 
 zero_plus : (n : ℕ) → 0 + n ≡ n
 zero_plus n = omega arith

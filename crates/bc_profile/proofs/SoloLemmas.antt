@@ -1,19 +1,19 @@
 -- What each call of a keyslot manager for one caller keeps of its parts.
-use Rattle.std.proofs.Common.{◌≡◌, ◌≢◌, ℕ, zero, suc, ◌<◌, ◌≤◌, ◌+◌, ◌^◌, Bool, true, false, cond, List, [], ◌∷◌, ◌++◌, length, map, get_or, take, drop, refl, sym, ap, subst, ◌∙◌, Option, Some, None, arith}
-use Rattle.std.specs.Prelude.{◌==◌, ◌&&◌, slice_set, All, position, IsTrue}
+use Rattle.std.proofs.Common.{◌≡◌, ◌≢◌, ℕ, zero, suc, ◌<◌, ◌≤◌, ◌+◌, Bool, true, List, [], ◌∷◌, ◌++◌, length, map, get_or, take, drop, refl, sym, ap, subst, ◌∙◌, Option, Some, None, arith}
+use Rattle.std.specs.Prelude.{◌&&◌, slice_set, All}
 use Rattle.std.specs.List.{list_all, range_with_len}
 use Rattle.std.proofs.lemmas.Option.{none-some, same_Some}
-use Rattle.std.proofs.lemmas.List.{length-set, length-append, length-map, get_or-set_same, map-set}
-use Rattle.std.proofs.lemmas.List.Elements.{All-set, All-push}
+use Rattle.std.proofs.lemmas.List.{length-set, length-append, map-set}
+use Rattle.std.proofs.lemmas.List.Elements.{All-set}
 use Rattle.std.proofs.Math.Seq.{take-append_seam}
 use Rattle.bc_profile.specs.declared.event.Event.{Event}
 use Rattle.bc_profile.specs.declared.event.Event.TheVariants as events
-use Rattle.bc_profile.specs.SlotJournal.{Slots, InNoSlot, IsHeld, MayProgram, Allowed, after_event, slots_after, idle_order, is_listed, key_of, AllIdle}
+use Rattle.bc_profile.specs.SlotJournal.{Slots, InNoSlot, MayProgram, after_event, slots_after, is_listed, AllIdle}
 use Rattle.bc_profile.specs.Programmings.{Holds}
-use Rattle.bc_profile.specs.OneCaller.{is_key, first_idle}
+use Rattle.bc_profile.specs.OneCaller.{first_idle}
 use Rattle.bc_profile.specs.Rows.{cleared, row_of, HasRow}
-use Rattle.bc_profile.specs.Stamps.{Named, IsTold, AreStamped, next_stamp, owed, HasRoom, IsSolo}
-use Rattle.bc_profile.proofs.KeyLemmas.{slot_has, in_no_slot, key_inside, slots_push, named_program, named_idle, named_evict, named_reset, gone_evicted, told_more}
+use Rattle.bc_profile.specs.Stamps.{IsTold, AreStamped, next_stamp, owed, HasRoom, IsSolo}
+use Rattle.bc_profile.proofs.KeyLemmas.{slots_push, named_program, named_idle, named_evict, named_reset, gone_evicted, told_more}
 use Rattle.bc_profile.proofs.StampLemmas.{least_first, first_of_order, none_before, stamped_program, stamped_hold, stamped_idle, stamped_evict, stamped_reset}
 
 -- ---- one event more

@@ -1,8 +1,8 @@
 -- What the parts of a keyslot manager for one caller are, behind its type. No public contract speaks of them.
-use Rattle.std.specs.Prelude.{◌≡◌, ◌≢◌, ℕ, ◌+◌, ◌<◌, ◌≤◌, ◌^◌, true, List, [], ◌∷◌, length, map, All, AllPairs, Option, Some, None, slice_index_or, slice_index, ⊤}
+use Rattle.std.specs.Prelude.{◌≡◌, ◌≢◌, ℕ, ◌+◌, ◌<◌, ◌≤◌, true, List, length, map, All, AllPairs, Option, Some, None, slice_index_or, slice_index}
 use Rattle.bc_profile.specs.declared.event.Event.{Event}
 use Rattle.bc_profile.specs.declared.limits.TheConstants.{MAX_SLOTS, MAX_EVENTS}
-use Rattle.bc_profile.specs.SlotJournal.{Slots, slots_after, key_of, is_listed, IsLawful}
+use Rattle.bc_profile.specs.SlotJournal.{Slots, slots_after, is_listed, IsLawful}
 use Rattle.bc_profile.specs.Programmings.{last_programming}
 use Rattle.bc_profile.specs.Rows.{row_of, HaveRows}
 

@@ -31,3 +31,6 @@ pub use registers::Row;
 pub use skips::{Skip, Skips};
 pub use solo::Solo;
 pub use uses::Use;
+
+#[cfg(test)]
+mod tests;

@@ -54,7 +54,8 @@ impl Skips {
 
     /// Whether no further slot fits.
     pub fn is_full(&self) -> bool
-        ensures { result ≡ (length self.now == MAX_SLOTS) }
+        ensures full { result ≡ (length self.now == MAX_SLOTS) }
+        ensures within { length self.now ≤ MAX_SLOTS }
     {
         self.skips.is_full()
     }

@@ -75,6 +75,13 @@ impl Solo {
         })
     }
 
+    /// How many events more the journal has room for.
+    pub fn spare(&self) -> u32
+        ensures { length self.now.journal + result ≡ self.now.quota }
+    {
+        self.quota - self.journal.len() as u32
+    }
+
     /// Takes a hold of the key: its slot, and the place in the journal of the event that programmed the slot with it.
     /// Where no slot has the key, the least recently idle slot is programmed with it first.
     ///

@@ -32,7 +32,7 @@ impl Solo {
     }
 
     /// Carries out one use.
-    fn carry_out_one(&mut self, one: Use)
+    pub(crate) fn carry_out_one(&mut self, one: Use)
         requires free { self.old.held ≡ None }
         requires key { NamesRow (length self.old.rows) one }
         requires spare { HasSpare self.old 2 }

@@ -48,6 +48,6 @@ units_of script (op, operation) = option_map_or (units_of_bio script op operatio
 abbrev pub units_of_section : Script → List Op → List PlannedUnit
 units_of_section script section = flat_map (units_of script) (enumerate_from 0 section)
 
--- the units of each thread
+-- the units of all threads, by the number of the thread
 abbrev pub plan_of : Script → List (List PlannedUnit)
 plan_of script = map (units_of_section script) script.threads

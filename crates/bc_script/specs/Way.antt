@@ -2,6 +2,7 @@
 use Rattle.std.specs.Prelude.{Option, Some, None}
 use Rattle.bc_bio.specs.declared.context.Context.{Context}
 
+-- how a data unit goes to the disk
 pub data Way : Type 0 where
   plain : Way
   soft : Way

@@ -1,12 +1,17 @@
 //! Devices that lie one after the other over a disk.
-ghost use Rattle.std.specs.Prelude.{◌≡◌, ℕ, ◌<◌, ◌≤◌, length, slice_get, All, Some, None, OnOk, IfOk, IfErr, IfSome};
+ghost use Rattle.std.specs.Prelude.{◌≡◌, ℕ, ◌+◌, ◌<◌, ◌≤◌, ◌∷◌, length, take, drop, slice_get, All, Some, None, OnOk, IfOk, IfErr, IfSome};
+ghost use Rattle.std.specs.Option.{option_map};
 ghost use Rattle.bc_key.specs.declared.config.Config.{Config};
 ghost use Rattle.bc_key.specs.Support.{supports};
+ghost use Rattle.bc_bio.specs.Windows.{IsRequest, count_units, units_of_request};
+ghost use Rattle.bc_bio.specs.Requests.{tagged_bios};
+ghost use Rattle.bc_stack.specs.Pieces.{EndsPiece, LiesOnDevice, device_of, pieces_of};
 ghost use Rattle.bc_stack.specs.Devices.{device_at, caps_of, all_support};
 ghost use Rattle.bc_stack.specs.Targets.{HasSlots, IsRefusal, IsStack, refusal_of};
 
 use crate::{StackError, Target};
-use bc_key::Caps;
+use bc_bio::Request;
+use bc_key::{Caps, Keys};
 use std::alloc::Global;
 use std::marker::Model;
 
@@ -87,6 +92,65 @@ impl Stack {
             None => None,
         }
     }
+
+    /// The device of unit number `first` of a request, and how many units from there stand in it, up to the first that lies
+    /// on another device or to the request's end. Each unit from `first` on lies in one target.
+    pub fn cut_at_borders(&self, keys: &Keys, request: &Request, first: u32) -> (u8, u32)
+        requires request { IsRequest keys.now.keys (tagged_bios request.now.bios) }
+        requires within { first < count_units (tagged_bios request.now.bios) }
+        requires located { LiesOnDevice keys.now.keys self.now.targets (tagged_bios request.now.bios) first }
+        ensures device { option_map (device_of self.now.targets)
+            (slice_get (units_of_request keys.now.keys (tagged_bios request.now.bios)) first) ≡ Some result.0 }
+        ensures piece { let units = drop first (units_of_request keys.now.keys (tagged_bios request.now.bios)) in
+            pieces_of self.now.targets units
+            ≡ take result.1 units ∷ pieces_of self.now.targets (drop result.1 units) }
+        ensures some { 1 ≤ result.1 }
+        ensures most { first + result.1 ≤ count_units (tagged_bios request.now.bios) }
+    {
+        let device = device_of(&self.targets, keys, request, first);
+        let end = end_of_piece(&self.targets, keys, request, first, device);
+        (device as u8, end - first)
+    }
+}
+
+/// The number of the device of a unit of a request, or the number of devices where it lies on none.
+fn device_of(targets: &[Target], keys: &Keys, request: &Request, n: u32) -> usize
+    requires request { IsRequest keys.now.keys (tagged_bios request.now.bios) }
+    requires within { n < count_units (tagged_bios request.now.bios) }
+    ensures { option_map (device_of targets.now)
+        (slice_get (units_of_request keys.now.keys (tagged_bios request.now.bios)) n) ≡ Some result }
+{
+    let (_, _, sector, _) = request.unit_at(keys, n);
+    match position_of(targets, sector) {
+        Some(device) => device,
+        None => targets.len(),
+    }
+}
+
+/// The number of the first unit after `first` that lies on another device, or of all units.
+fn end_of_piece(
+    targets: &[Target],
+    keys: &Keys,
+    request: &Request,
+    first: u32,
+    device: usize,
+) -> u32
+    requires request { IsRequest keys.now.keys (tagged_bios request.now.bios) }
+    requires within { first < count_units (tagged_bios request.now.bios) }
+    requires device { option_map (device_of targets.now)
+        (slice_get (units_of_request keys.now.keys (tagged_bios request.now.bios)) first) ≡ Some device }
+    ensures end { EndsPiece targets.now (units_of_request keys.now.keys (tagged_bios request.now.bios)) first device result }
+    ensures most { result ≤ count_units (tagged_bios request.now.bios) }
+{
+    let units = request.units();
+    let mut end = first + 1;
+    while end < units {
+        if device_of(targets, keys, request, end) != device {
+            return end;
+        }
+        end += 1;
+    }
+    units
 }
 
 /// The place of the target that has this sector, if one has it.

@@ -1,4 +1,4 @@
-use Rattle.std.proofs.Common.{◌≡◌, ℕ, ◌<◌, ◌≤◌, length, get_or, None}
+use Rattle.std.proofs.Common.{◌≡◌, ℕ, ◌<◌, ◌≤◌, get_or, None}
 use Rattle.bc_profile.specs.Rows.{cleared, row_of}
 use Rattle.bc_profile.proofs.registers.program_again.Given as goal
 

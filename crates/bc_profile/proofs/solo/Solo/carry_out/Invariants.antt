@@ -1,4 +1,4 @@
-use Rattle.std.proofs.Common.{◌≡◌, ◌+◌, ◌-◌, ◌*◌, ◌≤◌, length, drop, None}
+use Rattle.std.proofs.Common.{◌≡◌, ◌-◌, ◌*◌, length, drop, None}
 use Rattle.bc_profile.specs.OneCaller.{journal_of}
 use Rattle.bc_profile.specs.Solo.{HasSpare, recorded, slots_of}
 use Rattle.bc_profile.proofs.solo.Solo.carry_out.Given as goal

@@ -1,4 +1,4 @@
-use Rattle.std.proofs.Common.{◌≡◌, ◌∙◌, ap, subst, None, ℕ, List, Option}
+use Rattle.std.proofs.Common.{◌∙◌, ap, subst}
 use Rattle.bc_profile.specs.SlotJournal.{AllIdle}
 use Rattle.bc_profile.specs.Stamps.{IsSolo}
 use Rattle.bc_profile.specs.Solo.{SoloData}

@@ -1,7 +1,6 @@
-use Rattle.std.proofs.Common.{◌≡◌, ◌≢◌, ◌∙◌, ℕ, ◌+◌, ◌≤◌, length, List, Option, Some, None, sym, ap, subst}
+use Rattle.std.proofs.Common.{◌≢◌, ◌∙◌, ◌+◌, ◌≤◌, length, Some, sym, ap, subst}
 use Rattle.std.specs.Prelude.{vec_capacity, position, All}
 use Rattle.bc_profile.specs.Solo.{SoloData, HasSpare, slots_of}
-use Rattle.bc_profile.specs.Stamps.{IsSolo}
 use Rattle.bc_profile.specs.SlotJournal.{InNoSlot}
 use Rattle.bc_profile.specs.OneCaller.{is_key}
 use Rattle.bc_profile.proofs.KeyLemmas.{slot_has, in_no_slot}

@@ -1,5 +1,5 @@
-use Rattle.std.proofs.Common.{◌≡◌, ◌∙◌, ℕ, length, sym, ap, subst, arith}
-use Rattle.std.specs.Prelude.{vec_capacity, position}
+use Rattle.std.proofs.Common.{◌∙◌, length, sym, ap, subst, arith}
+use Rattle.std.specs.Prelude.{position}
 use Rattle.std.proofs.lemmas.List.{get_or_default}
 use Rattle.bc_profile.specs.Programmings.{Holds}
 use Rattle.bc_profile.specs.OneCaller.{is_key}

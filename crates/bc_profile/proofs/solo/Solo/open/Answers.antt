@@ -1,9 +1,6 @@
-use Rattle.std.proofs.Common.{◌≡◌, ◌∙◌, ℕ, List, [], Option, None, length, replicate, sym, ap, subst, arith}
+use Rattle.std.proofs.Common.{None, replicate, ap}
 use Rattle.std.specs.Prelude.{vec_capacity}
-use Rattle.std.specs.List.{range_with_len}
-use Rattle.bc_profile.specs.declared.event.Event.{Event}
 use Rattle.bc_profile.specs.Rows.{cleared}
-use Rattle.bc_profile.specs.Stamps.{IsSolo}
 use Rattle.bc_profile.proofs.OpeningLemmas.{same_parts, new_solo}
 use Rattle.bc_profile.proofs.solo.Solo.open.Goals as goal
 

@@ -1,8 +1,8 @@
-use Rattle.std.proofs.Common.{◌≡◌, ◌≢◌, ◌∙◌, ℕ, ◌+◌, ◌<◌, ◌≤◌, length, get_or, List, [], ◌∷◌, ◌++◌, Option, Some, None, sym, ap, subst, arith, slice_set}
-use Rattle.std.specs.Prelude.{vec_capacity, position, All, vec_len}
+use Rattle.std.proofs.Common.{◌≡◌, ◌∙◌, ℕ, ◌+◌, ◌<◌, ◌≤◌, length, get_or, [], ◌∷◌, ◌++◌, Some, None, sym, ap, subst, arith, slice_set}
+use Rattle.std.specs.Prelude.{vec_capacity, position}
 use Rattle.bc_profile.specs.Solo.{SoloData, HasSpare, slots_of}
 use Rattle.bc_profile.specs.Stamps.{IsSolo}
-use Rattle.std.proofs.lemmas.List.{length-set, get_or-set_same, get_or_default}
+use Rattle.std.proofs.lemmas.List.{get_or-set_same, get_or_default}
 use Rattle.bc_profile.specs.declared.event.Event.TheVariants.{Program}
 use Rattle.bc_profile.specs.Programmings.{Holds}
 use Rattle.bc_profile.specs.Rows.{cleared}

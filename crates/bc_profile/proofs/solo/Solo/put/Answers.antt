@@ -1,4 +1,4 @@
-use Rattle.std.proofs.Common.{◌≡◌, ◌∙◌, ℕ, ◌+◌, length, List, Option, Some, None, sym, ap, subst, slice_set}
+use Rattle.std.proofs.Common.{◌≡◌, ◌∙◌, ◌+◌, length, None, sym, ap, subst, slice_set}
 use Rattle.std.specs.Prelude.{vec_capacity}
 use Rattle.bc_profile.specs.Solo.{SoloData}
 use Rattle.bc_profile.specs.Stamps.{IsSolo}

@@ -1,7 +1,6 @@
-use Rattle.std.proofs.Common.{◌≡◌, ◌∙◌, ℕ, ◌+◌, ◌≤◌, length, map, take, drop, List, Option, None, sym, ap, subst}
+use Rattle.std.proofs.Common.{◌∙◌, ◌+◌, ◌≤◌, length, map, sym, ap, subst}
 use Rattle.std.specs.Prelude.{vec_capacity}
-use Rattle.bc_profile.specs.Solo.{SoloData, HasSpare, slots_of}
-use Rattle.bc_profile.specs.Stamps.{IsSolo}
+use Rattle.bc_profile.specs.Solo.{SoloData, HasSpare}
 use Rattle.bc_profile.specs.Rows.{row_of}
 use Rattle.bc_profile.proofs.SoloLemmas.{free_parts, held_parts, keeps_reset, written_back}
 use Rattle.bc_profile.proofs.solo.Solo.reset.Goals as goal

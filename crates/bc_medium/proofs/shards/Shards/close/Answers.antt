@@ -1,0 +1,20 @@
+use Rattle.std.proofs.Common.{rules, ◌++◌, ◌∷◌, [], List, map, ap, ap₂, sym, ◌∙◌}
+use Rattle.std.proofs.lemmas.List.{map-append}
+use Rattle.bc_base.proofs.Lists.{each_append}
+use Rattle.bc_medium.specs.ShardOrder.{ShardData, IsOrder}
+use Rattle.bc_medium.proofs.Chosen.{more_done}
+use Rattle.bc_medium.proofs.shards.Shards.close.Goals as goal
+
+pub loop-shard-preserved : goal.loop-shard-preserved
+loop-shard-preserved g c =
+    let i = c.loop-shard.invariant.0 in let done : List (ShardData g.row.S.Denot) = i.0 in let s = c.in-Some.shard in let e = c.close-store.ensures in (
+      (
+        done ++ s ∷ [],
+        more_done done c.pop.new.self.items c.loop-shard.shards.items c.args.self s i.1 c.in-Some.ensures.items,
+        c.push_reserved.ensures.items ∙ ap₂ (λ l x. l ++ x ∷ []) i.2 e.parts.0 ∙ sym (map-append (λ z. z.store) done (s ∷ [])),
+        ap (map (λ o. o.items)) c.push_reserved-in-Some.ensures.items ∙ map-append (λ o. o.items) c.loop-shard.orders.items _ ∙ ap₂ (λ l x. l ++ x ∷ []) i.3 e.parts.1 ∙ sym (map-append (λ z. z.entries) done (s ∷ [])),
+        each_append (λ z. IsOrder g.S.Store.owns g.S.Store.contents g.S.Store.told g.S.Store.faults z.start z.keys z.store z.entries) done (s ∷ []) i.4 (e.order, tt),
+      ),
+      search rules,
+      search rules,
+    )
