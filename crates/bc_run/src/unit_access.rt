@@ -40,8 +40,9 @@ fn write_unit(image: &mut [u8], ciphers: &Ciphers, bio: &Extent, text: &Text, un
     ensures disk { image_sectors image.new ≡ with_bytes (image_sectors image.old) (bio.now.sector + unit * unit_sectors ciphers.now bio.now.context)
         (enciphered ciphers.now (context_after unit bio.now.context) (text_at text.now (512 * unit_sectors ciphers.now bio.now.context) unit)) }
 {
-    let start = SECTOR_BYTES * bio.sector_at(ciphers.keys(), unit) as usize;
-    let end = start + bio.unit_bytes(ciphers.keys());
+    let keys = ciphers.keys();
+    let start = SECTOR_BYTES * bio.sector_at(keys, unit) as usize;
+    let end = start + bio.unit_bytes(keys);
     let context = bio.context_at(unit);
     put_enciphered(
         &mut image[start..end],
