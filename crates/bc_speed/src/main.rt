@@ -15,7 +15,7 @@
 //! READS reads, each of one data unit of 512 bytes without a key; it is refused where they are more than a script may have.
 #![tactic(auto)]
 
-ghost use Rattle.std.specs.Prelude.{◌≡◌, length};
+ghost use Rattle.std.specs.Prelude.{◌≡◌, ◌≤◌, length, IfOk};
 
 // data units, one and many
 mod direction;
@@ -23,6 +23,7 @@ mod single;
 mod units;
 
 // what is measured
+mod keyslots;
 mod measure;
 mod scripts;
 
@@ -52,7 +53,9 @@ fn size(word: &str) -> Result<DataUnit> {
 }
 
 /// A number of at least 1 and at most `most`.
-fn number(word: &str, most: u32) -> Result<u32> {
+fn number(word: &str, most: u32) -> Result<u32>
+    ensures { IfOk result (λ number. (1 ≤ number) × (number ≤ most)) }
+{
     let Ok(number) = word.parse::<u32>() else {
         bail!("{word:?} is no number");
     };
@@ -91,6 +94,10 @@ fn many_units(rt: &(impl Print + Clock), alloc: Global, words: &[String]) -> Res
 fn run(rt: &(impl Print + Clock), alloc: Global, words: &[String]) -> Result<()> {
     if words.len() == 4 {
         return many_units(rt, alloc, words);
+    }
+    if words.len() == 2 && words[0].as_str() == "keyslots" {
+        let holds = number(words[1].as_str(), keyslots::MOST_HOLDS)?;
+        return keyslots::show(rt, alloc, holds);
     }
     if words.len() == 3 && words[0].as_str() == "expand" {
         let keys = number(words[2].as_str(), MOST_KEYS)?;
