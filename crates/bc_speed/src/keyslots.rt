@@ -1,5 +1,5 @@
 //! Holds of keys by a keyslot manager for one caller.
-ghost use Rattle.std.specs.Prelude.{◌≡◌, ◌*◌, ◌<◌, ◌≤◌, length, IfOk, None};
+ghost use Rattle.std.specs.Prelude.{◌≡◌, ◌≤◌, length, IfOk, None};
 
 use anyhow::{Result, bail};
 use bc_key::KeyNo;

@@ -1,4 +1,4 @@
-//! Measures the unit ciphers and the script language, and shows what the ciphers make of single data units.
+//! Measures the unit ciphers, the script language and the keyslot manager, and shows what the ciphers make of single data units.
 //!
 //! | Words | What is printed |
 //! |---|---|
@@ -6,6 +6,7 @@
 //! | `decrypt MODE SIZE UNITS` | the same of deciphering |
 //! | `expand MODE KEYS` | how fast so many keys are expanded |
 //! | `digest MODE SIZE UNITS` | the digests of both ways alone, which are the same at each run |
+//! | `keyslots HOLDS` | how long so many holds of keys take by a keyslot manager for one caller, and how many events it records |
 //! | `script HEX READS` | the bytes and operations of a script's text, and how fast it is parsed and printed |
 //! | `unit encrypt KEY NUMBER TEXT` | the raw bytes of one data unit, all in hexadecimal digits |
 //! | `unit decrypt KEY NUMBER TEXT` | the text of one data unit's raw bytes |
@@ -35,7 +36,7 @@ use std::env;
 use std::rt::Clock;
 
 const USAGE: &str =
-    "words: encrypt|decrypt|digest xts|essiv SIZE UNITS, expand xts|essiv KEYS, script HEX READS, unit encrypt|decrypt KEY NUMBER TEXT";
+    "words: encrypt|decrypt|digest xts|essiv SIZE UNITS, expand xts|essiv KEYS, keyslots HOLDS, script HEX READS, unit encrypt|decrypt KEY NUMBER TEXT";
 
 /// How many data units a measurement may have: those of 4096 bytes then fill 256 MiB.
 const MOST_UNITS: u32 = 65536;
