@@ -1,4 +1,4 @@
-//! Measures the unit ciphers and the script language, and shows what the ciphers make of single data units.
+//! Measures the unit ciphers and the two languages, and shows what the ciphers make of single data units.
 //!
 //! | Words | What is printed |
 //! |---|---|
@@ -7,12 +7,15 @@
 //! | `expand MODE KEYS` | how fast so many keys are expanded |
 //! | `digest MODE SIZE UNITS` | the digests of both ways alone, which are the same at each run |
 //! | `script HEX READS` | the bytes and operations of a script's text, and how fast it is parsed and printed |
+//! | `report COUNT` | the bytes of a report's text, and how fast it is parsed and printed |
+//! | `read` | the report that standard input says, printed again, or the first line that no report has there |
 //! | `unit encrypt KEY NUMBER TEXT` | the raw bytes of one data unit, all in hexadecimal digits |
 //! | `unit decrypt KEY NUMBER TEXT` | the text of one data unit's raw bytes |
 //!
 //! MODE is `xts` or `essiv`; of a single unit the length of KEY tells it. Unit i of a measurement has the number i, its
 //! texts are the same at each run, and the key has the bytes 00 to 3f, or 00 to 0f. The script has HEX writes by `hex` and
 //! READS reads, each of one data unit of 512 bytes without a key; it is refused where they are more than a script may have.
+//! The report has one thread with COUNT answers and one shard with as many entries.
 #![tactic(auto)]
 
 ghost use Rattle.std.specs.Prelude.{◌≡◌, length};
@@ -24,7 +27,11 @@ mod units;
 
 // what is measured
 mod measure;
+mod reports;
 mod scripts;
+
+// what is read
+mod reading;
 
 use anyhow::{Context, Result, bail};
 use bc_key::{DataUnit, Mode};
@@ -34,7 +41,7 @@ use std::env;
 use std::rt::Clock;
 
 const USAGE: &str =
-    "words: encrypt|decrypt|digest xts|essiv SIZE UNITS, expand xts|essiv KEYS, script HEX READS, unit encrypt|decrypt KEY NUMBER TEXT";
+    "words: encrypt|decrypt|digest xts|essiv SIZE UNITS, expand xts|essiv KEYS, script HEX READS, report COUNT, read, unit encrypt|decrypt KEY NUMBER TEXT";
 
 /// How many data units a measurement may have: those of 4096 bytes then fill 256 MiB.
 const MOST_UNITS: u32 = 65536;
@@ -101,6 +108,9 @@ fn run(rt: &(impl Print + Clock), alloc: Global, words: &[String]) -> Result<()>
         let reads = number(words[2].as_str(), MOST_OPERATIONS)?;
         return measure::script(rt, alloc, writes, reads);
     }
+    if words.len() == 2 && words[0].as_str() == "report" {
+        return reports::speed(rt, alloc, number(words[1].as_str(), MOST_OPERATIONS)?);
+    }
     if words.len() == 5 && words[0].as_str() == "unit" {
         let way = Direction::of_word(words[1].as_str()).context(USAGE)?;
         let (key, number, text) = (words[2].as_str(), words[3].as_str(), words[4].as_str());
@@ -112,5 +122,8 @@ fn run(rt: &(impl Print + Clock), alloc: Global, words: &[String]) -> Result<()>
 fn main(rt: HostRuntime) -> Result<()> {
     let alloc = rt.alloc();
     let words: Vec<String> = env::args(&rt)?.skip(1).collect(alloc)?;
+    if words.len() == 1 && words[0].as_str() == "read" {
+        return reading::answer(&rt, alloc);
+    }
     run(&rt, alloc, words.as_slice())
 }
