@@ -1,4 +1,5 @@
-//! Measures the unit ciphers and the script language, and shows what the ciphers make of single data units.
+//! Measures the unit ciphers, the texts of scripts and reports, and the keyslot manager, and shows what the ciphers make of
+//! single data units.
 //!
 //! | Words | What is printed |
 //! |---|---|
@@ -6,16 +7,20 @@
 //! | `decrypt MODE SIZE UNITS` | the same of deciphering |
 //! | `expand MODE KEYS` | how fast so many keys are expanded |
 //! | `digest MODE SIZE UNITS` | the digests of both ways alone, which are the same at each run |
+//! | `keyslots HOLDS` | how long so many holds of keys take by a keyslot manager for one caller, and how many events it records |
 //! | `script HEX READS` | the bytes and operations of a script's text, and how fast it is parsed and printed |
+//! | `report COUNT` | the bytes of a report's text, and how fast it is parsed and printed |
+//! | `read` | the report that standard input says, printed again, or the first line that no report has there |
 //! | `unit encrypt KEY NUMBER TEXT` | the raw bytes of one data unit, all in hexadecimal digits |
 //! | `unit decrypt KEY NUMBER TEXT` | the text of one data unit's raw bytes |
 //!
 //! MODE is `xts` or `essiv`; of a single unit the length of KEY tells it. Unit i of a measurement has the number i, its
 //! texts are the same at each run, and the key has the bytes 00 to 3f, or 00 to 0f. The script has HEX writes by `hex` and
 //! READS reads, each of one data unit of 512 bytes without a key; it is refused where they are more than a script may have.
+//! The report has one thread with COUNT answers and one shard with as many entries.
 #![tactic(auto)]
 
-ghost use Rattle.std.specs.Prelude.{◌≡◌, length};
+ghost use Rattle.std.specs.Prelude.{◌≡◌, ◌≤◌, length, IfOk};
 
 // data units, one and many
 mod direction;
@@ -23,8 +28,13 @@ mod single;
 mod units;
 
 // what is measured
+mod keyslots;
 mod measure;
+mod reports;
 mod scripts;
+
+// what is read
+mod reading;
 
 use anyhow::{Context, Result, bail};
 use bc_key::{DataUnit, Mode};
@@ -34,7 +44,7 @@ use std::env;
 use std::rt::Clock;
 
 const USAGE: &str =
-    "words: encrypt|decrypt|digest xts|essiv SIZE UNITS, expand xts|essiv KEYS, script HEX READS, unit encrypt|decrypt KEY NUMBER TEXT";
+    "words: encrypt|decrypt|digest xts|essiv SIZE UNITS, expand xts|essiv KEYS, keyslots HOLDS, script HEX READS, report COUNT, read, unit encrypt|decrypt KEY NUMBER TEXT";
 
 /// How many data units a measurement may have: those of 4096 bytes then fill 256 MiB.
 const MOST_UNITS: u32 = 65536;
@@ -52,7 +62,9 @@ fn size(word: &str) -> Result<DataUnit> {
 }
 
 /// A number of at least 1 and at most `most`.
-fn number(word: &str, most: u32) -> Result<u32> {
+fn number(word: &str, most: u32) -> Result<u32>
+    ensures { IfOk result (λ number. (1 ≤ number) × (number ≤ most)) }
+{
     let Ok(number) = word.parse::<u32>() else {
         bail!("{word:?} is no number");
     };
@@ -92,6 +104,10 @@ fn run(rt: &(impl Print + Clock), alloc: Global, words: &[String]) -> Result<()>
     if words.len() == 4 {
         return many_units(rt, alloc, words);
     }
+    if words.len() == 2 && words[0].as_str() == "keyslots" {
+        let holds = number(words[1].as_str(), keyslots::MOST_HOLDS)?;
+        return keyslots::show(rt, alloc, holds);
+    }
     if words.len() == 3 && words[0].as_str() == "expand" {
         let keys = number(words[2].as_str(), MOST_KEYS)?;
         return measure::expansions(rt, mode(words[1].as_str())?, keys);
@@ -100,6 +116,9 @@ fn run(rt: &(impl Print + Clock), alloc: Global, words: &[String]) -> Result<()>
         let writes = number(words[1].as_str(), MOST_OPERATIONS)?;
         let reads = number(words[2].as_str(), MOST_OPERATIONS)?;
         return measure::script(rt, alloc, writes, reads);
+    }
+    if words.len() == 2 && words[0].as_str() == "report" {
+        return reports::speed(rt, alloc, number(words[1].as_str(), MOST_OPERATIONS)?);
     }
     if words.len() == 5 && words[0].as_str() == "unit" {
         let way = Direction::of_word(words[1].as_str()).context(USAGE)?;
@@ -112,5 +131,8 @@ fn run(rt: &(impl Print + Clock), alloc: Global, words: &[String]) -> Result<()>
 fn main(rt: HostRuntime) -> Result<()> {
     let alloc = rt.alloc();
     let words: Vec<String> = env::args(&rt)?.skip(1).collect(alloc)?;
+    if words.len() == 1 && words[0].as_str() == "read" {
+        return reading::answer(&rt, alloc);
+    }
     run(&rt, alloc, words.as_slice())
 }

@@ -10,8 +10,8 @@ use std::hint::black_box;
 use std::rt::Clock;
 use std::time::{Duration, Instant};
 
-/// How often a script's text is parsed and printed.
-const TIMES: u32 = 5;
+/// How often a text is parsed and printed.
+pub const TIMES: u32 = 5;
 
 /// The key of all measurements: the bytes 00 to 3f, of which ESSIV takes the first 16.
 fn key() -> [u8; 64] {
@@ -23,7 +23,7 @@ fn key() -> [u8; 64] {
 }
 
 /// The work in a microsecond, which is in millions a second.
-fn a_microsecond(work: u64, took: Duration) -> u64 {
+pub fn a_microsecond(work: u64, took: Duration) -> u64 {
     let micros = took.as_micros().max(1);
     (u128::from(work) / micros) as u64
 }
