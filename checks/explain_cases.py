@@ -41,7 +41,7 @@ CASES = [
     ("two spaces", operation("write a 0  1 0 fill 00"), 6, "word", "  ", "two spaces in a row"),
     ("a space at the end", operation("write a 0 1 0 fill 00 "), 6, "word", " ", "after the last field"),
     ("an indented line", operation("  write a 0 1 0 fill 00"), 6, "word", "  ", "aren't indented"),
-    ("a long dash", operation("write \xad 0 1 \xad fill 00"), 6, "word", None, "ad"),
+    ("a long dash", operation("write \xad 0 1 \xad fill 00"), 6, "name", None, "ad"),
     ("another version", script(1, "blkcrypt 2"), 1, "word", "2", "Here stands 1"),
     ("a word in capitals", operation("Write a 0 1 0 fill 00"), 6, "word", "Write", "lower case: write"),
     ("a word misspelt", operation("wirte a 0 1 0 fill 00"), 6, "word", "wirte", "Perhaps write is meant"),
