@@ -3,6 +3,7 @@
 ghost use Rattle.std.specs.Prelude.{◌≡◌, ◌≢◌, ◌⊎◌, ◌↔◌, ℕ, ◌<◌, ◌≤◌, List, [], length, Some, None, MatchOption, IsSomeAnd, IfOk, IfErr, IsErrOf, OnOk, OnErr};
 ghost use Rattle.std.specs.Str.{bytes_eq};
 ghost use Rattle.bc_base.specs.Memory.{NextFails, called, failed};
+ghost use Rattle.bc_base.specs.Outside.{HasCause};
 ghost use Rattle.bc_base.specs.Folders.{bytes_of, IsPlaceOf};
 
 use crate::calls::Calls;
@@ -70,6 +71,7 @@ impl Folder for MemFolder {
         ensures missing { IsErrOf result GetError.Missing → bytes_of self.old.files name.now ≡ None }
         ensures too_long { IsErrOf result GetError.TooLong
             → IsSomeAnd (bytes_of self.old.files name.now) (λ bytes. limit < length bytes) }
+        ensures cause { HasCause self.old.calls.faults self.new.calls.faults (IsErrOf result GetError.Failed) }
         ensures fails { IsErrOf result GetError.Failed ↔ NextFails self.old.calls }
         ensures failed { IsErrOf result GetError.Failed
             → self.new ≡ record self.old { calls = failed self.old.calls } }
@@ -88,6 +90,7 @@ impl Folder for MemFolder {
         ensures others { (other : List ℕ) → other ≢ name.now
             → bytes_of self.new.files other ≡ bytes_of self.old.files other }
         ensures same { OnErr result (self.new.files ≡ self.old.files) }
+        ensures cause { HasCause self.old.calls.faults self.new.calls.faults (IsErrOf result PutError.Failed) }
         ensures fails { IsErrOf result PutError.Failed ↔ NextFails self.old.calls }
         ensures failed { IsErrOf result PutError.Failed → self.new.calls ≡ failed self.old.calls }
         ensures called { (IsErrOf result PutError.Failed → ⊥) → self.new.calls ≡ called self.old.calls }
