@@ -1,7 +1,7 @@
 -- Crypto configuration entries, read as they were written: the bytes of an entry's dwords, and the cipher that they mean.
-use Rattle.std.proofs.Common.{◌≡◌, ℕ, zero, suc, ◌+◌, ◌-◌, ◌*◌, ◌<◌, ◌≤◌, ◌==◌, Bool, true, false, not, ◌&&◌, cond, bit_and, List, [], ◌∷◌, ◌++◌, length, map, take, drop, replicate, get_or, slice_index, slice_get, All, Option, Some, None, Result, Ok, Err, refl, sym, ap, ap₂, ◌∙◌, subst, arith, inl, inr}
+use Rattle.std.proofs.Common.{◌≡◌, ℕ, zero, suc, ◌+◌, ◌-◌, ◌*◌, ◌<◌, ◌≤◌, ◌==◌, Bool, true, not, cond, bit_and, List, [], ◌∷◌, ◌++◌, length, map, take, drop, replicate, get_or, slice_index, slice_get, Option, Some, None, Ok, Err, refl, sym, ap, ap₂, ◌∙◌, subst, arith, inl, inr}
 use Rattle.std.specs.Prelude.{position}
-use Rattle.std.specs.Option.{option_map, option_map_or}
+use Rattle.std.specs.Option.{option_map_or}
 use Rattle.std.specs.Int.{w32, bit_at, from_le_bytes, to_le_bytes}
 use Rattle.std.specs.List.{flat_map}
 use Rattle.std.specs.Simd.{first_chunks}
@@ -14,14 +14,13 @@ use Rattle.bc_key.specs.declared.config.Mode.{Mode}
 use Rattle.bc_key.specs.declared.config.Mode.TheVariants.{Aes256Xts, Aes128CbcEssiv}
 use Rattle.bc_key.specs.declared.config.DataUnit.{DataUnit}
 use Rattle.bc_key.specs.declared.config.DataUnit.TheVariants.{Bytes512, Bytes1024, Bytes2048, Bytes4096}
-use Rattle.bc_key.specs.DataUnits.{sectors_of, bit_of, unit_of}
+use Rattle.bc_key.specs.DataUnits.{sectors_of, bit_of}
 use Rattle.bc_key.specs.KeyData.{KeyData, IsValid, key_size}
 use Rattle.bc_key.specs.Support.{has_bits}
 use Rattle.bc_modes.specs.declared.ufs_caps.Capability.{Capability}
-use Rattle.bc_modes.specs.declared.entry.EntryError.{EntryError}
-use Rattle.bc_modes.specs.declared.entry.EntryError.TheVariants.{Disabled, BadCapability, BadUnitSize}
+use Rattle.bc_modes.specs.declared.entry.EntryError.TheVariants.{Disabled, BadUnitSize}
 use Rattle.bc_modes.specs.Capabilities.{Capabilities, index_for, same_mode, serves}
-use Rattle.bc_modes.specs.Entries.{is_enabled, capability_of, words_of_bytes, bytes_of_words, key_field, settings, entry_bytes, if_served, served_unit, parts_in, read_under, read_bytes, read_words}
+use Rattle.bc_modes.specs.Entries.{is_enabled, capability_of, words_of_bytes, bytes_of_words, key_field, settings, entry_bytes, served_unit, parts_in, read_under, read_bytes, read_words}
 use Rattle.bc_modes.specs.UnitCipher.{CipherParts, parts_of}
 use Rattle.bc_modes.proofs.Bytes.{AreBytes, AreBytes-drop}
 
@@ -169,7 +168,7 @@ unfolding read_words
 reads_back key caps index valid small found =
     let bytes : List ℕ = entry_bytes key index in
     let at = capability_at (serves key.config.mode key.config.unit) caps.list index found in
-    let parts = and_parts _ _ at.2 in
+    let parts = and_parts (same_mode at.0.mode key.config.mode) (has_bits at.0.units (bit_of key.config.unit)) at.2 in
     let enabled : slice_index bytes 67 ≡ 0x80 = setting_at key index 67 valid (omega arith) in
     let named : slice_index bytes 65 ≡ index = setting_at key index 65 valid (omega arith) in
     ap (λ (bytes : List ℕ). read_bytes bytes caps) (entry_back key index valid small)

@@ -10,4 +10,5 @@ pub mod CipherLengths
 pub mod UnitLaws
 pub mod EssivLaws
 pub mod EntryLaws
+mod EntryExamples
 mod Examples

@@ -10,8 +10,8 @@ ghost use Rattle.bc_modes.specs.Entries.{entry_words, read_bytes, read_words, Is
 ghost use Rattle.bc_modes.specs.UnitCipher.{parts_of};
 
 use crate::entry_bytes::{
-    CAPABILITY, ENABLE, ENABLED, ENTRY_BYTES, ENTRY_WORDS, KEY_BYTES, UNIT, bytes_of_words,
-    entry_bytes, words_of_bytes,
+    CAPABILITY_BYTE, ENABLE_BYTE, ENABLED, ENTRY_BYTES, ENTRY_WORDS, KEY_BYTES, UNIT_BYTE,
+    bytes_of_words, entry_bytes, words_of_bytes,
 };
 use crate::{UfsCaps, UnitCipher};
 use bc_key::Key;
@@ -66,13 +66,13 @@ pub fn cipher_of_words(words: &[u32; ENTRY_WORDS], caps: &UfsCaps) -> Result<Uni
 fn cipher_of_bytes(bytes: &[u8; ENTRY_BYTES], caps: &UfsCaps) -> Result<UnitCipher, EntryError>
     ensures { result ≡ read_bytes bytes.now caps.now }
 {
-    if bytes[ENABLE] & ENABLED == 0 {
+    if bytes[ENABLE_BYTE] & ENABLED == 0 {
         return Err(EntryError::Disabled);
     }
-    let Some(capability) = caps.capability(bytes[CAPABILITY]) else {
+    let Some(capability) = caps.capability(bytes[CAPABILITY_BYTE]) else {
         return Err(EntryError::BadCapability);
     };
-    let Some(unit) = capability.served_unit(bytes[UNIT]) else {
+    let Some(unit) = capability.served_unit(bytes[UNIT_BYTE]) else {
         return Err(EntryError::BadUnitSize);
     };
     let mut raw = [0; KEY_BYTES];

@@ -14,13 +14,13 @@ pub(crate) const ENTRY_BYTES: usize = 72;
 pub(crate) const KEY_BYTES: usize = 64;
 
 /// Where the data unit's size stands, in sectors.
-pub(crate) const UNIT: usize = 64;
+pub(crate) const UNIT_BYTE: usize = 64;
 
 /// Where the capability index stands.
-pub(crate) const CAPABILITY: usize = 65;
+pub(crate) const CAPABILITY_BYTE: usize = 65;
 
 /// Where the bit stands that enables the entry.
-pub(crate) const ENABLE: usize = 67;
+pub(crate) const ENABLE_BYTE: usize = 67;
 
 /// That bit.
 pub(crate) const ENABLED: u8 = 0x80;

@@ -1,5 +1,4 @@
-use Rattle.std.proofs.Common.{◌≡◌, Bool, true, Some, rules, sym, ap, ◌∙◌, slice_index, take}
-use Rattle.bc_key.specs.declared.config.Mode.{Mode}
+use Rattle.std.proofs.Common.{◌≡◌, true, Some, rules, ap, ◌∙◌, slice_index, take}
 use Rattle.bc_key.specs.KeyData.{key_size}
 use Rattle.bc_modes.specs.Entries.{is_enabled, capability_of, served_unit, parts_in}
 use Rattle.bc_modes.proofs.EntryLaws.{read_ok, key_within, enabled_by}
