@@ -17,8 +17,18 @@ mod tweak;
 mod laws;
 mod unit_cipher;
 
+// a controller's capabilities, and the entries of its keyslots
+mod entry;
+mod entry_bytes;
+mod ufs_caps;
+
+pub use entry::{EntryError, cipher_of_words, entry_words};
+pub use entry_bytes::ENTRY_WORDS;
 pub use laws::unit_laws;
+pub use ufs_caps::{Capability, UfsCaps};
 pub use unit_cipher::UnitCipher;
 
+#[cfg(test)]
+mod entry_tests;
 #[cfg(test)]
 mod tests;
