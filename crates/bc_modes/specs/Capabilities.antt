@@ -39,7 +39,9 @@ present capability = if capability.units == 0 then [] else capability ∷ []
 -- the capabilities of a controller that can do what this set says: AES-256-XTS first
 abbrev pub capabilities_of : Caps → Capabilities
 capabilities_of caps = record {
-  list = present (record { mode = Aes256Xts; units = caps.xts }) ++ present (record { mode = Aes128CbcEssiv; units = caps.essiv });
+  list =
+      present (record { mode = Aes256Xts; units = caps.xts })
+      ++ present (record { mode = Aes128CbcEssiv; units = caps.essiv });
   max_dun_bytes = caps.max_dun_bytes;
 }
 

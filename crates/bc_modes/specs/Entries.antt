@@ -57,7 +57,7 @@ if_served capability unit = if has_bits capability.units (bit_of unit) then Some
 abbrev pub served_unit : Capability → ℕ → Option DataUnit
 served_unit capability sectors = option_map_or (if_served capability) (unit_of (512 * sectors)) None
 
--- the parts of the cipher that an entry means: its capability's mode, its data unit, and as many bytes as the mode's keys have
+-- the parts of the cipher that an entry means: its capability's mode, its data unit, as many bytes as the mode's keys have
 abbrev pub parts_in : List ℕ → Capability → DataUnit → CipherParts
 parts_in bytes capability unit =
     record { mode = capability.mode; unit = unit; raw = take (key_size capability.mode) bytes }
@@ -66,7 +66,8 @@ parts_in bytes capability unit =
 abbrev pub read_under : List ℕ → Option Capability → Result CipherParts EntryError
 read_under bytes None = Err BadCapability
 read_under bytes (Some capability) =
-    option_map_or (λ unit. Ok (parts_in bytes capability unit)) (served_unit capability (slice_index bytes 64)) (Err BadUnitSize)
+    option_map_or (λ unit. Ok (parts_in bytes capability unit))
+    (served_unit capability (slice_index bytes 64)) (Err BadUnitSize)
 
 -- what an entry's bytes are read as: the first test that fails, or a cipher's parts
 abbrev pub read_bytes : List ℕ → Capabilities → Result CipherParts EntryError

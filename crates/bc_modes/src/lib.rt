@@ -2,7 +2,13 @@
 //!
 //! `UnitCipher` does it for both modes, AES-256-XTS (IEEE 1619) and AES-128-CBC-ESSIV, in place. What comes out is said
 //! by the definitions of `specs/`: `UnitCipher` goes by the mode to `Xts`, whose tweaks are polynomials (`Tweak`), and to
-//! `CbcEssiv`. Nothing here allocates, waits or refuses.
+//! `CbcEssiv`.
+//!
+//! A controller with inline encryption holds keys in its registers, as crypto configuration entries: [`entry_words`] makes a
+//! key's entry, and [`cipher_of_words`] reads one as the unit cipher that it means, or says why it means none (`Entries`). What
+//! a controller can do is its [`UfsCaps`] (`Capabilities`).
+//!
+//! Nothing here allocates or waits, and no cipher refuses a data unit.
 #![tactic(auto)]
 
 // the two modes
