@@ -224,7 +224,8 @@ REPORTED = [
         ["report 1", "thread 0", "thread 1", "shard 0 0", "end"]),
     # A fault on a shard that the run doesn't have, or at a place that it doesn't reach, is without effect.
     ("the last fault that may be planned", headed("fault 63 65535"), ["report 1", "shard 0 0", "end"]),
-    ("faults that aren't met", headed(H512, "fault 0 2", "fault 0 65535", "fault 1 0", "thread", "write a 0 1 0 fill 00", "read a 0 1 0"),
+    ("faults that aren't met",
+        headed(H512, "fault 0 2", "fault 0 65535", "fault 1 0", "thread", "write a 0 1 0 fill 00", "read a 0 1 0"),
         ["report 1", "thread 0", "done", "done fill 00", "shard 0 2", "0 0 0 soft", "0 1 0 soft", "end"]),
     ("1024 faults that aren't met", headed(*many_faults(1024), "thread", "read - 0 8 -"),
         ["report 1", "thread 0", "done fill 00", "shard 0 8", *(f"0 0 {unit} plain" for unit in range(8)), "end"]),

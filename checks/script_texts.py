@@ -195,7 +195,8 @@ def shapes(dice):
     yield "no key", text_of(head(1) + ["end"])
     yield "a fault and nothing else", text_of(head(1) + ["fault 0 0", "end"])
     yield "a fault of each shard", text_of(head(1) + [f"fault {shard} {65535 - shard}" for shard in range(64)] + ["thread", "end"])
-    yield "as many faults as there may be", script_with_faults(dice, [f"fault {1 + place // 17} {place * 3}" for place in range(1024)])
+    yield "as many faults as there may be", script_with_faults(
+        dice, [f"fault {1 + place // 17} {place * 3}" for place in range(1024)])
     yield "as many keys and faults as there may be", text_of(
         head(1) + many_keys(dice, 4096) + [f"fault 1 {place}" for place in range(1024)] + ["thread", "end"])
     yield "the largest disk and no key", text_of(head(16384) + ["end"])
@@ -297,7 +298,8 @@ LINES = [
 def base(dice):
     """The lines of a valid script that has a line of each form."""
     return [
-        *head(2), key_line(dice, "a"), key_line(dice, "e", ESSIV, 4096, 2), "fault 1 7", "fault 2 0", "thread", "write a 9 1 c0ffee fill 5a",
+        *head(2), key_line(dice, "a"), key_line(dice, "e", ESSIV, 4096, 2), "fault 1 7", "fault 2 0", "thread",
+        "write a 9 1 c0ffee fill 5a",
         f"write a 0 1 0 hex {dice.randbytes(512).hex()}", "plug", "read a 9 1 c0ffee", "write e 8 1 ffff fill 00", "unplug",
         "evict e", "read - 8 8 -", "thread", "read e 8 1 ffff", "end"]
 
@@ -372,7 +374,8 @@ def faults_changed(dice, lines):
     """Other faults in place of those that stand there, a few of them out of order or twice."""
     faults = fault_lines([(dice.randrange(1, 4), dice.randrange(5, 15)) for _ in range(dice.choice([2, 3, 5, 9]))])
     for _ in range(dice.choice([0, 1, 1, 2])):
-        faults.insert(dice.randrange(len(faults) + 1), dice.choice([*faults, "fault 0 9", "fault 3 15", "fault 64 0", "fault 1 65536"]))
+        another = dice.choice([*faults, "fault 0 9", "fault 3 15", "fault 64 0", "fault 1 65536"])
+        faults.insert(dice.randrange(len(faults) + 1), another)
     return text_of([*lines[:5], *faults, *lines[7:]])
 
 
@@ -448,8 +451,10 @@ def broken(dice):
     for count in [1024, 1025]:
         yield f"{count} faults behind as many keys as there may be", text_of(
             head(1) + many_keys(dice, 4096) + [f"fault 1 {place}" for place in range(count)] + ["end"])
-    yield "a fault too many, of many shards", script_with_faults(dice, [f"fault {1 + place // 17} {place}" for place in range(1025)])
-    yield "the last of many faults twice", script_with_faults(dice, [f"fault 9 {place}" for place in range(1023)] + ["fault 9 1022"])
+    yield "a fault too many, of many shards", script_with_faults(
+        dice, [f"fault {1 + place // 17} {place}" for place in range(1025)])
+    yield "the last of many faults twice", script_with_faults(
+        dice, [f"fault 9 {place}" for place in range(1023)] + ["fault 9 1022"])
     yield "a key too many", text_of(head(1) + many_keys(dice, 4096) + [key_line(dice, "z"), "end"])
     for place in [0, 1, 2047, 4094]:
         yield f"the name of key {place} of 4096 once more", text_of(

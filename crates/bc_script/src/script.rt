@@ -7,8 +7,8 @@ use crate::op::Op;
 use bc_base::Items;
 use std::marker::Model;
 
-/// A script: a disk, its keys, the faults that are planned, and for each thread the section of its operations. It keeps the rules of the script
-/// language by its type, so each script has a text.
+/// A script: a disk, its keys, the faults that are planned, and for each thread the section of its operations. It keeps
+/// the rules of the script language by its type, so each script has a text.
 #[derive(Drop)]
 pub struct Script {
     blocks: u32,
@@ -38,8 +38,10 @@ impl Script {
         faults: Items<(u16, u32)>,
         threads: Items<Items<Op>>,
     ) -> Script
-        requires { specs.IsScript (record { blocks = blocks; fallback = true; keys = keys; faults = faults; threads = threads }) }
-        ensures { result ≡ record { blocks = blocks; fallback = true; keys = keys; faults = faults; threads = threads } }
+        requires { specs.IsScript
+            (record { blocks = blocks; fallback = true; keys = keys; faults = faults; threads = threads }) }
+        ensures { result
+            ≡ record { blocks = blocks; fallback = true; keys = keys; faults = faults; threads = threads } }
     {
         Script {
             blocks,
@@ -74,8 +76,8 @@ impl Script {
         self.keys.as_slice()
     }
 
-    /// The faults that are planned, in ascending order: each by its shard, 0 to 63, and its place in the shard's order, 0 to
-    /// 65535. One on a shard that the disk doesn't have, or at a place that isn't reached, is without effect.
+    /// The faults that are planned, in ascending order: each by its shard, 0 to 63, and its place in the shard's order,
+    /// 0 to 65535. One on a shard that the disk doesn't have, or at a place that isn't reached, is without effect.
     pub fn faults(&self) -> &[(u16, u32)]
         ensures value { result.now ≡ self.now.faults }
         ensures rules { specs.IsScript self.now }
