@@ -196,6 +196,11 @@ REFUSED = [
     ("the first of two wrong lines", ended("reset 0", "unplug"), 6, "number"),
 ]
 
+IN_A_PLUG = ["thread", "plug", "write a 0 2 0 fill 11", "write a 2 2 2 fill 22", "write a 4 1 4 fill 33", "unplug", "read - 2 1 -",
+             "read a 4 1 4"]
+WRITE_AND_READ = ["thread", "write - 0 3 - fill 11", "read - 0 1 -", "read - 1 1 -", "read - 2 1 -"]
+READS = ["thread", "write a 0 3 0 fill 5a", *["read a 0 3 0"] * 4]
+
 # name, text, the report's lines
 REPORTED = [
     ("nothing", headed(), ["report 1", "shard 0 0", "end"]),
@@ -222,7 +227,46 @@ REPORTED = [
          "shard 0 4", "0 2 0 soft", "0 2 1 soft", "1 0 0 soft", "1 1 0 plain", "end"]),
     ("sections without operations", headed("thread", "thread"),
         ["report 1", "thread 0", "thread 1", "shard 0 0", "end"]),
-    # A fault on a shard that the run doesn't have, or at a place that it doesn't reach, is without effect.
+    # An access that fails ends its bio, is an entry all the same, and leaves the disk as it was. A fault on a shard that the
+    # run doesn't have, or at a place that it doesn't reach, is without effect.
+    ("a fault in a plug", headed(H512, "fault 0 2", *IN_A_PLUG),
+        ["report 1", "thread 0", "plug", "done", "fault 0", "done", "unplug", "done fill 00", "done fill 33", "shard 0 6",
+         "0 1 0 soft", "0 1 1 soft", "0 2 0 soft", "0 3 0 soft", "0 5 0 plain", "0 6 0 soft", "end"]),
+    ("a fault behind a plug", headed(H512, "fault 0 5", *IN_A_PLUG),
+        ["report 1", "thread 0", "plug", "done", "done", "done", "unplug", "fault 0", "done fill 33", "shard 0 7",
+         "0 1 0 soft", "0 1 1 soft", "0 2 0 soft", "0 2 1 soft", "0 3 0 soft", "0 5 0 plain", "0 6 0 soft", "end"]),
+    ("a fault on the first unit of a write", headed("fault 0 0", *WRITE_AND_READ),
+        ["report 1", "thread 0", "fault 0", "done fill 00", "done fill 00", "done fill 00", "shard 0 4", "0 0 0 plain",
+         "0 1 0 plain", "0 2 0 plain", "0 3 0 plain", "end"]),
+    ("a fault on the middle unit of a write", headed("fault 0 1", *WRITE_AND_READ),
+        ["report 1", "thread 0", "fault 1", "done fill 11", "done fill 00", "done fill 00", "shard 0 5", "0 0 0 plain",
+         "0 0 1 plain", "0 1 0 plain", "0 2 0 plain", "0 3 0 plain", "end"]),
+    ("a fault on the last unit of a write", headed("fault 0 2", *WRITE_AND_READ),
+        ["report 1", "thread 0", "fault 2", "done fill 11", "done fill 11", "done fill 00", "shard 0 6", "0 0 0 plain",
+         "0 0 1 plain", "0 0 2 plain", "0 1 0 plain", "0 2 0 plain", "0 3 0 plain", "end"]),
+    ("faults on the first, the last and the middle unit of reads", headed(H512, "fault 0 3", "fault 0 6", "fault 0 8", *READS),
+        ["report 1", "thread 0", "done", "fault 0", "fault 2", "fault 1", "done fill 5a", "shard 0 12", "0 0 0 soft", "0 0 1 soft",
+         "0 0 2 soft", "0 1 0 soft", "0 2 0 soft", "0 2 1 soft", "0 2 2 soft", "0 3 0 soft", "0 3 1 soft", "0 4 0 soft",
+         "0 4 1 soft", "0 4 2 soft", "end"]),
+    ("a write that fails over another's",
+        headed(H512, "fault 0 1", "thread", "write a 0 1 0 fill 11", "write a 0 1 0 fill 22", "read a 0 1 0"),
+        ["report 1", "thread 0", "done", "fault 0", "done fill 11", "shard 0 3", "0 0 0 soft", "0 1 0 soft", "0 2 0 soft", "end"]),
+    ("a write that is tried three times",
+        headed(H512, "fault 0 0", "fault 0 1", "thread", *["write a 0 1 0 fill 11"] * 3, "read a 0 1 0"),
+        ["report 1", "thread 0", "fault 0", "fault 0", "done", "done fill 11", "shard 0 4", "0 0 0 soft", "0 1 0 soft",
+         "0 2 0 soft", "0 3 0 soft", "end"]),
+    ("a fault on a unit that isn't tried any more, which the next bio meets", headed(H512, "fault 0 1", "fault 0 2", *READS),
+        ["report 1", "thread 0", "fault 1", "fault 0", None, None, None, "shard 0 12", "0 0 0 soft", "0 0 1 soft",
+         "0 1 0 soft", *(f"0 {op} {unit} soft" for op in [2, 3, 4] for unit in range(3)), "end"]),
+    ("a fault of a later section",
+        headed("fault 0 1", "thread", "write - 0 1 - fill 41", "thread", "write - 0 2 - fill 42", "thread", "read - 0 1 -"),
+        ["report 1", "thread 0", "done", "thread 1", "fault 0", "thread 2", "done fill 41", "shard 0 3", "0 0 0 plain",
+         "1 0 0 plain", "2 0 0 plain", "end"]),
+    ("a refused bio, which takes no place", headed(H512, "fault 0 0", "thread", "read a 8 1 0", "read a 0 0 0", "read a 0 1 0"),
+        ["report 1", "thread 0", "refused outside", "refused empty", "fault 0", "shard 0 1", "0 2 0 soft", "end"]),
+    ("1024 faults and one access more", headed(*(f"fault 0 {place}" for place in range(1024)), "thread", *["read - 0 8 -"] * 1025),
+        ["report 1", "thread 0", *["fault 0"] * 1024, "done fill 00", "shard 0 1032", *(f"0 {op} 0 plain" for op in range(1024)),
+         *(f"0 1024 {unit} plain" for unit in range(8)), "end"]),
     ("the last fault that may be planned", headed("fault 63 65535"), ["report 1", "shard 0 0", "end"]),
     ("faults that aren't met",
         headed(H512, "fault 0 2", "fault 0 65535", "fault 1 0", "thread", "write a 0 1 0 fill 00", "read a 0 1 0"),
@@ -235,6 +279,51 @@ REPORTED = [
         ["report 1", "shard 0 0", "end"]),
     ("bytes as they were written", headed("thread", "write - 7 1 - hex " + "5a" * 512, "read - 7 1 -"),
         ["report 1", "thread 0", "done", "done fill 5a", "shard 0 2", "0 0 0 plain", "0 1 0 plain", "end"]),
+]
+
+BLOCKS = ["thread", "write a 0 1 0 fill 10", "write a 8 1 1 fill 11", "write a 16 1 2 fill 12", "write a 24 1 3 fill 13"]
+
+
+def over_blocks(blocks, *lines):
+    return text_of(["blkcrypt 1", f"disk {blocks}", "fallback on", H4096, *lines, "end"])
+
+
+# name, shards, text, the report's lines; block b is on the shard b mod shards, and each shard counts its own accesses
+SHARDED = [
+    ("four blocks over three shards", 3, over_blocks(4, *BLOCKS),
+        ["report 1", "thread 0", *["done"] * 4, "shard 0 2", "0 0 0 soft", "0 3 0 soft", "shard 1 1", "0 1 0 soft", "shard 2 1",
+         "0 2 0 soft", "end"]),
+    ("a fault on the second access of the first shard", 3, over_blocks(4, "fault 0 1", *BLOCKS, "read - 24 8 -"),
+        ["report 1", "thread 0", "done", "done", "done", "fault 0", "done fill 00", "shard 0 10", "0 0 0 soft", "0 3 0 soft",
+         *(f"0 4 {unit} plain" for unit in range(8)), "shard 1 1", "0 1 0 soft", "shard 2 1", "0 2 0 soft", "end"]),
+    ("faults on two of a bio's shards, of which the next bio meets the second", 3,
+        over_blocks(4, "fault 1 0", "fault 2 0", "thread", *["write a 0 4 0 fill 5a"] * 3, "read a 0 4 0"),
+        ["report 1", "thread 0", "fault 1", "fault 2", "done", "done fill 5a", "shard 0 6", "0 0 0 soft", "0 1 0 soft",
+         "0 2 0 soft", "0 2 3 soft", "0 3 0 soft", "0 3 3 soft", "shard 1 4", "0 0 1 soft", "0 1 1 soft", "0 2 1 soft", "0 3 1 soft",
+         "shard 2 3", "0 1 2 soft", "0 2 2 soft", "0 3 2 soft", "end"]),
+    ("a fault on a unit of the shard that has begun the bio", 3,
+        over_blocks(4, "fault 0 1", "thread", "write a 0 4 0 fill 5a", "read a 0 3 0"),
+        ["report 1", "thread 0", "fault 3", "done fill 5a", "shard 0 3", "0 0 0 soft", "0 0 3 soft", "0 1 0 soft", "shard 1 2",
+         "0 0 1 soft", "0 1 1 soft", "shard 2 2", "0 0 2 soft", "0 1 2 soft", "end"]),
+    ("a bio cut short before a shard that it doesn't come to", 2, text_of([
+        "blkcrypt 1", "disk 2", "fallback on", H512, "fault 0 1", "thread", "write a 6 4 0 fill 07", "end"]),
+        ["report 1", "thread 0", "fault 1", "shard 0 2", "0 0 0 soft", "0 0 1 soft", "shard 1 0", "end"]),
+    ("a bio cut short where its second shard begins", 2, text_of([
+        "blkcrypt 1", "disk 2", "fallback on", H512, "fault 1 0", "thread", "write a 6 4 0 fill 07", "end"]),
+        ["report 1", "thread 0", "fault 2", "shard 0 2", "0 0 0 soft", "0 0 1 soft", "shard 1 1", "0 0 2 soft", "end"]),
+    ("faults on shards that the run doesn't have", 2, over_blocks(4, "fault 2 0", "fault 3 1", "fault 63 0", *BLOCKS),
+        ["report 1", "thread 0", *["done"] * 4, "shard 0 2", "0 0 0 soft", "0 2 0 soft", "shard 1 2", "0 1 0 soft", "0 3 0 soft",
+         "end"]),
+    ("faults at places that the run doesn't reach", 2, over_blocks(4, "fault 0 2", "fault 1 2", "fault 1 65535", *BLOCKS),
+        ["report 1", "thread 0", *["done"] * 4, "shard 0 2", "0 0 0 soft", "0 2 0 soft", "shard 1 2", "0 1 0 soft", "0 3 0 soft",
+         "end"]),
+    ("a fault on the last of 64 shards", 64,
+        over_blocks(64, "fault 63 0", "thread", "read - 504 8 -", "read - 504 1 -", "read - 496 1 -"),
+        ["report 1", "thread 0", "fault 0", "done fill 00", "done fill 00", *(f"shard {shard} 0" for shard in range(62)),
+         "shard 62 1", "0 2 0 plain", "shard 63 2", "0 0 0 plain", "0 1 0 plain", "end"]),
+    ("a disk of fewer blocks than shards", 64, over_blocks(1, "fault 1 0", "thread", "write a 0 1 0 fill 00", "read a 0 1 0"),
+        ["report 1", "thread 0", "done", "done fill 00", "shard 0 2", "0 0 0 soft", "0 1 0 soft",
+         *(f"shard {shard} 0" for shard in range(1, 64)), "end"]),
 ]
 
 
@@ -265,12 +354,14 @@ def wrong(modelled):
     for name, text, line, kind in REFUSED:
         if modelled(text) != (2, b"", f"blkcrypt: script line {line}: {kind}\n".encode()):
             yield name, modelled(text)
-    for name, text, lines in REPORTED:
-        status, output, error = modelled(text)
+    for name, shards, text, lines in [*((name, 1, text, lines) for name, text, lines in REPORTED), *SHARDED]:
+        status, output, error = modelled(text, shards)
         if status or error or not agrees(lines, output):
             yield name, (status, output, error)
 
 
 def texts():
+    """The text of each case. What is worked out for a run over several shards is another report over one."""
     yield from ((name, text) for name, text, *_ in REFUSED)
     yield from ((name, text) for name, text, _ in REPORTED)
+    yield from ((name, text) for name, _, text, _ in SHARDED)

@@ -1,8 +1,9 @@
 """The rules of docs/SCRIPT.md once more: what a script's text says or where it is wrong, and what a run of it prints.
 
-It has nothing of the program in it. As a command it reads a script on standard input and does what the program is to do:
+It has nothing of the program in it. As a command it reads a script on standard input and does what the program is to do, over
+one shard as the program or over as many as are asked for:
 
-    python3 checks/script_model.py < SCRIPT
+    python3 checks/script_model.py [SHARDS] < SCRIPT
 """
 import hashlib
 import re
@@ -263,12 +264,18 @@ def answer_of(data):
 
 
 class Run:
-    """A disk of zeros, which is one shard, with its planned faults, and the entries of what was done on it."""
+    """A disk of zeros in shards, and the entries of each shard's accesses in their order. The faults say which of them fail."""
 
-    def __init__(self, blocks, faults):
+    def __init__(self, blocks, faults, shards):
         self.disk = bytearray(8 * SECTOR * blocks)
         self.faults = set(faults)
-        self.entries = []
+        self.shards = [[] for _ in range(shards)]
+
+    def access(self, sector, entry):
+        """Notes an access of a data unit at this sector, and tells whether it succeeds."""
+        shard = sector // 8 % len(self.shards)
+        self.shards[shard].append(entry)
+        return (shard, len(self.shards[shard]) - 1) not in self.faults
 
     def operation(self, thread, number, operation):
         """The answer of an operation."""
@@ -281,11 +288,10 @@ class Run:
         size = bio.unit_bytes
         texts = []
         for unit in range(bio.units):
-            at = SECTOR * bio.sector + unit * size
-            place = (0, len(self.entries))
-            self.entries.append(f"{thread} {number} {unit} {'soft' if bio.key else 'plain'}")
-            if place in self.faults:
+            sector = bio.sector + unit * bio.unit_sectors
+            if not self.access(sector, f"{thread} {number} {unit} {'soft' if bio.key else 'plain'}"):
                 return f"fault {unit}"
+            at = SECTOR * sector
             if isinstance(operation, Write):
                 text = operation.data[unit * size:(unit + 1) * size]
                 self.disk[at:at + size] = ciphered(bio.key, bio.number + unit, text, True)
@@ -294,29 +300,30 @@ class Run:
         return "done" if isinstance(operation, Write) else answer_of(b"".join(texts))
 
 
-def report_of(script):
-    run = Run(script.blocks, script.faults)
+def report_of(script, shards):
+    run = Run(script.blocks, script.faults, shards)
     lines = ["report 1"]
     for thread, section in enumerate(script.sections):
         lines.append(f"thread {thread}")
         lines += [run.operation(thread, place, operation) for place, operation in enumerate(section)]
-    lines += [f"shard 0 {len(run.entries)}", *run.entries, "end"]
-    return "".join(line + "\n" for line in lines).encode()
+    for shard, entries in enumerate(run.shards):
+        lines += [f"shard {shard} {len(entries)}", *entries]
+    return "".join(line + "\n" for line in [*lines, "end"]).encode()
 
 
-def modelled(text):
-    """What the program is to do: its status, its standard output and its standard error."""
+def modelled(text, shards=1):
+    """What a run over so many shards, 1 to 64, is to do: its status, its standard output and its standard error."""
     if len(text) > MOST_TEXT:
         return 7, b"", f"blkcrypt: input longer than {MOST_TEXT} bytes\n".encode()
     script = read_script(text)
     if isinstance(script, Script):
-        return 0, report_of(script), b""
+        return 0, report_of(script, shards), b""
     line, kind = script
     return 2, b"", f"blkcrypt: script line {line}: {kind}\n".encode()
 
 
 def main():
-    status, output, error = modelled(sys.stdin.buffer.read())
+    status, output, error = modelled(sys.stdin.buffer.read(), int(sys.argv[1]) if len(sys.argv) > 1 else 1)
     sys.stdout.buffer.write(output)
     sys.stderr.buffer.write(error)
     return status

@@ -124,14 +124,22 @@ def fault_lines(faults):
     return [f"fault {shard} {access}" for shard, access in sorted(set(faults))]
 
 
-def unmet_faults(dice):
-    """Planned faults that a run over one shard doesn't meet: those of other shards, and on shard 0 those behind the units
-    that a generated script has."""
-    if dice.random() < 0.5:
+def some_faults(dice, lines):
+    """Fault lines, 0 to 1024, for sections of these lines: at places that are reached, close to each other and far, at places
+    that aren't, and on shards that the run hasn't."""
+    if dice.random() < 0.3:
         return []
-    places = [(dice.choice([1, 1, 2, 3, 63, dice.randrange(1, 64)]), dice.choice([0, 1, 9, 10, 99, 65535, dice.randrange(65536)]))
-              for _ in range(dice.choice([1, 1, 2, 3, 10, 40]))]
-    return fault_lines([*places, *[(0, 65535)] * (dice.random() < 0.3)])
+    units = sum(int(line.split(" ")[3]) for line in lines if line.startswith(("write ", "read ")))
+    reach = dice.choice([units, min(units, 9)])
+    first = dice.randrange(reach + 1)
+    faults = [
+        *((0, dice.randrange(reach + 2)) for _ in range(dice.choice([0, 1, 1, 2, 3, 8]))),
+        *((0, first + step) for step in range(dice.choice([0, 0, 1, 2, 5]))),
+        *((dice.randrange(1, 64), dice.choice([0, 1, 9, 65535, dice.randrange(65536)]))
+          for _ in range(dice.choice([0, 0, 1, 3, 40]))),
+        *((0, dice.randrange(65536)) for _ in range(dice.choice([0] * 9 + [3000]))),
+        *((0, place) for place in range(0, dice.choice([0] * 9 + [units]), dice.choice([1, 2, 3, 7])))]
+    return fault_lines(dice.sample(faults, min(len(faults), 1024)))
 
 
 def a_script(dice):
@@ -142,7 +150,8 @@ def a_script(dice):
     key_lines = [key.line(dice) for key in keys]
     bios = [Bio(dice, keys, blocks) for _ in range(dice.choice([1, 2, 3, 5]))]
     sections = [a_section(dice, keys, bios) for _ in range(dice.choice([0, 1, 1, 1, 2, 3, 16, dice.randrange(17)]))]
-    return text_of([*head(blocks), *key_lines, *unmet_faults(dice), *(line for section in sections for line in section), "end"])
+    lines = [line for section in sections for line in section]
+    return text_of([*head(blocks), *key_lines, *some_faults(dice, lines), *lines, "end"])
 
 
 # ---- valid scripts, by shape
@@ -178,6 +187,44 @@ def every_configuration(dice):
                 ], 4, mode=mode, unit=unit, number_bytes=size)
 
 
+def singly(places, units):
+    """A write and a read of so many units at each of so many places, most of them used several times."""
+    return [line for place in range(places) for line in (
+        f"write a {place % 32} {units} {place % 32:x} fill {place % 256:02x}", f"read a {place % 32} {units} {place % 32:x}")]
+
+
+def met_faults(dice):
+    """Runs that meet their faults: on each data unit of a write and of a read, in each size; as many as there may be; on the
+    last data unit that a run can have; and on bios of several sections, beside plugs and refusals."""
+    for unit in UNIT_SIZES:
+        step = unit // 512
+        for place in range(7):
+            yield f"a fault at the place {place}, units of {unit} bytes", text_of([
+                *head(4), key_line(dice, mode=dice.choice([XTS, ESSIV]), unit=unit), f"fault 0 {place}", "thread",
+                f"write a {step} 3 5 fill {dice.randrange(256):02x}", f"read a {step} 3 5",
+                f"write a {step} 3 5 hex {dice.randbytes(3 * unit).hex()}", f"read a {step} 3 5", f"read a {3 * step} 1 7",
+                f"read - 0 {4 * step} -", "end"])
+    for name, faults, operations in [
+            ("the first 1024 accesses fail", range(1024), singly(520, 1)),
+            ("1024 accesses fail behind 16 that don't", range(16, 1040), singly(530, 1)),
+            ("1024 accesses fail, each second one", range(0, 2048, 2), singly(1030, 1)),
+            ("each second access of bios of two units fails", range(1, 1040, 2), singly(520, 2)),
+            ("each third access of bios of two units fails", range(0, 1560, 3), singly(520, 2))]:
+        yield name, text_of([*head(5), key_line(dice), *(f"fault 0 {place}" for place in faults), "thread", *operations, "end"])
+    for place in [0, 1, 127, 254, 255, 256, 511]:
+        yield f"the longest bio with a fault at the place {place}", text_of([
+            *head(32), key_line(dice), f"fault 0 {place}", "thread", f"write a 0 256 0 hex {dice.randbytes(131072).hex()}",
+            "read a 0 256 0", "read - 0 256 -", "end"])
+    for place in [65279, 65280, 65534, 65535]:
+        yield f"a fault at the place {place}", text_of([
+            *head(32), f"fault 0 {place}", "thread", *["read - 0 256 -"] * 256, "end"])
+    for place in range(12):
+        yield f"a fault at the place {place} of several sections", text_of([
+            *head(1), key_line(dice), f"fault 0 {place}", f"fault 1 {place}", "thread", "write a 0 2 0 fill 11", "plug",
+            "write a 2 2 2 fill 22", "write a 7 2 7 fill 33", "evict a", "write a 1 2 1 fill 44", "unplug", "thread",
+            "read a 0 0 0", "read a 0 4 0", "thread", "plug", "read - 3 1 -", "unplug", "evict a", "read a 1 1 1", "end"])
+
+
 def longest(dice, size):
     """A valid text of so many bytes, about 16 MiB: many long writes, and reads of no units to fill it up."""
     lines = [*head(32), "thread", *[f"write - 0 256 - hex {dice.randbytes(131072).hex()}"] * 63, "read - 0 256 -"]
@@ -195,10 +242,11 @@ def shapes(dice):
     yield "no key", text_of(head(1) + ["end"])
     yield "a fault and nothing else", text_of(head(1) + ["fault 0 0", "end"])
     yield "a fault of each shard", text_of(head(1) + [f"fault {shard} {65535 - shard}" for shard in range(64)] + ["thread", "end"])
-    yield "as many faults as there may be", script_with_faults(
+    yield "as many faults as there may be, on shards that there aren't", script_with_faults(
         dice, [f"fault {1 + place // 17} {place * 3}" for place in range(1024)])
     yield "as many keys and faults as there may be", text_of(
         head(1) + many_keys(dice, 4096) + [f"fault 1 {place}" for place in range(1024)] + ["thread", "end"])
+    yield from met_faults(dice)
     yield "the largest disk and no key", text_of(head(16384) + ["end"])
     yield "the end of the largest disk", script(
         dice, ["write a 131064 4 7 fill 10", "read a 131070 1 a", "read a 131070 1 9", "read a 131070 2 a", "read - 131071 2 -",
