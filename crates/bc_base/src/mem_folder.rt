@@ -126,7 +126,8 @@ fn place_of(files: &[File], name: &str) -> Option<usize>
 /// Puts a file in place of the first one of its name, or last where there is none.
 fn put_file(files: &mut Vec<File>, file: File) -> Result<(), AllocError>
     ensures puts { OnOk result (bytes_of files.new.items file.name ≡ Some file.bytes) }
-    ensures others { OnOk result ((other : List ℕ) → other ≢ file.name → bytes_of files.new.items other ≡ bytes_of files.old.items other) }
+    ensures others { OnOk result
+        ((other : List ℕ) → other ≢ file.name → bytes_of files.new.items other ≡ bytes_of files.old.items other) }
     ensures err { OnErr result (files.new.items ≡ files.old.items) }
 {
     match place_of(files, file.name.as_str()) {
