@@ -103,7 +103,7 @@ get_map f [] n x e = absurd (none-some x e)
 get_map f (y ∷ ys) zero x e = ap (λ o. Some (f o)) (same_Some y x e)
 get_map f (y ∷ ys) (suc n) x e = get_map f ys n x e
 
-pub at_map : {A B : Type 0} (f : A → B) (lists : List (List A)) (n : ℕ) → at (map (map f) lists) n ≡ map f (list_at lists n)
+pub at_map : {A B : Type 0} (f : A → B) (lists : List (List A)) (n : ℕ) → list_at (map (map f) lists) n ≡ map f (list_at lists n)
 at_map f [] n = refl
 at_map f (l ∷ ls) zero = refl
 at_map f (l ∷ ls) (suc n) = at_map f ls n
