@@ -1,4 +1,4 @@
--- Units with distinct names are found by their names. (As in bc_run's proofs; that the units of a section are distinct stands there.)
+-- Units with distinct names are found by their names.
 use Rattle.std.proofs.Common.{◌≡◌, ℕ, Bool, false, cond, List, [], ◌∷◌, refl, ap, subst, ◌∙◌, Some}
 use Rattle.std.specs.Prelude.{◌==◌, ◌&&◌, find}
 use Rattle.std.specs.List.{AllByRecursion}

@@ -1,5 +1,4 @@
 -- The units of a section: each has its operation's number, no two have one name, and those of an operation are its bio's.
--- (Taken over from bc_run's proofs.)
 use Rattle.std.proofs.Common.{◌≡◌, ℕ, zero, suc, ◌+◌, ◌≤◌, Bool, false, cond, List, [], ◌∷◌, ◌++◌, map, append-nil, refl, ap, ◌∙◌, arith, Option, Some, None}
 use Rattle.std.specs.Prelude.{◌==◌, ◌&&◌, filter, flat_map, is_none}
 use Rattle.std.specs.List.{range_with_len, enumerate_from, AllByRecursion}
@@ -25,10 +24,6 @@ pub all_of : {A : Type 0} (P Q : A → Type 0) (xs : List A) → ((x : A) → P 
 all_of P Q [] f all = tt
 all_of P Q (x ∷ xs) f all = (f x all.0, all_of P Q xs f all.1)
 
-pub all_both : {A : Type 0} (P Q R : A → Type 0) (xs : List A) → ((x : A) → P x → Q x → R x) → AllByRecursion P xs → AllByRecursion Q xs → AllByRecursion R xs
-all_both P Q R [] f ps qs = tt
-all_both P Q R (x ∷ xs) f ps qs = (f x ps.0 qs.0, all_both P Q R xs f ps.1 qs.1)
-
 pub all_append : {A : Type 0} (P : A → Type 0) (xs ys : List A) → AllByRecursion P xs → AllByRecursion P ys → AllByRecursion P (xs ++ ys)
 all_append P [] ys ps qs = qs
 all_append P (x ∷ xs) ys ps qs = (ps.0, all_append P xs ys ps.1 qs)
@@ -36,10 +31,6 @@ all_append P (x ∷ xs) ys ps qs = (ps.0, all_append P xs ys ps.1 qs)
 pub all_map : {A B : Type 0} (P : B → Type 0) (f : A → B) (xs : List A) → AllByRecursion (λ x. P (f x)) xs → AllByRecursion P (map f xs)
 all_map P f [] ps = tt
 all_map P f (x ∷ xs) ps = (ps.0, all_map P f xs ps.1)
-
-pub all_every : {A : Type 0} (P : A → Type 0) (xs : List A) → ((x : A) → P x) → AllByRecursion P xs
-all_every P [] f = tt
-all_every P (x ∷ xs) f = (f x, all_every P xs f)
 
 -- ---- units of one thread
 

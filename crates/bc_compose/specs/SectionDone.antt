@@ -1,5 +1,5 @@
--- What a thread knows when its section is done: the points of a lawful run, of its own operations and entries alone, over
--- the orders as far as it has seen them. Each stays true when an order goes on by entries of others.
+-- What a thread knows when its section is done: the points of a lawful run, of its own operations and entries alone,
+-- over the orders as far as it has seen them. Each stays true when an order goes on by entries of others.
 use Rattle.std.specs.Prelude.{◌≡◌, ℕ, ◌<◌, List, [], filter, flat_map, MatchOption}
 use Rattle.std.specs.List.{enumerate_from, AllZip}
 use Rattle.bc_base.specs.Lists.{Each, At, list_at}
