@@ -53,7 +53,7 @@ more_opened {S} done rest all quotas s q whole e pop inside gq =
 entries_at : {A B : Type 0} (f : A → List B) (xs : List A) (k : ℕ) (x : A) → At xs k x → list_at (map f xs) k ≡ f x
 entries_at f xs k x at = get_or_from_slice_get (map f xs) k (f x) [] (at_map f xs k x at)
 
-at_set : {A : Type 0} (xs : List A) (k : ℕ) (x y : A) → At xs k x → At (set xs k y) k y
+pub at_set : {A : Type 0} (xs : List A) (k : ℕ) (x y : A) → At xs k x → At (set xs k y) k y
 at_set [] k x y at = absurd (none-some x at)
 at_set (z ∷ xs) zero x y at = refl
 at_set (z ∷ xs) (suc k) x y at = at_set xs k x y at

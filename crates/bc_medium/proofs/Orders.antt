@@ -43,6 +43,10 @@ other_keys keys keys' None now es q l = l
 other_keys keys keys' (Some disk) None es q l = l
 other_keys keys keys' (Some disk) (Some b) es q l = λ s. l s ∙ ap (λ (d : Sectors). d s) (quiet_all keys disk es q ∙ sym (quiet_all keys' disk es q))
 
+pub known_leaves : (keys : List KeyData) (start now : Option Sectors) (es : List Entry) (known : Option (List KeyData)) → IfSome known (λ k. k ≡ keys) → Leaves (keys_or_none known) start es now → (known ≡ None → Each IsQuiet es) → Leaves keys start es now
+known_leaves keys start now es None same l q = other_keys [] keys start now es (q refl) l
+known_leaves keys start now es (Some k) same l q = subst (λ z. Leaves z start es now) same l
+
 pub leaves_wrote : (keys : List KeyData) (start now now' : Option Sectors) (es : List Entry) (at : UnitAt) (via : Via) (plain cipher : List ℕ) → Leaves keys start es now → Sets now now' at.sector cipher → cipher ≡ enciphered keys at.context plain
     → Leaves keys start (es ++ written_entry at via plain ∷ []) now'
 leaves_wrote keys None None now' es at via plain cipher l s is = s
@@ -96,15 +100,11 @@ module _ {S : Type 0} (owns : S → ℕ → Bool) (contents : S → Option Secto
       → MakesCall (told store) (told store') Fails → HasCause (faults store) (faults store') Fails → IsOrder owns contents told faults start (Some keys) store' es'
   order_wrote start known keys store store' es es' at via plain cipher F o small same is new own sets none calls cause = subst (IsOrder owns contents told faults start (Some keys) store') (sym new) record {
     owned = λ s. own s ∙ o.owned s;
-    leaves = leaves_wrote keys (contents start) (contents store) (contents store') es at via plain cipher (known_leaves known same o.leaves o.quiet) sets is;
+    leaves = leaves_wrote keys (contents start) (contents store) (contents store') es at via plain cipher (known_leaves keys (contents start) (contents store) es known same o.leaves o.quiet) sets is;
     calls = calls_push (told start) (told store) (told store') es (written_entry at via plain) F small (λ e. cc) (λ f. absurd (none f)) o.calls calls;
     counted = faults_push (faults start) (faults store) (faults store') es (written_entry at via plain) F (λ e. cc) o.counted cause;
     quiet = λ e. cc;
   }
-    where
-      known_leaves : (known : Option (List KeyData)) → IfSome known (λ k. k ≡ keys) → Leaves (keys_or_none known) (contents start) es (contents store) → (known ≡ None → Each IsQuiet es) → Leaves keys (contents start) es (contents store)
-      known_leaves None same l q = other_keys [] keys (contents start) (contents store) es (q refl) l
-      known_leaves (Some k) same l q = subst (λ z. Leaves z (contents start) es (contents store)) same l
 
   -- a write that failed
   pub order_failed : (start : S) (known : Option (List KeyData)) (keys : List KeyData) (store store' : S) (es es' : List Entry) (at : UnitAt) (via : Via) (Fails : Type 0) → IsOrder owns contents told faults start known store es → length es < 2 ^ 32
@@ -112,15 +112,11 @@ module _ {S : Type 0} (owns : S → ℕ → Bool) (contents : S → Option Secto
       → MakesCall (told store) (told store') Fails → HasCause (faults store) (faults store') Fails → IsOrder owns contents told faults start (Some keys) store' es'
   order_failed start known keys store store' es es' at via F o small same new own stays fails calls cause = subst (IsOrder owns contents told faults start (Some keys) store') (sym new) record {
     owned = λ s. own s ∙ o.owned s;
-    leaves = leaves_quiet keys (contents start) (contents store) (contents store') es (failed_entry Write at via) (inl refl) (known_leaves known same o.leaves o.quiet) stays;
+    leaves = leaves_quiet keys (contents start) (contents store) (contents store') es (failed_entry Write at via) (inl refl) (known_leaves keys (contents start) (contents store) es known same o.leaves o.quiet) stays;
     calls = calls_push (told start) (told store) (told store') es (failed_entry Write at via) F small (λ e. fails) (λ f. refl) o.calls calls;
     counted = faults_push (faults start) (faults store) (faults store') es (failed_entry Write at via) F (λ e. fails) o.counted cause;
     quiet = λ e. cc;
   }
-    where
-      known_leaves : (known : Option (List KeyData)) → IfSome known (λ k. k ≡ keys) → Leaves (keys_or_none known) (contents start) es (contents store) → (known ≡ None → Each IsQuiet es) → Leaves keys (contents start) es (contents store)
-      known_leaves None same l q = other_keys [] keys (contents start) (contents store) es (q refl) l
-      known_leaves (Some k) same l q = subst (λ z. Leaves z (contents start) es (contents store)) same l
 
   -- a read
   pub order_read : (start : S) (known : Option (List KeyData)) (store store' : S) (es es' : List Entry) (at : UnitAt) (via : Via) (failed : Bool) (Fails : Type 0) → IsOrder owns contents told faults start known store es → length es < 2 ^ 32
@@ -149,3 +145,8 @@ pub stands : (keys : List KeyData) (start now : Option Sectors) (es : List Entry
 stands keys None now es first raw l r = tt
 stands keys (Some disk) None es first raw l r = absurd l
 stands keys (Some disk) (Some held) es first raw l r = r ∙ ap (λ (d : Sectors). bytes_at d first (length raw / 512)) (λ i s. l s i)
+
+-- with whatever keys the writes were given
+pub stand_with : (start now : Option Sectors) (es : List Entry) (given : Option (List KeyData)) (first : ℕ) (raw : List ℕ) → Leaves (keys_or_none given) start es now → (given ≡ None → Each IsQuiet es) → Reads now first raw
+    → (keys : List KeyData) → IfSome given (λ k. k ≡ keys) → Stand keys start es first raw
+stand_with start now es given first raw l q r keys same = stands keys start now es first raw (known_leaves keys start now es given same l q) r

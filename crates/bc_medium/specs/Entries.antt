@@ -12,20 +12,27 @@ use Rattle.bc_medium.specs.declared.entry.Entry.{Entry}
 use Rattle.bc_medium.specs.declared.unit_name.UnitName.{UnitName}
 use Rattle.bc_medium.specs.KeyedDisk.{Sectors, UnitAnswer, Faulted, Performed, bytes_at, accessed}
 
--- who made an entry, and the name of its unit
+-- who made an entry
 abbrev pub caller_of : Entry → ℕ
 caller_of e = e.at.caller
 
-abbrev pub name_of_entry : Entry → UnitName
-name_of_entry e = record { thread = e.at.caller; op = e.at.tag; unit = e.at.unit }
+-- the name of a caller's unit
+abbrev pub unit_name : UnitAt → UnitName
+unit_name at = record { thread = at.caller; op = at.tag; unit = at.unit }
 
--- the entries of a write, of a read, and of an access that failed
+-- the name of the unit of an entry
+abbrev pub name_of_entry : Entry → UnitName
+name_of_entry e = unit_name e.at
+
+-- the entry of a write
 abbrev pub written_entry : UnitAt → Via → List ℕ → Entry
 written_entry at via plain = record { at = at; access = Write; via = via; plain = Some plain; failed = false }
 
+-- the entry of a read
 abbrev pub read_entry : UnitAt → Via → Entry
 read_entry at via = record { at = at; access = Read; via = via; plain = None; failed = false }
 
+-- the entry of an access that failed
 abbrev pub failed_entry : Access → UnitAt → Via → Entry
 failed_entry access at via = record { at = at; access = access; via = via; plain = None; failed = true }
 
@@ -42,7 +49,8 @@ unit_of e = record {
 
 -- one entry on the keyed disk: one that failed leaves the disk as it was
 abbrev pub performed_by : List KeyData → Sectors → Entry → Performed
-performed_by keys disk e = if e.failed then record { disk = disk; answer = Faulted } else accessed e.access keys disk (unit_of e)
+performed_by keys disk e =
+    if e.failed then record { disk = disk; answer = Faulted } else accessed e.access keys disk (unit_of e)
 
 -- the disk after entries
 abbrev pub left_by : List KeyData → Sectors → List Entry → Sectors
@@ -52,7 +60,8 @@ left_by keys disk (e ∷ es) = left_by keys (performed_by keys disk e).disk es
 -- what each of them was answered, by place
 abbrev pub told_by : List KeyData → Sectors → List Entry → List (UnitName × UnitAnswer)
 told_by keys disk [] = []
-told_by keys disk (e ∷ es) = (name_of_entry e, (performed_by keys disk e).answer) ∷ told_by keys (performed_by keys disk e).disk es
+told_by keys disk (e ∷ es) =
+    let now = performed_by keys disk e in (name_of_entry e, now.answer) ∷ told_by keys now.disk es
 
 -- somewhere among these answers the unit was answered so: this stays true when entries follow
 abbrev pub IsTold : List (UnitName × UnitAnswer) → UnitName → UnitAnswer → Type 0
@@ -60,8 +69,10 @@ IsTold told name answer = (place : ℕ) × (slice_get told place ≡ Some (name,
 
 -- from these contents the keyed disk answers the unit so at this place of the order
 abbrev pub IsToldAt : List KeyData → Option Sectors → List Entry → ℕ → UnitName → UnitAnswer → Type 0
-IsToldAt keys contents order place name answer = IfSome contents (λ disk. slice_get (told_by keys disk order) place ≡ Some (name, answer))
+IsToldAt keys contents order place name answer =
+    IfSome contents (λ disk. slice_get (told_by keys disk order) place ≡ Some (name, answer))
 
 -- the raw bytes that stand from this sector on after these entries
 abbrev pub Stand : List KeyData → Option Sectors → List Entry → ℕ → List ℕ → Type 0
-Stand keys contents before first raw = IfSome contents (λ disk. raw ≡ bytes_at (left_by keys disk before) first (length raw / 512))
+Stand keys contents before first raw =
+    IfSome contents (λ disk. raw ≡ bytes_at (left_by keys disk before) first (length raw / 512))

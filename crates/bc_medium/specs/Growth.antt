@@ -15,7 +15,8 @@ use Rattle.bc_medium.specs.KeyedDisk.{Sectors, UnitAnswer}
 use Rattle.bc_medium.specs.LawfulOrders.{name_of, is_attempted}
 use Rattle.bc_medium.specs.Entries.{caller_of, name_of_entry, told_by, IsTold}
 
--- one entry is appended to a shard's order: it stands after `before`, which begins with what was seen and has no more of this caller
+-- one entry is appended to a shard's order: it stands after `before`, which begins with what was seen and has no more
+-- of this caller
 pub record Appended (caller shard : ℕ) (old new : List (List Entry)) (before : List Entry) (e : Entry) : Type 0 where
   pub begins : StartsWith before (list_at old shard)
   pub own_before : own caller_of caller before ≡ own caller_of caller (list_at old shard)
@@ -23,7 +24,8 @@ pub record Appended (caller shard : ℕ) (old new : List (List Entry)) (before :
   pub elsewhere : (other : ℕ) → other ≢ shard → list_at new other ≡ list_at old other
 
 -- one access of so many shards: its entry is appended to the order of its own shard, and this is its place
-pub record Performs (shards : ℕ) (old new : List (List Entry)) (before : List Entry) (e : Entry) (place : Place) : Type 0 where
+pub record Performs (shards : ℕ) (old new : List (List Entry)) (before : List Entry) (e : Entry) (place : Place)
+    : Type 0 where
   pub shard : place.shard ≡ shard_of shards e.at.sector
   pub index : place.index ≡ length before
   pub appended : Appended (caller_of e) place.shard old new before e
@@ -36,7 +38,8 @@ lies_in shards shard e = shard_of shards e.at.sector == shard
 pub record Grows (shards caller : ℕ) (old new : List (List Entry)) (es : List Entry) : Type 0 where
   pub fronts : (shard : ℕ) → StartsWith (list_at new shard) (list_at old shard)
   pub own_entries : (shard : ℕ) → shard < shards
-      → own caller_of caller (list_at new shard) ≡ own caller_of caller (list_at old shard) ++ filter (lies_in shards shard) es
+      → own caller_of caller (list_at new shard)
+      ≡ own caller_of caller (list_at old shard) ++ filter (lies_in shards shard) es
 
 -- the units of entries that failed
 abbrev pub failed_names : List Entry → List UnitName
@@ -57,7 +60,8 @@ abbrev pub Attempts : ℕ → List UnitName → List PlannedUnit → List Entry 
 Attempts thread met units es = AllZip (IsEntryOf thread) (attempted_by thread (met ++ failed_names es) units) es
 
 -- a thread that has seen these orders knows how its unit was answered
-abbrev pub Knows : List KeyData → ℕ → (ℕ → Sectors) → ℕ → List (List Entry) → PlannedUnit → UnitAnswer → Type 0
+abbrev pub Knows :
+    List KeyData → ℕ → (ℕ → Sectors) → ℕ → List (List Entry) → PlannedUnit → UnitAnswer → Type 0
 Knows keys shards base thread seen u answer =
     let shard = shard_of shards u.sector in
     IsTold (told_by keys (base shard) (list_at seen shard)) (name_of thread u) answer

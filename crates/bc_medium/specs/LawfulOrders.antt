@@ -1,5 +1,5 @@
--- Lawful orders: one list for each shard, which has each thread's attempted units there, each once, as the thread issued
--- them. A unit is attempted unless an earlier unit of its bio met a fault.
+-- Lawful orders: one list for each shard, which has each thread's attempted units there, each once, as the thread
+-- issued them. A unit is attempted unless an earlier unit of its bio met a fault.
 use Rattle.std.specs.Prelude.{◌≡◌, ℕ, ◌<◌, Bool, not, ◌&&◌, ◌==◌, nat_lt, List, [], map, length, filter, filter_map, slice_get, slice_index_or, Option, option_and_then}
 use Rattle.std.specs.List.{list_any}
 use Rattle.bc_bio.specs.PlannedUnit.{PlannedUnit}

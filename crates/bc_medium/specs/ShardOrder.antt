@@ -7,7 +7,7 @@ use Rattle.bc_key.specs.KeyData.{KeyData}
 use Rattle.bc_bio.specs.declared.access.Access.TheVariants.{Read}
 use Rattle.bc_medium.specs.declared.entry.Entry.{Entry}
 use Rattle.bc_medium.specs.KeyedDisk.{Sectors}
-use Rattle.bc_medium.specs.Entries.{left_by}
+use Rattle.bc_medium.specs.Entries.{left_by, Stand}
 
 -- the contents, where they are told, are what the keyed disk leaves along these entries
 abbrev pub Leaves : List KeyData → Option Sectors → List Entry → Option Sectors → Type 0
@@ -22,7 +22,8 @@ FailAsPlanned plan place (e ∷ es) = ((e.failed ≡ true) ↔ Contains plan pla
 -- the store's calls, where they are told: one for each entry, which failed as planned
 abbrev pub CallsAre : Option ToldCalls → List Entry → Option ToldCalls → Type 0
 CallsAre None es now = now ≡ None
-CallsAre (Some t) es now = FailAsPlanned t.plan 0 es × IsSomeAnd now (λ u. (u.plan ≡ t.plan) × (u.calls ≡ length es))
+CallsAre (Some t) es now =
+    FailAsPlanned t.plan 0 es × IsSomeAnd now (λ u. (u.plan ≡ t.plan) × (u.calls ≡ length es))
 
 -- how many entries failed
 abbrev pub failures : List Entry → ℕ
@@ -33,7 +34,8 @@ failures (e ∷ es) = (if e.failed then 1 else 0) + failures es
 abbrev pub IsQuiet : Entry → Type 0
 IsQuiet e = (e.failed ≡ true) ⊎ (e.access ≡ Read)
 
--- a shard: the store as it was at opening, the keys that writes were given, the store now, the entries, and how many more fit
+-- a shard: the store as it was at opening, the keys that writes were given, the store now, the entries, and how many
+-- more fit
 pub record ShardData (S : Type 0) : Type 0 where
   pub start : S
   pub keys : Option (List KeyData)
@@ -50,7 +52,25 @@ abbrev pub Appends : {S : Type 0} → Option (List KeyData) → ShardData S → 
 Appends keys old new e =
     (new.start ≡ old.start) × (new.keys ≡ keys) × (new.entries ≡ old.entries ++ e ∷ []) × (new.spare + 1 ≡ old.spare)
 
-module _ {S : Type 0} (owns : S → ℕ → Bool) (contents : S → Option Sectors) (told : S → Option ToldCalls) (faults : S → ℕ) where
+-- one entry more, which has this place
+abbrev pub AppendsNext : {S : Type 0} → Option (List KeyData) → ShardData S → ShardData S → Entry → ℕ → Type 0
+AppendsNext keys old new e index = (index ≡ length old.entries) × Appends keys old new e
+
+-- the shard was given no other keys than these
+abbrev pub HasKeys : {S : Type 0} → List KeyData → ShardData S → Type 0
+HasKeys keys shard = IfSome shard.keys (λ given. given ≡ keys)
+
+-- these raw bytes stand there now, with the keys that the shard was given
+abbrev pub StandsNow : {S : Type 0} → (S → Option Sectors) → ShardData S → ℕ → List ℕ → Type 0
+StandsNow contents shard first raw =
+    Stand (keys_or_none shard.keys) (contents shard.start) shard.entries first raw
+
+-- the next access fails exactly where the store's plan, where it is told, has its place
+abbrev pub FailsByPlan : {S : Type 0} → (S → Option ToldCalls) → ShardData S → Type 0 → Type 0
+FailsByPlan told shard Fails = IfSome (told shard.start) (λ t. Fails ↔ Contains t.plan (length shard.entries))
+
+module _ {S : Type 0} (owns : S → ℕ → Bool) (contents : S → Option Sectors) (told : S → Option ToldCalls)
+    (faults : S → ℕ) where
   -- the entries are what was done to the store since opening
   pub record IsOrder (start : S) (keys : Option (List KeyData)) (store : S) (entries : List Entry) : Type 0 where
     pub owned : (s : ℕ) → owns store s ≡ owns start s
@@ -59,8 +79,10 @@ module _ {S : Type 0} (owns : S → ℕ → Bool) (contents : S → Option Secto
     pub counted : faults store < 2 ^ 64 - 1 → faults start + failures entries ≤ faults store
     pub quiet : keys ≡ None → Each IsQuiet entries
 
+  -- the same, with room for so many entries in all
   abbrev pub IsShard : S → Option (List KeyData) → S → List Entry → ℕ → Type 0
-  IsShard start keys store entries capacity = IsOrder start keys store entries × (length entries ≤ capacity) × (capacity < 2 ^ 32)
+  IsShard start keys store entries capacity =
+      IsOrder start keys store entries × (length entries ≤ capacity) × (capacity < 2 ^ 32)
 
 -- a new shard
 abbrev pub opened : {S : Type 0} → S → ℕ → ShardData S

@@ -12,8 +12,12 @@ mod via;
 mod shard;
 mod shards;
 
+// laws of orders
+mod laws;
+
 pub use entry::Entry;
 pub use fault::Fault;
+pub use laws::order_laws;
 pub use shards::Shards;
 pub use unit_at::UnitAt;
 pub use unit_name::UnitName;

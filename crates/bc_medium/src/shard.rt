@@ -1,12 +1,13 @@
 //! One shard: a store, and the order of the accesses to it.
 
-ghost use Rattle.std.specs.Prelude.{◌≡◌, ◌↔◌, ℕ, ◌+◌, ◌*◌, ◌/◌, ◌^◌, ◌<◌, ◌≤◌, ⊤, [], ◌∷◌, length, Some, None, IfSome, IsErr, IfOk, IfErr, OnOk, Contains};
+ghost use Rattle.std.specs.Prelude.{◌≡◌, ℕ, ◌*◌, ◌/◌, ◌^◌, ◌<◌, ◌≤◌, List, length, Some, IfSome, IsErr, IfOk, IfErr, OnOk};
 ghost use Rattle.bc_bio.specs.Extent.{unit_sectors};
 ghost use Rattle.bc_bio.specs.declared.access.Access.{Access};
 ghost use Rattle.bc_medium.specs.KeyedDisk.{enciphered};
 ghost use Rattle.bc_base.specs.Stores.{IsPiece, Reads};
 ghost use Rattle.bc_medium.specs.Entries.{written_entry, read_entry, failed_entry, Stand};
-ghost use Rattle.bc_medium.specs.ShardOrder.{Appends, IsOrder, opened, keys_or_none};
+ghost use Rattle.bc_key.specs.KeyData.{KeyData};
+ghost use Rattle.bc_medium.specs.ShardOrder.{AppendsNext, HasKeys, StandsNow, FailsByPlan, IsOrder, opened};
 
 use crate::entry::Entry;
 use crate::unit_at::UnitAt;
@@ -35,9 +36,16 @@ impl<S: Store> Model for Shard<S> {
 
     ghost Value = { ShardData S };
 
-    ghost view = { λ s. record { start = s.start.value; keys = option_map (λ k. k.value.keys) s.keys; store = s.store; entries = s.entries.items; spare = vec_capacity s.entries - vec_len s.entries } };
+    ghost view = { λ s. record {
+      start = s.start.value;
+      keys = option_map (λ k. k.value.keys) s.keys;
+      store = s.store;
+      entries = s.entries.items;
+      spare = vec_capacity s.entries - vec_len s.entries;
+    } };
 
-    ghost invariant = { λ s. IsShard S.owns S.contents S.told S.faults s.start.value (option_map (λ k. k.value.keys) s.keys) s.store s.entries.items (vec_capacity s.entries) };
+    ghost invariant = { λ s. IsShard S.owns S.contents S.told S.faults s.start.value
+        (option_map (λ k. k.value.keys) s.keys) s.store s.entries.items (vec_capacity s.entries) };
 }
 
 impl<S: Store> Shard<S> {
@@ -50,14 +58,17 @@ impl<S: Store> Shard<S> {
         plain: Vec<u8>,
         cipher: &[u8],
     ) -> Result<u32, (u32, Vec<u8>)>
-        requires keys { IfSome self.old.keys (λ known. known ≡ keys.now.keys) }
+        requires keys { HasKeys keys.now.keys self.old }
         requires spare { 1 ≤ self.old.spare }
         requires cipher { cipher.now ≡ enciphered keys.now.keys at.context plain.items }
         requires piece { IsPiece (S.owns self.old.start) at.sector (unit_sectors keys.now.keys at.context) }
         requires length { length cipher.now ≡ 512 * unit_sectors keys.now.keys at.context }
-        ensures ok { IfOk result (λ place. (place ≡ length self.old.entries) × Appends (Some keys.now.keys) self.old self.new (written_entry at via plain.items)) }
-        ensures fault { IfErr result (λ fault. (fault.0 ≡ length self.old.entries) × (fault.1.items ≡ plain.items) × Appends (Some keys.now.keys) self.old self.new (failed_entry Access.Write at via)) }
-        ensures planned { IfSome (S.told self.old.start) (λ told. IsErr result ↔ Contains told.plan (length self.old.entries)) }
+        ensures ok { IfOk result
+            (AppendsNext (Some keys.now.keys) self.old self.new (written_entry at via plain.items)) }
+        ensures fault { IfErr result (λ fault.
+            AppendsNext (Some keys.now.keys) self.old self.new (failed_entry Access.Write at via) fault.0) }
+        ensures back { IfErr result (λ fault. fault.1.items ≡ plain.items) }
+        ensures planned { FailsByPlan S.told self.old (IsErr result) }
         ensures small { length self.new.entries < 2 ^ 32 }
     {
         let place = self.entries.len() as u32;
@@ -87,14 +98,17 @@ impl<S: Store> Shard<S> {
     }
 
     /// Reads a data unit as it stands. The entry's place; after a fault `raw` is unspecified.
+    #[tactic(auto, using(crate::proofs::Orders::stand_with))]
     pub(crate) fn read(&mut self, at: UnitAt, via: Via, raw: &mut [u8]) -> Result<u32, u32>
         requires spare { 1 ≤ self.old.spare }
         requires piece { IsPiece (S.owns self.old.start) at.sector (length raw.old / 512) }
         requires whole { length raw.old ≡ 512 * (length raw.old / 512) }
-        ensures ok { IfOk result (λ place. (place ≡ length self.old.entries) × Appends self.old.keys self.old self.new (read_entry at via)) }
-        ensures stand { OnOk result (Stand (keys_or_none self.old.keys) (S.contents self.old.start) self.old.entries at.sector raw.new) }
-        ensures fault { IfErr result (λ place. (place ≡ length self.old.entries) × Appends self.old.keys self.old self.new (failed_entry Access.Read at via)) }
-        ensures planned { IfSome (S.told self.old.start) (λ told. IsErr result ↔ Contains told.plan (length self.old.entries)) }
+        ensures ok { IfOk result (AppendsNext self.old.keys self.old self.new (read_entry at via)) }
+        ensures stands { OnOk result (StandsNow S.contents self.old at.sector raw.new) }
+        ensures stand { OnOk result ((keys : List KeyData) → HasKeys keys self.old
+            → Stand keys (S.contents self.old.start) self.old.entries at.sector raw.new) }
+        ensures fault { IfErr result (AppendsNext self.old.keys self.old self.new (failed_entry Access.Read at via)) }
+        ensures planned { FailsByPlan S.told self.old (IsErr result) }
         ensures small { length self.new.entries < 2 ^ 32 }
     {
         let place = self.entries.len() as u32;

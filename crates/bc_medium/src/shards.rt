@@ -1,15 +1,16 @@
 //! The plain form of the medium: all shards of a disk, for one caller.
 
-ghost use Rattle.std.specs.Prelude.{◌≡◌, ℕ, ◌+◌, ◌*◌, ◌/◌, ◌%◌, ◌<◌, ◌≤◌, length, map, reverse, IfSome, IfOk, IfErr, IsErr, Some, vec_len};
+ghost use Rattle.std.specs.Prelude.{◌≡◌, ◌*◌, ◌/◌, ◌≤◌, length, map, reverse, IfSome, IfOk, IfErr, IsErr, Some, vec_len};
 ghost use Rattle.bc_base.specs.Lists.{Each, ChangesAt};
 ghost use Rattle.bc_medium.specs.Places.{shard_of};
 ghost use Rattle.bc_bio.specs.Extent.{unit_sectors};
 ghost use Rattle.bc_bio.specs.Conditions.{HasKey};
 ghost use Rattle.bc_bio.specs.declared.access.Access.{Access};
-ghost use Rattle.bc_medium.specs.KeyedDisk.{enciphered};
-ghost use Rattle.bc_medium.specs.Entries.{written_entry, read_entry, failed_entry, Stand};
-ghost use Rattle.bc_medium.specs.ShardOrder.{Appends, IsOrder, keys_or_none};
-ghost use Rattle.bc_medium.specs.Shards.{HaveKeys, Own, HasSpare, Adds, FailsAsPlanned, opened_with};
+ghost use Rattle.bc_medium.specs.KeyedDisk.{enciphered, Written};
+ghost use Rattle.bc_medium.specs.Entries.{written_entry, read_entry, failed_entry, unit_name};
+ghost use Rattle.bc_medium.specs.ShardOrder.{AppendsNext, IsOrder};
+ghost use Rattle.bc_medium.specs.Shards.{HaveKeys, Own, HasSpare, AppendsAt, ReadsAt, Adds, Answers, AnswersFault};
+ghost use Rattle.bc_medium.specs.Shards.{AnswersText, FailsAsPlanned, AllLeft, opened_with};
 
 use crate::entry::Entry;
 use crate::fault::Fault;
@@ -38,15 +39,19 @@ impl<S: Store> Model for Shards<S> {
 
     ghost view = { λ m. m.shards.items };
 
-    ghost invariant = { λ m. (1 ≤ vec_len m.shards) × (vec_len m.shards ≤ 65535) × (m.stores.items ≡ []) × (m.orders.items ≡ []) × (vec_len m.shards ≤ vec_capacity m.stores) × (vec_len m.shards ≤ vec_capacity m.orders) };
+    ghost invariant = { λ m. (1 ≤ vec_len m.shards) × (vec_len m.shards ≤ 65535)
+        × (m.stores.items ≡ []) × (m.orders.items ≡ [])
+        × (vec_len m.shards ≤ vec_capacity m.stores) × (vec_len m.shards ≤ vec_capacity m.orders) };
 }
 
 impl<S: Store> Shards<S> {
-    /// Writes a data unit: `cipher` is `plain`, enciphered under the unit's context, or the same without one. One call of
-    /// the store of its shard, and one entry more of that shard. Gives the entry's place.
+    /// Writes a data unit: `cipher` is `plain`, enciphered under the unit's context, or the same without one. One call
+    /// of the store of its shard, and one entry more of that shard. Gives the entry's place.
     ///
-    /// All writes are given equal keys, and the context's key is one of them. The sectors belong to the shard's store, and
-    /// the shard has had fewer accesses than its quota.
+    /// All writes are given equal keys, and the context's key is one of them. The sectors belong to the shard's store,
+    /// and the shard has had fewer accesses than its quota.
+    ///
+    /// The keyed disk answers the unit at its place with what is answered here, and so it does in every longer order.
     ///
     /// # Errors
     /// The store failed: no sector has changed. The fault has the entry's place too, and comes with `plain`.
@@ -64,12 +69,17 @@ impl<S: Store> Shards<S> {
         requires length { length cipher.now ≡ 512 * unit_sectors keys.now.keys at.context }
         requires sectors { Own S.owns self.old at.sector (unit_sectors keys.now.keys at.context) }
         requires spare { HasSpare self.old at.sector }
-        ensures ok { IfOk result (λ place. (place.shard ≡ shard_of (length self.old) at.sector) ×
-            ChangesAt self.old self.new place.shard (λ s s'. (place.index ≡ length s.entries) × Appends (Some keys.now.keys) s s' (written_entry at via plain.items))) }
-        ensures fault { IfErr result (λ fault. (fault.1.items ≡ plain.items) × (fault.0.place.shard ≡ shard_of (length self.old) at.sector) ×
-            ChangesAt self.old self.new fault.0.place.shard (λ s s'. (fault.0.place.index ≡ length s.entries) × Appends (Some keys.now.keys) s s' (failed_entry Access.Write at via))) }
-        ensures performs { IfOk result (λ place. Adds self.old self.new (written_entry at via plain.items) place) }
-        ensures performs_fault { IfErr result (λ fault. Adds self.old self.new (failed_entry Access.Write at via) fault.0.place) }
+        ensures ok { IfOk result
+            (AppendsAt (λ s. Some keys.now.keys) self.old self.new (written_entry at via plain.items)) }
+        ensures fault { IfErr result (λ fault. (fault.1.items ≡ plain.items)
+            × (fault.0.place.shard ≡ shard_of (length self.old) at.sector)
+            × ChangesAt self.old self.new fault.0.place.shard (λ s s'. AppendsNext
+            (Some keys.now.keys) s s' (failed_entry Access.Write at via) fault.0.place.index)) }
+        ensures performs { IfOk result (Adds self.old self.new (written_entry at via plain.items)) }
+        ensures performs_fault { IfErr result (λ fault.
+            Adds self.old self.new (failed_entry Access.Write at via) fault.0.place) }
+        ensures answer { IfOk result (λ place. Answers S.contents keys.now.keys self.new place (unit_name at) Written) }
+        ensures answer_fault { IfErr result (λ fault. AnswersFault S.contents self.new (unit_name at) fault.0.place) }
         ensures planned { FailsAsPlanned S.told self.old at.sector (IsErr result) }
     {
         let shard = (at.sector / BLOCK_SECTORS % self.shards.len() as u32) as u16;
@@ -94,13 +104,14 @@ impl<S: Store> Shards<S> {
         requires whole { length raw.old ≡ 512 * (length raw.old / 512) }
         requires sectors { Own S.owns self.old at.sector (length raw.old / 512) }
         requires spare { HasSpare self.old at.sector }
-        ensures ok { IfOk result (λ place. (place.shard ≡ shard_of (length self.old) at.sector) ×
-            ChangesAt self.old self.new place.shard (λ s s'. (place.index ≡ length s.entries) × Appends s.keys s s' (read_entry at via)
-            × Stand (keys_or_none s.keys) (S.contents s.start) s.entries at.sector raw.new)) }
-        ensures fault { IfErr result (λ fault. (fault.place.shard ≡ shard_of (length self.old) at.sector) ×
-            ChangesAt self.old self.new fault.place.shard (λ s s'. (fault.place.index ≡ length s.entries) × Appends s.keys s s' (failed_entry Access.Read at via))) }
-        ensures performs { IfOk result (λ place. Adds self.old self.new (read_entry at via) place) }
-        ensures performs_fault { IfErr result (λ fault. Adds self.old self.new (failed_entry Access.Read at via) fault.place) }
+        ensures ok { IfOk result (ReadsAt S.contents self.old self.new (read_entry at via) raw.new) }
+        ensures fault { IfErr result (λ fault.
+            AppendsAt (λ s. s.keys) self.old self.new (failed_entry Access.Read at via) fault.place) }
+        ensures performs { IfOk result (Adds self.old self.new (read_entry at via)) }
+        ensures performs_fault { IfErr result (λ fault.
+            Adds self.old self.new (failed_entry Access.Read at via) fault.place) }
+        ensures answer { IfOk result (AnswersText S.contents self.old self.new at raw.new) }
+        ensures answer_fault { IfErr result (λ fault. AnswersFault S.contents self.new (unit_name at) fault.place) }
         ensures planned { FailsAsPlanned S.told self.old at.sector (IsErr result) }
     {
         let shard = (at.sector / BLOCK_SECTORS % self.shards.len() as u32) as u16;
@@ -114,12 +125,14 @@ impl<S: Store> Shards<S> {
         }
     }
 
-    /// The stores at the end and the orders, by shard. Each store has what the keyed disk leaves along its shard's order
-    /// from the contents at opening, and each entry failed exactly where the store's plan has its place.
+    /// The stores at the end and the orders, by shard. Each store has what the keyed disk leaves along its shard's
+    /// order from the contents at opening, with the keys that writes were given; and each entry failed exactly where
+    /// the store's plan has its place.
     pub fn close(self) -> (Vec<S>, Vec<Vec<Entry>>)
         ensures stores { result.0.items ≡ map (λ s. s.store) self }
         ensures entries { map (λ order. order.items) result.1.items ≡ map (λ s. s.entries) self }
         ensures orders { Each (λ s. IsOrder S.owns S.contents S.told S.faults s.start s.keys s.store s.entries) self }
+        ensures left { AllLeft S.contents self }
     {
         let Shards {
             mut shards,

@@ -1,8 +1,11 @@
-use Rattle.std.proofs.Common.{rules, ◌++◌, ◌∷◌, [], List, map, ap, ap₂, sym, ◌∙◌}
+use Rattle.std.proofs.Common.{rules, ◌≡◌, ◌++◌, ◌∷◌, [], List, map, ap, ap₂, sym, ◌∙◌, subst, append-nil}
+use mathlib.Core.List.{reverse}
+use Rattle.bc_base.specs.Lists.{Each}
 use Rattle.std.proofs.lemmas.List.{map-append}
 use Rattle.bc_base.proofs.Lists.{each_append}
 use Rattle.bc_medium.specs.ShardOrder.{ShardData, IsOrder}
 use Rattle.bc_medium.proofs.Chosen.{more_done}
+use Rattle.bc_medium.proofs.Told.{all_left}
 use Rattle.bc_medium.proofs.shards.Shards.close.Goals as goal
 
 pub loop-shard-preserved : goal.loop-shard-preserved
@@ -18,3 +21,10 @@ loop-shard-preserved g c =
       search rules,
       search rules,
     )
+
+pub returns-clause-left : goal.returns-clause-left
+returns-clause-left g c =
+    let i = c.loop-shard.invariant.0 in let empty : c.loop-shard.shards.items ≡ [] = search rules in
+    let whole : i.0 ≡ c.args.self = sym (append-nil i.0) ∙ ap (λ l. i.0 ++ reverse l) (sym empty) ∙ i.1 in
+    all_left g.S.Store.contents g.S.Store.owns g.S.Store.told g.S.Store.faults c.args.self
+    (subst (Each (λ z. IsOrder g.S.Store.owns g.S.Store.contents g.S.Store.told g.S.Store.faults z.start z.keys z.store z.entries)) whole i.4)
