@@ -258,9 +258,10 @@ joined_more stores image more blocks store is long at bytes = record {
 pub owns_block : (store : RamData) (block : ℕ) → owns store (8 * block) ≡ true → (block % store.shards ≡ store.shard) × (block < store.blocks)
 owns_block store block is =
     let both = both_true (shard_of store.shards (8 * block) == store.shard) (nat_lt (block_of (8 * block)) store.blocks) is in
-    let first : block_of (8 * block) ≡ block = omega arith in
-    (ap (λ (b : ℕ). b % store.shards) (sym first) ∙ eqb-true (shard_of store.shards (8 * block)) store.shard both.0,
-    subst (λ (b : ℕ). b < store.blocks) first (ltb-true (block_of (8 * block)) store.blocks both.1))
+    let first : block_of (8 * block) ≡ block = omega arith in (
+      ap (λ (b : ℕ). b % store.shards) (sym first) ∙ eqb-true (shard_of store.shards (8 * block)) store.shard both.0,
+      subst (λ (b : ℕ). b < store.blocks) first (ltb-true (block_of (8 * block)) store.blocks both.1),
+    )
 
 pub joined_sectors : (stores : List RamData) (image : List ℕ) (blocks : ℕ) → HaveAllSectors blocks stores → IsJoined stores image blocks → (s : ℕ) → s < 8 * blocks
     → AllAt stores (shard_of (length stores) s) (λ store. (owns store s ≡ true) × (image_sectors image s ≡ contents store s))

@@ -74,10 +74,10 @@ impl RamStore {
         ensures length { IfOk result (λ image. length image.items ≡ 4096 * blocks) }
         ensures sectors { IfOk result (λ image. (s : ℕ) → s < 8 * blocks
             → AllAt stores.now (shard_of (length stores.now) s)
-                (λ store. image_sectors image.items s ≡ contents store s)) }
+            (λ store. image_sectors image.items s ≡ contents store s)) }
         ensures gives_back { IfOk result (λ image. (whole : List ℕ) → length whole ≡ 4096 * blocks
             → ((shard : ℕ) → AllAt stores.now shard (IsShardOf whole shard (length stores.now)))
-                → image.items ≡ whole) }
+            → image.items ≡ whole) }
     {
         let shards = stores.len();
         let mut image = Vec::with_capacity(alloc, BLOCK_BYTES * blocks as usize)?;

@@ -110,7 +110,8 @@ write_form bio (Some text) = if dashes_agree bio then Some (Write bio text) else
 
 -- KEY SECTOR UNITS NUMBER
 abbrev pub with_bio : TextLine → Option Form
-with_bio (key ∷ sector ∷ units ∷ number ∷ []) = read_form (record { key = key; sector = sector; units = units; number = number })
+with_bio (key ∷ sector ∷ units ∷ number ∷ []) =
+    read_form (record { key = key; sector = sector; units = units; number = number })
 with_bio _ = None
 
 -- KEY SECTOR UNITS NUMBER, and `fill` or `hex` with digits

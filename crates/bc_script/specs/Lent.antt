@@ -11,7 +11,13 @@ use Rattle.bc_script.specs.declared.form.Form.TheVariants as lent
 
 -- of a key's line
 abbrev pub key_lent : key_forms.KeyForm → KeyForm
-key_lent key = record { name = key.name.now; mode = key.mode; unit = key.unit.now; dun_bytes = key.dun_bytes.now; digits = key.digits.now }
+key_lent key = record {
+  name = key.name.now;
+  mode = key.mode;
+  unit = key.unit.now;
+  dun_bytes = key.dun_bytes.now;
+  digits = key.digits.now;
+}
 
 -- of a planned fault's line
 abbrev pub fault_lent : fault_forms.FaultForm → FaultForm

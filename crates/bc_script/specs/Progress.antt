@@ -55,7 +55,8 @@ end_read _ = []
 abbrev pub lines_read : Progress → List TextLine
 lines_read p =
     head_read p.last p.blocks
-    ++ (map key_line p.keys ++ (map fault_line p.faults ++ (flat_map (section_lines p.keys) (sections_read p) ++ end_read p.last)))
+    ++ (map key_line p.keys
+    ++ (map fault_line p.faults ++ (flat_map (section_lines p.keys) (sections_read p) ++ end_read p.last)))
 
 -- the forms of lines below those above, the nearest first
 abbrev pub forms_below : List Form → List TextLine → List Form
@@ -73,8 +74,10 @@ abbrev pub IsAt : Option Sort → Progress → Type 0
 IsAt None p = (p.keys ≡ []) × (p.faults ≡ []) × (p.threads ≡ []) × (p.section ≡ [])
 IsAt (Some sorts.Version) p = (p.keys ≡ []) × (p.faults ≡ []) × (p.threads ≡ []) × (p.section ≡ [])
 IsAt (Some sorts.Disk) p = IsDiskSize p.blocks × (p.keys ≡ []) × (p.faults ≡ []) × (p.threads ≡ []) × (p.section ≡ [])
-IsAt (Some sorts.Fallback) p = IsDiskSize p.blocks × (p.keys ≡ []) × (p.faults ≡ []) × (p.threads ≡ []) × (p.section ≡ [])
-IsAt (Some sorts.Key) p = IsDiskSize p.blocks × (1 ≤ length p.keys) × (p.faults ≡ []) × (p.threads ≡ []) × (p.section ≡ [])
+IsAt (Some sorts.Fallback) p = IsDiskSize p.blocks × (p.keys ≡ []) × (p.faults ≡ []) × (p.threads ≡ [])
+    × (p.section ≡ [])
+IsAt (Some sorts.Key) p = IsDiskSize p.blocks × (1 ≤ length p.keys) × (p.faults ≡ []) × (p.threads ≡ [])
+    × (p.section ≡ [])
 IsAt (Some sorts.Fault) p = IsDiskSize p.blocks × (1 ≤ length p.faults) × (p.threads ≡ []) × (p.section ≡ [])
 IsAt (Some sorts.Thread) p = IsDiskSize p.blocks × (p.section ≡ [])
 IsAt (Some sorts.Operation) p = IsDiskSize p.blocks × (1 ≤ length p.section)

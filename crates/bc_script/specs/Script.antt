@@ -144,7 +144,8 @@ pub record IsBio (keys : List KeyData) (context : Option Context) (sector units 
 -- a byte; or as many bytes as the bio has, which has some
 abbrev pub IsText : List KeyData → Option Context → ℕ → Text → Type 0
 IsText keys context units (Fill byte) = byte < 256
-IsText keys context units (Bytes bytes) = IsBytes bytes × (1 ≤ units) × (length bytes ≡ units * (512 * unit_sectors keys context))
+IsText keys context units (Bytes bytes) =
+    IsBytes bytes × (1 ≤ units) × (length bytes ≡ units * (512 * unit_sectors keys context))
 
 -- an operation whose bio, key or device the script has; there is a device of each number below the count
 abbrev pub IsOp : List KeyData → Op → Type 0

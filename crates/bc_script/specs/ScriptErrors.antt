@@ -31,7 +31,9 @@ number_in field = digits_value 10 field
 
 -- the decimal text of a number in a range
 abbrev pub is_number : ℕ → ℕ → List ℕ → Bool
-is_number least most field = bytes_eq (decimal (number_in field)) field && (nat_le least (number_in field) && nat_le (number_in field) most)
+is_number least most field =
+    bytes_eq (decimal (number_in field)) field
+    && (nat_le least (number_in field) && nat_le (number_in field) most)
 
 -- the text of a data unit number
 abbrev pub is_number_text : List ℕ → Bool
@@ -44,7 +46,8 @@ bytes_in field = unwrap_or (result_ok (decode_of field)) []
 -- the lower-case digits of so many bytes, of which there are some
 abbrev pub is_hex_text : ℕ → ℕ → List ℕ → Bool
 is_hex_text least most field =
-    bytes_eq (encode_lower (bytes_in field)) field && (nat_le least (length (bytes_in field)) && nat_le (length (bytes_in field)) most)
+    bytes_eq (encode_lower (bytes_in field)) field
+    && (nat_le least (length (bytes_in field)) && nat_le (length (bytes_in field)) most)
 
 -- ---- what the lines above say
 
@@ -132,7 +135,8 @@ number_test least most field next = first_of (is_number least most field) why.Nu
 -- why the values of a key's fields are no key, if they are none
 abbrev pub key_refused : KeyForm → Why
 key_refused key =
-    option_map (λ error. why.Key error) (key_refusal key.mode (bytes_in key.digits) (number_in key.unit) (number_in key.dun_bytes))
+    option_map (λ error. why.Key error)
+    (key_refusal key.mode (bytes_in key.digits) (number_in key.unit) (number_in key.dun_bytes))
 
 -- go on to the next test where the key is one
 abbrev pub key_test : Why → Why → Why
@@ -193,8 +197,12 @@ abbrev pub tests_of : List Form → Form → Why
 tests_of above (Disk blocks) = number_test 1 max_blocks blocks None
 tests_of above (Key key) = key_tests above key
 tests_of above (Fault fault) = fault_tests above fault
-tests_of above Thread = first_of (not (is_open above)) why.Order (first_of (nat_lt (count_by is_thread above) max_threads) why.Limit None)
-tests_of above (Write bio text) = bio_tests above bio (first_of (is_text (size_of above bio) text) why.Hex (bio_limits above bio))
+tests_of above Thread =
+    first_of (not (is_open above)) why.Order
+    (first_of (nat_lt (count_by is_thread above) max_threads) why.Limit None)
+tests_of above (Write bio text) =
+    bio_tests above bio
+    (first_of (is_text (size_of above bio) text) why.Hex (bio_limits above bio))
 tests_of above (Read bio) = bio_tests above bio (bio_limits above bio)
 tests_of above (Evict name) = first_of (is_declared name above) why.Name (op_limit above)
 -- there is no device that could be named

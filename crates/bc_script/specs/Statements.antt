@@ -75,7 +75,8 @@ pub record FitsKey (p : Progress) (named : NamedKey) : Type 0 where
 
 -- whether a fault comes after the last of these, if there is one
 abbrev pub is_after : List (ℕ × ℕ) → ℕ × ℕ → Bool
-is_after faults fault = option_map_or (λ (last : ℕ × ℕ). is_before last fault) (slice_get faults (length faults - 1)) true
+is_after faults fault =
+    option_map_or (λ (last : ℕ × ℕ). is_before last fault) (slice_get faults (length faults - 1)) true
 
 -- a valid fault, which comes after those that have been read, and for which there is room
 pub record FitsFault (p : Progress) (fault : ℕ × ℕ) : Type 0 where
@@ -118,8 +119,14 @@ Fits p statements.End = IsClosed p
 
 -- the section that is being read has ended, with a line of this sort
 abbrev pub with_section_ended : Progress → Sort → Progress
-with_section_ended p sort =
-    record { last = Some sort; blocks = p.blocks; keys = p.keys; faults = p.faults; threads = sections_read p; section = [] }
+with_section_ended p sort = record {
+  last = Some sort;
+  blocks = p.blocks;
+  keys = p.keys;
+  faults = p.faults;
+  threads = sections_read p;
+  section = [];
+}
 
 -- what has been read with the statement
 abbrev pub with_statement : Progress → Statement → Progress

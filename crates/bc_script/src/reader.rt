@@ -51,9 +51,23 @@ impl Model for Reader {
 
     ghost Value = { Progress };
 
-    ghost view = { λ r. record { last = r.last; blocks = r.blocks; keys = r.keys; faults = r.faults.items; threads = r.threads.items; section = r.section.items } };
+    ghost view = { λ r. record {
+      last = r.last;
+      blocks = r.blocks;
+      keys = r.keys;
+      faults = r.faults.items;
+      threads = r.threads.items;
+      section = r.section.items;
+    } };
 
-    ghost invariant = { λ r. IsReading (record { last = r.last; blocks = r.blocks; keys = r.keys; faults = r.faults.items; threads = r.threads.items; section = r.section.items }) r.lines r.plugged r.ops r.units };
+    ghost invariant = { λ r. IsReading (record {
+      last = r.last;
+      blocks = r.blocks;
+      keys = r.keys;
+      faults = r.faults.items;
+      threads = r.threads.items;
+      section = r.section.items;
+    }) r.lines r.plugged r.ops r.units };
 }
 
 impl Reader {
