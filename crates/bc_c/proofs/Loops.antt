@@ -1,12 +1,18 @@
 -- A loop over data units: those before are ciphered, the others are what they were. And the number of a unit doesn't wrap.
-use Rattle.std.proofs.Common.{◌≡◌, ℕ, ◌+◌, ◌-◌, ◌*◌, ◌<◌, ◌≤◌, List, [], ◌∷◌, ◌++◌, length, take, drop, refl, sym, ap, ap₂, ◌∙◌, arith, zero-add}
+use Rattle.std.proofs.Common.{◌≡◌, ℕ, ◌+◌, ◌-◌, ◌*◌, ◌^◌, ◌<◌, ◌≤◌, false, List, [], ◌∷◌, ◌++◌, length, take, drop, refl, sym, ap, ap₂, ◌∙◌, arith, zero-add}
 use Rattle.std.specs.List.{flat_map, range_with_len}
 use Rattle.std.proofs.lemmas.List.{drop-drop, take_all, map-id, flat_map_more}
 use Rattle.std.proofs.lemmas.List.FromFn.{map-range_with_len_more}
 use Rattle.std.proofs.lemmas.Slice.{take-put_mid, drop-put_mid}
 use Rattle.std.proofs.lemmas.Nat.{row_fits}
 use borrow.Rule.Slice.PartMut.{put_mid}
+use Rattle.std.proofs.lemmas.Bool.Decides.{nat_tests}
+use Rattle.bc_c.specs.Status.{runs_out}
 use Rattle.bc_c.specs.Units.{each_unit}
+
+-- the number of a unit doesn't wrap
+pub no_wrap : (first units i : ℕ) → runs_out first units ≡ false → i < units → first + i < 2 ^ 256
+no_wrap first units i e h = let below : first + units ≤ 2 ^ 128 = grind (arith, nat_tests) in omega arith
 
 range_with_len-more : (n : ℕ) → range_with_len 0 (n + 1) ≡ range_with_len 0 n ++ n ∷ []
 range_with_len-more n =

@@ -7,7 +7,7 @@ ghost use Rattle.bc_c.specs.declared.direction.Direction.TheVariants.{Encrypt, D
 
 use crate::direction::Direction;
 use crate::keys::key_of;
-use crate::units::carry_units;
+use crate::units::{NUMBER_BYTES, carry_units, runs_out};
 use bc_key::Dun;
 use bc_modes::UnitCipher;
 
@@ -19,9 +19,6 @@ const NOT_WHOLE: u32 = 6;
 
 /// The status of numbers of which some has more than 16 bytes.
 const RUNS_OUT: u32 = 7;
-
-/// How many bytes the numbers of data units may have.
-const NUMBER_BYTES: u8 = 16;
 
 /// A data unit number: its four words, the least significant first.
 #[repr(C)]
@@ -102,7 +99,7 @@ fn carry(
         return NOT_WHOLE;
     }
     let units = texts.len() / size;
-    if units > 0 && !first.fits(units as u64, NUMBER_BYTES) {
+    if runs_out(&first, units) {
         return RUNS_OUT;
     }
     let cipher = UnitCipher::of_key(&key);

@@ -1,11 +1,22 @@
 //! Data units, one after the other: each has the number that follows.
-ghost use Rattle.std.specs.Prelude.{◌≡◌, ◌+◌, ◌*◌, ◌^◌, ◌<◌, ◌≤◌, length};
+ghost use Rattle.std.specs.Prelude.{◌≡◌, ◌+◌, ◌*◌, ◌^◌, ◌<◌, false, length};
 ghost use Rattle.bc_key.specs.DataUnits.{bytes_of};
+ghost use Rattle.bc_c.specs.Status.{runs_out};
 ghost use Rattle.bc_c.specs.Units.{carried, each_unit};
 
 use crate::direction::Direction;
 use bc_key::Dun;
 use bc_modes::UnitCipher;
+
+/// The numbers of data units may have so many bytes.
+pub const NUMBER_BYTES: u8 = 16;
+
+/// Whether the number of some unit has more bytes than that.
+pub fn runs_out(first: &Dun, units: usize) -> bool
+    ensures { result ≡ runs_out first.now units }
+{
+    units > 0 && !first.fits(units as u64, NUMBER_BYTES)
+}
 
 /// The number of unit `i`.
 fn number(first: &Dun, i: usize) -> Dun
@@ -27,6 +38,7 @@ fn carry_unit(way: Direction, cipher: &UnitCipher, dun: &Dun, text: &mut [u8])
 }
 
 /// Takes the units one way, in place.
+#[tactic(auto, using(crate::proofs::Loops::no_wrap))]
 pub fn carry_units(
     way: Direction,
     cipher: &UnitCipher,
@@ -37,7 +49,7 @@ pub fn carry_units(
 )
     requires size { size ≡ bytes_of cipher.now.unit }
     requires whole { length texts.old ≡ units * size }
-    requires numbers { first.now + units ≤ 2 ^ 128 }
+    requires numbers { runs_out first.now units ≡ false }
     ensures { texts.new ≡
         each_unit (λ i. carried way cipher.now.mode cipher.now.raw (first.now + i)) size units texts.old }
 {
