@@ -82,8 +82,8 @@ uint32_t blkcrypt_check_key(uint32_t mode, uint32_t unit, uint8_t number_bytes, 
 
 /*
  * Enciphers the data in place: whole consecutive data units of `unit` bytes, unit i under the number `first` plus i. Data of
- * length 0 is no data unit, and is answered BLKCRYPT_OK where the key is one. The key is expanded once a call, which costs
- * about as much as enciphering 200 bytes: hand over many data units at once where you can.
+ * length 0 is no data unit, and is answered BLKCRYPT_OK where the key is one. The key is expanded once a call, which takes
+ * less than a data unit of 512 bytes does: hand over many data units at once where you can.
  *
  * Answers 0, or 1, 2 or 4 to 7; then the data is as it was.
  */
