@@ -2,12 +2,12 @@
 # Measures calls of the static library on 1 MiB of data units of 4096 bytes beside bc_speed on as many, by turns, and prints the
 # least time of each, and their ratio; then the instructions of both, which other work on the machine doesn't change.
 #
-#     bench/library_speed.sh [ROUNDS]        51 rounds where no number is given
+#     bench/library_speed.sh [ROUNDS]        151 rounds where no number is given
 #
 # It needs `rt`, or bc_speed and the library built, and `cc`; and `valgrind` for the instructions.
 set -u
 cd "$(dirname "$0")/.." || exit 1
-rounds=${1:-51}
+rounds=${1:-151}
 units=256
 program=crates/bc_speed/out/bc_speed
 library=crates/bc_c/out/libbc_c.a
