@@ -17,4 +17,6 @@ pub use tally::{Tally, add_up, count, count_both, marks_of_two};
 pub use units::{encipher_two, there_and_back};
 
 #[cfg(test)]
+mod callers_tests;
+#[cfg(test)]
 mod tests;
