@@ -12,4 +12,10 @@ elif ! [ -x "$program" ]; then
     echo "units_independent: skipped, no rt and no program"
     exit 0
 fi
-exec python3 checks/units_independent.py "$program" "${1:-200}"
+# README's example, in both modes
+for bytes in 64 16; do
+    key=$(python3 -c "print(bytes(range($bytes)).hex())")
+    text=$(printf '%-4096s' 'block 5 of inode 12' | "$program" encrypt "$key" c00000005 | python3 examples/decipher.py "$key" c00000005)
+    [ "$text" = "$(printf '%-4096s' 'block 5 of inode 12')" ] || { echo "units_independent: another text comes back"; exit 1; }
+done
+exec python3 -B checks/units_independent.py "$program" "${1:-200}"

@@ -23,7 +23,8 @@ use std::env;
 use std::io::{Read, Write};
 use std::process::ExitCode;
 
-const USAGE: &str = "usage: bc_unit encrypt|decrypt KEY NUMBER TEXT     TEXT and what is printed in hexadecimal digits
+const USAGE: &str =
+    "usage: bc_unit encrypt|decrypt KEY NUMBER TEXT     TEXT and what is printed in hexadecimal digits
        bc_unit encrypt|decrypt KEY NUMBER < UNIT   raw bytes on standard input and output
   KEY     64 bytes for AES-256-XTS, or 16 for AES-128-CBC-ESSIV, in hexadecimal digits
   NUMBER  the data unit's number in hexadecimal digits, 0 for the first one
@@ -34,6 +35,7 @@ const MOST_BYTES: u64 = 4096;
 
 /// How the process ends where a stream fails.
 const READING_FAILED: u8 = 3;
+
 const WRITING_FAILED: u8 = 4;
 
 /// What the process is to print, or why not, with the number that it ends with.
@@ -46,7 +48,12 @@ enum Answer {
 /// A data unit of standard input, taken one way.
 fn of_input(rt: &HostRuntime, alloc: Global, way: Direction, key: &str, number: &str) -> Answer {
     let mut unit = Vec::new(alloc);
-    if rt.stdin().take(MOST_BYTES + 1).read_to_end(&mut unit).is_err() {
+    if rt
+        .stdin()
+        .take(MOST_BYTES + 1)
+        .read_to_end(&mut unit)
+        .is_err()
+    {
         return Answer::NotRead;
     }
     match carrying::carry(alloc, way, key, number, unit.as_mut_slice()) {

@@ -33,7 +33,10 @@ fn a_bio_of_two_units_is_cut(rt: HostRuntime) -> Result<(), Fail> {
     };
     match first_unit(alloc, &keys, 8, bio) {
         Ok((first, rest)) => {
-            assert_eq!(rt; (first.units.len(), rest.units.len(), rest.sector), (1, 1, 5));
+            assert_eq!(rt;
+                (first.units.len(), rest.units.len(), rest.sector),
+                (1, 1, 5)
+            );
         }
         Err(_) => assert!(rt; false, "the bio came back"),
     }
