@@ -31,14 +31,12 @@ fn a_bio_of_two_units_is_cut(rt: HostRuntime) -> Result<(), Fail> {
         units: Items::from_vec(units),
         context: None,
     };
-    match first_unit(alloc, &keys, 8, bio) {
-        Ok((first, rest)) => {
-            assert_eq!(rt;
-                (first.units.len(), rest.units.len(), rest.sector),
-                (1, 1, 5)
-            );
-        }
-        Err(_) => assert!(rt; false, "the bio came back"),
-    }
+    let Ok((first, rest)) = first_unit(alloc, &keys, 8, bio) else {
+        return Err("the bio came back".into());
+    };
+    assert_eq!(rt;
+        (first.units.len(), rest.units.len(), rest.sector),
+        (1, 1, 5)
+    );
     Ok(())
 }
