@@ -1,5 +1,4 @@
-//! Measures the unit ciphers, the texts of scripts and reports, and the keyslot manager, and shows what the ciphers make of
-//! single data units.
+//! Measures the unit ciphers, the texts of scripts and reports, and the keyslot manager.
 //!
 //! | Words | What is printed |
 //! |---|---|
@@ -11,20 +10,17 @@
 //! | `script HEX READS` | the bytes and operations of a script's text, and how fast it is parsed and printed |
 //! | `report COUNT` | the bytes of a report's text, and how fast it is parsed and printed |
 //! | `read` | the report that standard input says, printed again, or the first line that no report has there |
-//! | `unit encrypt KEY NUMBER TEXT` | the raw bytes of one data unit, all in hexadecimal digits |
-//! | `unit decrypt KEY NUMBER TEXT` | the text of one data unit's raw bytes |
 //!
-//! MODE is `xts` or `essiv`; of a single unit the length of KEY tells it. Unit i of a measurement has the number i, its
-//! texts are the same at each run, and the key has the bytes 00 to 3f, or 00 to 0f. The script has HEX writes by `hex` and
-//! READS reads, each of one data unit of 512 bytes without a key; it is refused where they are more than a script may have.
-//! The report has one thread with COUNT answers and one shard with as many entries.
+//! MODE is `xts` or `essiv`. Unit i of a measurement has the number i, its texts are the same at each run, and the key has
+//! the bytes 00 to 3f, or 00 to 0f. The script has HEX writes by `hex` and READS reads, each of one data unit of 512 bytes
+//! without a key; it is refused where they are more than a script may have. The report has one thread with COUNT answers and
+//! one shard with as many entries.
 #![tactic(auto)]
 
 ghost use Rattle.std.specs.Prelude.{◌≡◌, ◌≤◌, length, IfOk};
 
-// data units, one and many
+// data units
 mod direction;
-mod single;
 mod units;
 
 // what is measured
@@ -44,7 +40,7 @@ use std::env;
 use std::rt::Clock;
 
 const USAGE: &str =
-    "words: encrypt|decrypt|digest xts|essiv SIZE UNITS, expand xts|essiv KEYS, keyslots HOLDS, script HEX READS, report COUNT, read, unit encrypt|decrypt KEY NUMBER TEXT";
+    "words: encrypt|decrypt|digest xts|essiv SIZE UNITS, expand xts|essiv KEYS, keyslots HOLDS, script HEX READS, report COUNT, read";
 
 /// How many data units a measurement may have: those of 4096 bytes then fill 256 MiB.
 const MOST_UNITS: u32 = 65536;
@@ -119,11 +115,6 @@ fn run(rt: &(impl Print + Clock), alloc: Global, words: &[String]) -> Result<()>
     }
     if words.len() == 2 && words[0].as_str() == "report" {
         return reports::speed(rt, alloc, number(words[1].as_str(), MOST_OPERATIONS)?);
-    }
-    if words.len() == 5 && words[0].as_str() == "unit" {
-        let way = Direction::of_word(words[1].as_str()).context(USAGE)?;
-        let (key, number, text) = (words[2].as_str(), words[3].as_str(), words[4].as_str());
-        return single::show(rt, alloc, way, key, number, text);
     }
     bail!("{USAGE}")
 }
