@@ -43,7 +43,8 @@ pub record Circuit : Type 0 where
 -- the results of a circuit, which is given these inputs and all ones
 abbrev pub results_of : {A : Type 0} → Logic A → Circuit → List A → List A
 results_of logic circuit inputs =
-    map (λ k. slice_index_or (values_after logic circuit.gates (inputs ++ logic.ones ∷ [])) k logic.zeros) circuit.results
+    map (λ k. slice_index_or (values_after logic circuit.gates (inputs ++ logic.ones ∷ [])) k logic.zeros)
+        circuit.results
 
 -- with single bits: their sum modulo 2, and the lesser
 abbrev pub bit_logic : Logic ℕ
@@ -93,6 +94,7 @@ inv_sub_byte_circuit = record {
       xor_of 12 3 ∷ xor_of 3 1 ∷ xor_of 1 0 ∷ xor_of 21 19 ∷ xor_of 14 1 ∷ xor_of 12 6 ∷ xor_of 19 14 ∷ xor_of 16 1 ∷
       xor_of 22 19 ∷ xor_of 22 4 ∷ xor_of 6 3 ∷ xor_of 10 0 ∷ xor_of 27 16 ∷ xor_of 7 1 ∷ xor_of 31 28 ∷
       xor_of 11 10 ∷ xor_of 23 5 ∷ xor_of 17 8 ∷ xor_of 36 3 ∷ xor_of 5 1 ∷ xor_of 18 12 ∷ xor_of 36 11 ∷
-      xor_of 37 19 ∷ xor_of 13 4 ∷ xor_of 11 7 ∷ xor_of 30 0 ∷ xor_of 29 18 ∷ xor_of 18 4 ∷ xor_of 2 4 ∷ xor_of 8 0 ∷ [];
+      xor_of 37 19 ∷ xor_of 13 4 ∷ xor_of 11 7 ∷ xor_of 30 0 ∷ xor_of 29 18 ∷ xor_of 18 4 ∷ xor_of 2 4 ∷
+      xor_of 8 0 ∷ [];
   results = 3 ∷ 2 ∷ 6 ∷ 10 ∷ 14 ∷ 1 ∷ 0 ∷ 8 ∷ [];
 }

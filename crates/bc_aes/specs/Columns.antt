@@ -17,7 +17,8 @@ word_of b0 b1 b2 b3 = from_le_bytes w32 (b0 ∷ b1 ∷ b2 ∷ b3 ∷ [])
 
 -- the state of four words
 abbrev pub state_bytes : List ℕ → List ℕ
-state_bytes s = column (slice_index s 0) ++ (column (slice_index s 1) ++ (column (slice_index s 2) ++ column (slice_index s 3)))
+state_bytes s = column (slice_index s 0) ++ (column (slice_index s 1)
+    ++ (column (slice_index s 2) ++ column (slice_index s 3)))
 
 -- the schedule of a list of words
 abbrev pub schedule_bytes : List ℕ → List ℕ

@@ -116,7 +116,8 @@ pub(crate) fn mixed(a: u32, b: u32, c: u32, d: u32) -> u32
 #[inline(always)]
 pub(crate) fn unmixed(a: u32, b: u32, c: u32, d: u32) -> u32
     ensures unmixes { column result ≡ mixed_column inv_mixing_row
-        (inv_sub_byte (byte_at 0 a)) (inv_sub_byte (byte_at 1 b)) (inv_sub_byte (byte_at 2 c)) (inv_sub_byte (byte_at 3 d)) }
+        (inv_sub_byte (byte_at 0 a)) (inv_sub_byte (byte_at 1 b))
+        (inv_sub_byte (byte_at 2 c)) (inv_sub_byte (byte_at 3 d)) }
 {
     unmixed_row_0(a) ^ unmixed_row_1(b) ^ unmixed_row_2(c) ^ unmixed_row_3(d)
 }

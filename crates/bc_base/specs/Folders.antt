@@ -7,13 +7,15 @@ use Rattle.bc_base.specs.Memory.{Calls}
 abbrev pub Files : Type 0
 Files = List ℕ → Option (List ℕ)
 
--- under this name it has these bytes; it doesn't have the name; or it has more than so many bytes under it
+-- under this name the folder has these bytes
 abbrev pub Has : Option Files → List ℕ → List ℕ → Type 0
 Has held name bytes = IfSome held (λ files. files name ≡ Some bytes)
 
+-- it doesn't have the name
 abbrev pub Lacks : Option Files → List ℕ → Type 0
 Lacks held name = IfSome held (λ files. files name ≡ None)
 
+-- it has more than so many bytes under the name
 abbrev pub HasLonger : Option Files → List ℕ → ℕ → Type 0
 HasLonger held name limit = IfSome held (λ files. IsSomeAnd (files name) (λ bytes. limit < length bytes))
 

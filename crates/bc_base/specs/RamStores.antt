@@ -54,4 +54,5 @@ pub record HasBlocksOf (image : List ℕ) (first step : ℕ) (bytes : List ℕ) 
 -- the stores are those of all shards of an image of so many blocks, in order
 pub record AreAllShards (blocks : ℕ) (stores : List RamData) : Type 0 where
   pub some : 1 ≤ length stores
-  pub each : (shard : ℕ) → AllAt stores shard (λ store. (store.shard ≡ shard) × (store.shards ≡ length stores) × (store.blocks ≡ blocks))
+  pub each : (shard : ℕ) → AllAt stores shard (λ store. (store.shard ≡ shard) × (store.shards ≡ length stores)
+      × (store.blocks ≡ blocks))

@@ -36,4 +36,5 @@ Reads held first bytes = IfSome held (λ disk. bytes ≡ bytes_at disk first (le
 abbrev pub MakesCall : Option ToldCalls → Option ToldCalls → Type 0 → Type 0
 MakesCall None now Fails = now ≡ None
 MakesCall (Some before) now Fails =
-    IsSomeAnd now (λ after. (after.plan ≡ before.plan) × (after.calls ≡ counted before.calls) × (Fails ↔ Contains before.plan before.calls))
+    IsSomeAnd now (λ after. (after.plan ≡ before.plan) × (after.calls ≡ counted before.calls)
+        × (Fails ↔ Contains before.plan before.calls))

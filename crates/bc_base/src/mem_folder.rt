@@ -1,7 +1,9 @@
 //! A folder in memory, for tests and for callers that have their files already.
 
-ghost use Rattle.std.specs.Prelude.{◌≡◌, ◌≢◌, ◌⊎◌, ℕ, ◌<◌, ◌≤◌, List, [], length, MatchOption, IfOk, IfErr, IsErrOf, OnOk, OnErr};
+ghost use Rattle.std.specs.Prelude.{◌≡◌, ◌≢◌, ◌⊎◌, ◌↔◌, ℕ, ◌<◌, ◌≤◌, List, [], length, Some, None, MatchOption, IsSomeAnd, IfOk, IfErr, IsErrOf, OnOk, OnErr};
 ghost use Rattle.std.specs.Str.{bytes_eq};
+ghost use Rattle.bc_base.specs.Memory.{NextFails, called, failed};
+ghost use Rattle.bc_base.specs.Outside.{HasCause};
 ghost use Rattle.bc_base.specs.Folders.{bytes_of, IsPlaceOf};
 
 use crate::calls::Calls;
@@ -63,7 +65,19 @@ impl Folder for MemFolder {
 
     ghost faults = { λ f. f.calls.faults };
 
-    fn get(&mut self, alloc: Global, name: &str, limit: u64) -> Result<Vec<u8>, GetError> {
+    fn get(&mut self, alloc: Global, name: &str, limit: u64) -> Result<Vec<u8>, GetError>
+        ensures found { IfOk result (λ bytes. bytes_of self.old.files name.now ≡ Some bytes.items) }
+        ensures within { IfOk result (λ bytes. length bytes.items ≤ limit) }
+        ensures missing { IsErrOf result GetError.Missing → bytes_of self.old.files name.now ≡ None }
+        ensures too_long { IsErrOf result GetError.TooLong
+            → IsSomeAnd (bytes_of self.old.files name.now) (λ bytes. limit < length bytes) }
+        ensures cause { HasCause self.old.calls.faults self.new.calls.faults (IsErrOf result GetError.Failed) }
+        ensures fails { IsErrOf result GetError.Failed ↔ NextFails self.old.calls }
+        ensures failed { IsErrOf result GetError.Failed
+            → self.new ≡ record self.old { calls = failed self.old.calls } }
+        ensures called { (IsErrOf result GetError.Failed → ⊥)
+            → self.new ≡ record self.old { calls = called self.old.calls } }
+    {
         self.calls.next()?;
         let Some(place) = place_of(&self.files, name) else {
             return Err(GetError::Missing);
@@ -71,7 +85,16 @@ impl Folder for MemFolder {
         self.files[place].read(alloc, limit)
     }
 
-    fn put(&mut self, name: &str, bytes: &[u8]) -> Result<(), PutError> {
+    fn put(&mut self, name: &str, bytes: &[u8]) -> Result<(), PutError>
+        ensures puts { OnOk result (bytes_of self.new.files name.now ≡ Some bytes.now) }
+        ensures others { (other : List ℕ) → other ≢ name.now
+            → bytes_of self.new.files other ≡ bytes_of self.old.files other }
+        ensures same { OnErr result (self.new.files ≡ self.old.files) }
+        ensures cause { HasCause self.old.calls.faults self.new.calls.faults (IsErrOf result PutError.Failed) }
+        ensures fails { IsErrOf result PutError.Failed ↔ NextFails self.old.calls }
+        ensures failed { IsErrOf result PutError.Failed → self.new.calls ≡ failed self.old.calls }
+        ensures called { (IsErrOf result PutError.Failed → ⊥) → self.new.calls ≡ called self.old.calls }
+    {
         self.calls.next()?;
         let file = File::copy_of(self.alloc, name, bytes)?;
         put_file(&mut self.files, file)?;
@@ -126,7 +149,8 @@ fn place_of(files: &[File], name: &str) -> Option<usize>
 /// Puts a file in place of the first one of its name, or last where there is none.
 fn put_file(files: &mut Vec<File>, file: File) -> Result<(), AllocError>
     ensures puts { OnOk result (bytes_of files.new.items file.name ≡ Some file.bytes) }
-    ensures others { OnOk result ((other : List ℕ) → other ≢ file.name → bytes_of files.new.items other ≡ bytes_of files.old.items other) }
+    ensures others { OnOk result
+        ((other : List ℕ) → other ≢ file.name → bytes_of files.new.items other ≡ bytes_of files.old.items other) }
     ensures err { OnErr result (files.new.items ≡ files.old.items) }
 {
     match place_of(files, file.name.as_str()) {

@@ -47,7 +47,8 @@ impl PlannedCalls {
         ensures fails { IsErr result ↔ NextFails self.old }
         ensures cause { HasCause self.old.faults self.new.faults (IsErr result) }
         ensures ok { OnOk result (self.new ≡ record self.old { calls = counted self.old.calls }) }
-        ensures err { OnErr result (self.new ≡ record self.old { calls = counted self.old.calls; faults = counted self.old.faults }) }
+        ensures err { OnErr result
+            (self.new ≡ record self.old { calls = counted self.old.calls; faults = counted self.old.faults }) }
     {
         let fails = is_next(self.next, self.calls);
         self.calls = self.calls.saturating_add(1);
@@ -83,7 +84,8 @@ fn next_planned(plan: &[u32], from: u64) -> Option<u32>
 
 /// The lesser of two numbers that are `from` or more.
 fn nearer(next: Option<u32>, number: u32, from: u64) -> Option<u32>
-    ensures { result ≡ (if nat_le from number && option_map_or (λ n. nat_lt number n) next true then Some number else next) }
+    ensures { result ≡
+        (if nat_le from number && option_map_or (λ n. nat_lt number n) next true then Some number else next) }
 {
     match next {
         Some(least) if least <= number => next,

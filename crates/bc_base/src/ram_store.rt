@@ -29,7 +29,8 @@ impl Model for RamStore {
 
     ghost Value = { RamData };
 
-    ghost view = { λ s. record { bytes = s.bytes.items; shard = s.shard; shards = s.shards; blocks = s.blocks; calls = s.calls } };
+    ghost view = { λ s. record
+        { bytes = s.bytes.items; shard = s.shard; shards = s.shards; blocks = s.blocks; calls = s.calls } };
 
     ghost invariant = { λ s. IsWhole s.bytes.items s.shard s.shards s.blocks };
 }
@@ -72,9 +73,11 @@ impl RamStore {
         requires { AreAllShards blocks stores.now }
         ensures length { IfOk result (λ image. length image.items ≡ 4096 * blocks) }
         ensures sectors { IfOk result (λ image. (s : ℕ) → s < 8 * blocks
-            → AllAt stores.now (shard_of (length stores.now) s) (λ store. image_sectors image.items s ≡ contents store s)) }
+            → AllAt stores.now (shard_of (length stores.now) s)
+                (λ store. image_sectors image.items s ≡ contents store s)) }
         ensures gives_back { IfOk result (λ image. (whole : List ℕ) → length whole ≡ 4096 * blocks
-            → ((shard : ℕ) → AllAt stores.now shard (IsShardOf whole shard (length stores.now))) → image.items ≡ whole) }
+            → ((shard : ℕ) → AllAt stores.now shard (IsShardOf whole shard (length stores.now)))
+                → image.items ≡ whole) }
     {
         let shards = stores.len();
         let mut image = Vec::with_capacity(alloc, BLOCK_BYTES * blocks as usize)?;

@@ -21,6 +21,7 @@ pub record RequestParts : Type 0 where
 abbrev pub tagged_of : Bio → TaggedBio
 tagged_of bio = record { tag = bio.tag; bio = extent_of bio }
 
+-- bios by their tags and extents
 abbrev pub tagged_bios : List MarkedBio → List TaggedBio
 tagged_bios bios = map (λ marked. tagged_of marked.bio) bios
 
@@ -50,7 +51,8 @@ place_in bios n = place_of (tagged_bios bios) n
 -- the bio of unit number n, changed
 abbrev pub with_bio_of : List MarkedBio → ℕ → (MarkedBio → MarkedBio) → List MarkedBio
 with_bio_of bios n change =
-    option_map_or (λ marked. slice_set bios (place_in bios n).bio (change marked)) (slice_get bios (place_in bios n).bio) bios
+    option_map_or (λ marked. slice_set bios (place_in bios n).bio (change marked))
+        (slice_get bios (place_in bios n).bio) bios
 
 -- the first of two units that met a fault
 abbrev pub first_fault : ℕ → Option ℕ → ℕ

@@ -38,7 +38,8 @@ impl Model for Request {
 
     ghost view = { λ r. record { bios = r.bios.items; spare = vec_capacity r.bios - vec_len r.bios } };
 
-    ghost invariant = { λ r. HasEnds (tagged_bios r.bios.items) (vec_capacity r.bios) r.ends.items (vec_capacity r.ends) };
+    ghost invariant = { λ r. HasEnds (tagged_bios r.bios.items) (vec_capacity r.bios) r.ends.items
+        (vec_capacity r.ends) };
 }
 
 impl Request {
@@ -161,7 +162,8 @@ impl Request {
     /// The bio of unit number `n`.
     pub fn bio_of(&self, n: u32) -> &Bio
         requires { n < count_units (tagged_bios self.now.bios) }
-        ensures { option_map (λ marked. marked.bio) (slice_get self.now.bios (place_in self.now.bios n).bio) ≡ Some result.now }
+        ensures { option_map (λ marked. marked.bio) (slice_get self.now.bios (place_in self.now.bios n).bio)
+            ≡ Some result.now }
     {
         let place = self.place(n);
         &self.bios[place.bio].bio

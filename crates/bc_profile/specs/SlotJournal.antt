@@ -45,7 +45,8 @@ pub record IsHeld (slots : Slots) (skip : Skip) : Type 0 where
 pub record MayProgram (slots : Slots) (slot key : ℕ) (skipped : List Skip) : Type 0 where
   pub is_slot : slot < length slots.keys
   pub key_in_no_slot : InNoSlot slots key
-  pub skips_those_before : map (λ skip. skip.slot) skipped ≡ take_while (λ other. not (other == slot)) (idle_order slots)
+  pub skips_those_before : map (λ skip. skip.slot) skipped ≡ take_while (λ other. not (other == slot))
+      (idle_order slots)
   pub found_held : All (IsHeld slots) skipped
 
 -- when an event may come

@@ -44,7 +44,8 @@ pub record HasRoom (count : ℕ) (journal : List Event) (held : Option ℕ) (quo
   pub reserved : quota ≤ capacity
 
 -- what the type keeps
-pub record IsSolo (keys : List (Option ℕ)) (epochs stamps : List ℕ) (rows registers : List (List ℕ)) (journal : List Event) (held : Option ℕ) (quota capacity : ℕ) : Type 0 where
+pub record IsSolo (keys : List (Option ℕ)) (epochs stamps : List ℕ) (rows registers : List (List ℕ))
+    (journal : List Event) (held : Option ℕ) (quota capacity : ℕ) : Type 0 where
   pub told : IsTold keys epochs journal
   pub stamped : AreStamped (slots_after (length keys) journal) held stamps (next_stamp (length keys) journal)
   pub written : registers ≡ map (row_of rows) keys

@@ -23,6 +23,7 @@ no_bios = record { requests = []; count = 0 }
 abbrev pub bios_of : List RequestParts → List MarkedBio
 bios_of requests = flat_map (λ request. request.bios) requests
 
+-- how many bios the requests have together
 abbrev pub count_bios : List RequestParts → ℕ
 count_bios requests = sum_by (λ request. length request.bios) requests
 
@@ -64,7 +65,8 @@ pub record Added (keys : List KeyData) (old new : List RequestParts) (bio : Bio)
 -- Private: the bio runs on at the back of no last one.
 abbrev pub StandsApart : List KeyData → List RequestParts → Bio → Type 0
 StandsApart keys requests bio =
-    chunks_and (joins keys) (tagged_requests requests) (tagged_of bio) ≡ tagged_requests requests ++ (tagged_of bio ∷ []) ∷ []
+    chunks_and (joins keys) (tagged_requests requests) (tagged_of bio) ≡ tagged_requests requests
+        ++ (tagged_of bio ∷ []) ∷ []
 
 -- Private: an empty request with room for all bios of a plug.
 pub record IsReady (request : RequestParts) : Type 0 where

@@ -1,7 +1,7 @@
 -- Some report begins with the lines of a report that has been read so far.
 use Rattle.std.proofs.Common.{◌≡◌, ℕ, zero, suc, ◌≤◌, List, [], ◌∷◌, ◌++◌, refl, sym, ap, subst, ◌∙◌, append_assoc, append-nil, arith}
 use Rattle.std.specs.List.{AllByRecursion}
-use Rattle.bc_text.specs.Lines.{Line}
+use Rattle.bc_text.specs.Lines.{TextLine}
 use Rattle.bc_profile.specs.declared.event.Event.TheVariants as events
 use Rattle.bc_report.specs.declared.part.Part.{Part}
 use Rattle.bc_report.specs.declared.part.Part.TheVariants as parts
@@ -14,7 +14,7 @@ use Rattle.bc_report.specs.Progress.{Progress, lines_read, read_in, AreWhole, Is
 use Rattle.bc_report.proofs.Taken.{all_push, length_push, one_more, lines_in, entry_rules, event_rules, took_entry, took_event, thread_lines_stay, shard_lines_stay, device_lines_stay}
 
 -- a report begins with what begins its beginning
-pub begins_prefix : (a b : List Line) → Begins (a ++ b) → Begins a
+pub begins_prefix : (a b : List TextLine) → Begins (a ++ b) → Begins a
 begins_prefix a b begins = record { report = begins.report; valid = begins.valid; others = b ++ begins.others; lines_are = begins.lines_are ∙ append_assoc a b begins.others }
 
 whole_report : (p : Progress) → AreWhole p.threads p.shards p.devices 0 0 0 → IsReport (report_read p)
@@ -36,7 +36,7 @@ begins_between p w =
       report = report_read p;
       valid = whole_report p w;
       others = foot_line ∷ [];
-      lines_are = ap (λ (ls : List Line). head_line ∷ (t ++ ls)) (sym (append_assoc s d (foot_line ∷ []))) ∙ sym (one_more head_line foot_line t (s ++ d));
+      lines_are = ap (λ (ls : List TextLine). head_line ∷ (t ++ ls)) (sym (append_assoc s d (foot_line ∷ []))) ∙ sym (one_more head_line foot_line t (s ++ d));
     }
 
 nothing_is : AreWhole [] [] [] 0 0 0

@@ -5,7 +5,7 @@ use Rattle.std.specs.Fmt.{decimal}
 use Rattle.std.specs.List.{AllByRecursion, flat_map, enumerate_from}
 use Rattle.std.proofs.lemmas.List.Elements.{All-from_recursion, All-get_or}
 use Rattle.hex.specs.Hex.{encode_lower, encode_with, lower_digits, IsBytes}
-use Rattle.bc_text.specs.Lines.{Line, IsField, IsLine, space, line_feed}
+use Rattle.bc_text.specs.Lines.{TextLine, IsField, IsLine, space, line_feed}
 use Rattle.bc_text.proofs.FieldLaws.{IsField-from_test, IsField-decimal}
 use Rattle.bc_bio.specs.declared.refusal.BioError.TheVariants.{Empty, Misaligned, Outside, DunRange}
 use Rattle.bc_bio.specs.declared.refusal.Refusal.{Refusal}
@@ -101,11 +101,11 @@ event_fields events.Reset is = (omega arith, (IsField-from_test (codes "reset") 
 
 -- ---- parts
 
-all_append : (a b : List Line) → AllByRecursion IsLine a → AllByRecursion IsLine b → AllByRecursion IsLine (a ++ b)
+all_append : (a b : List TextLine) → AllByRecursion IsLine a → AllByRecursion IsLine b → AllByRecursion IsLine (a ++ b)
 all_append [] b p q = q
 all_append (l ∷ a) b p q = (p.0, all_append a b p.1 q)
 
-each_line : {X : Type 0} (Valid : X → Type 0) (line_of : X → Line) → ((x : X) → Valid x → IsLine (line_of x)) → (xs : List X) → AllByRecursion Valid xs → AllByRecursion IsLine (map line_of xs)
+each_line : {X : Type 0} (Valid : X → Type 0) (line_of : X → TextLine) → ((x : X) → Valid x → IsLine (line_of x)) → (xs : List X) → AllByRecursion Valid xs → AllByRecursion IsLine (map line_of xs)
 each_line Valid line_of is [] h = tt
 each_line Valid line_of is (x ∷ xs) h = (is x h.0, each_line Valid line_of is xs h.1)
 

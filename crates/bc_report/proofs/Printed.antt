@@ -4,10 +4,10 @@ use Rattle.std.specs.List.{flat_map, enumerate_from}
 use Rattle.std.proofs.lemmas.List.{take_more, map_push, append-nil, length-take-le}
 use Rattle.std.proofs.lemmas.List.Concat.{flat_map-append}
 use Rattle.std.specs.Prelude.{codes}
-use Rattle.bc_text.specs.Lines.{Line, space, line_feed, fields_text, line_text, text_of}
+use Rattle.bc_text.specs.Lines.{TextLine, space, line_feed, fields_text, line_text, lines_text}
 use Rattle.bc_profile.specs.declared.skips.Skip.{Skip}
 use Rattle.bc_report.specs.ReportText.{skip_field, skip_fields}
-use Rattle.bc_text.proofs.Printing.{text_of-append}
+use Rattle.bc_text.proofs.Printing.{lines_text-append}
 use Rattle.bc_report.specs.Spaced.{spaced}
 
 pub enumerate_from-push : {X : Type 0} (n : ℕ) (xs : List X) (y : X) → enumerate_from n (xs ++ y ∷ []) ≡ enumerate_from n xs ++ (n + length xs, y) ∷ []
@@ -17,34 +17,34 @@ enumerate_from-push {X} n (x ∷ xs) y =
     ap (λ (t : List (ℕ × X)). (n, x) ∷ t) (enumerate_from-push (n + 1) xs y ∙ ap (λ (m : ℕ). enumerate_from (n + 1) xs ++ (m, y) ∷ []) place)
 
 -- one part of several lines more
-pub parts_more : {X : Type 0} (f : ℕ × X → List Line) (xs : List X) (i : ℕ) (d : X) (old new : List ℕ) → i < length xs
-    → new ≡ (old ++ text_of (flat_map f (enumerate_from 0 (take i xs)))) ++ text_of (f (i, get_or xs i d)) → new ≡ old ++ text_of (flat_map f (enumerate_from 0 (take (i + 1) xs)))
+pub parts_more : {X : Type 0} (f : ℕ × X → List TextLine) (xs : List X) (i : ℕ) (d : X) (old new : List ℕ) → i < length xs
+    → new ≡ (old ++ lines_text (flat_map f (enumerate_from 0 (take i xs)))) ++ lines_text (f (i, get_or xs i d)) → new ≡ old ++ lines_text (flat_map f (enumerate_from 0 (take (i + 1) xs)))
 parts_more {X} f xs i d old new lt e =
     let x = get_or xs i d in
     let before = flat_map f (enumerate_from 0 (take i xs)) in
     let here : 0 + length (take i xs) ≡ i = omega (arith, length-take-le i xs (omega arith)) in
     let all : enumerate_from 0 (take (i + 1) xs) ≡ enumerate_from 0 (take i xs) ++ (i, x) ∷ [] =
     ap (enumerate_from 0) (take_more xs i d lt) ∙ enumerate_from-push 0 (take i xs) x ∙ ap (λ (m : ℕ). enumerate_from 0 (take i xs) ++ (m, x) ∷ []) here in
-    let step : text_of (flat_map f (enumerate_from 0 (take (i + 1) xs))) ≡ text_of before ++ text_of (f (i, x)) =
-    ap (λ (t : List (ℕ × X)). text_of (flat_map f t)) all ∙ ap text_of (flat_map-append f (enumerate_from 0 (take i xs)) ((i, x) ∷ []))
-    ∙ text_of-append before (f (i, x) ++ []) ∙ ap (λ (t : List Line). text_of before ++ text_of t) (append-nil (f (i, x))) in
-    e ∙ append_assoc old (text_of before) (text_of (f (i, x))) ∙ ap (λ (t : List ℕ). old ++ t) (sym step)
+    let step : lines_text (flat_map f (enumerate_from 0 (take (i + 1) xs))) ≡ lines_text before ++ lines_text (f (i, x)) =
+    ap (λ (t : List (ℕ × X)). lines_text (flat_map f t)) all ∙ ap lines_text (flat_map-append f (enumerate_from 0 (take i xs)) ((i, x) ∷ []))
+    ∙ lines_text-append before (f (i, x) ++ []) ∙ ap (λ (t : List TextLine). lines_text before ++ lines_text t) (append-nil (f (i, x))) in
+    e ∙ append_assoc old (lines_text before) (lines_text (f (i, x))) ∙ ap (λ (t : List ℕ). old ++ t) (sym step)
 
 -- the whole text
-pub whole_text : (text with_threads with_shards with_devices : List ℕ) (a : Line) (b c d e : List Line) → with_threads ≡ line_text a ++ text_of b → with_shards ≡ with_threads ++ text_of c
-    → with_devices ≡ with_shards ++ text_of d → text ≡ with_devices ++ text_of e → text ≡ text_of (a ∷ (b ++ (c ++ (d ++ e))))
+pub whole_text : (text with_threads with_shards with_devices : List ℕ) (a : TextLine) (b c d e : List TextLine) → with_threads ≡ line_text a ++ lines_text b → with_shards ≡ with_threads ++ lines_text c
+    → with_devices ≡ with_shards ++ lines_text d → text ≡ with_devices ++ lines_text e → text ≡ lines_text (a ∷ (b ++ (c ++ (d ++ e))))
 whole_text text t s v a b c d e p q r u =
-    let de = text_of-append d e in
-    let cde = text_of-append c (d ++ e) in
-    let bcde = text_of-append b (c ++ (d ++ e)) in
+    let de = lines_text-append d e in
+    let cde = lines_text-append c (d ++ e) in
+    let bcde = lines_text-append b (c ++ (d ++ e)) in
     u ∙ simp (p, q, r, de, cde, bcde, append_assoc)
 
 -- ---- the fields of a programming's line
 
-spaced-append : (a b : Line) → spaced (a ++ b) ≡ spaced a ++ spaced b
+spaced-append : (a b : TextLine) → spaced (a ++ b) ≡ spaced a ++ spaced b
 spaced-append a b = flat_map-append (λ (field : List ℕ). space ∷ field) a b
 
-fields_text-spaced : (f : List ℕ) (fs : Line) → fields_text (f ∷ fs) ≡ f ++ spaced fs
+fields_text-spaced : (f : List ℕ) (fs : TextLine) → fields_text (f ∷ fs) ≡ f ++ spaced fs
 fields_text-spaced f [] = sym (append-nil f)
 fields_text-spaced f (g ∷ fs) = ap (λ (t : List ℕ). f ++ space ∷ t) (fields_text-spaced g fs)
 
@@ -65,14 +65,14 @@ pub some_skips : (old mid new : List ℕ) (skips : List Skip) → (length skips 
 some_skips old mid new [] some p q = absurd (some refl)
 some_skips old mid new (skip ∷ skips) some p q = q ∙ ap (λ (t : List ℕ). t ++ spaced (map skip_field (skip ∷ skips))) p ∙ append_assoc old (codes " skip") (spaced (map skip_field (skip ∷ skips)))
 
-pub program_parts : (word slot key : List ℕ) (skips : Line) (old a b c d new : List ℕ) → a ≡ old ++ word → b ≡ a ++ (space ∷ slot) → c ≡ b ++ (space ∷ key) → d ≡ c ++ spaced skips → new ≡ d ++ line_feed ∷ []
+pub program_parts : (word slot key : List ℕ) (skips : TextLine) (old a b c d new : List ℕ) → a ≡ old ++ word → b ≡ a ++ (space ∷ slot) → c ≡ b ++ (space ∷ key) → d ≡ c ++ spaced skips → new ≡ d ++ line_feed ∷ []
     → new ≡ old ++ line_text (word ∷ slot ∷ key ∷ skips)
 program_parts word slot key skips old a b c d new p q r s t =
     let text = fields_text-spaced word (slot ∷ key ∷ skips) in
     t ∙ simp (s, r, q, p, text, append_assoc)
 
 -- one part more, as a loop over the parts knows it
-pub parts_step : {X : Type 0} (f : ℕ × X → List Line) (xs : List X) (i : ℕ) (x y : X) (old mid new : List ℕ) → i < length xs → x ≡ get_or xs i x → y ≡ x
-    → mid ≡ old ++ text_of (flat_map f (enumerate_from 0 (take i xs))) → new ≡ mid ++ text_of (f (i, y)) → new ≡ old ++ text_of (flat_map f (enumerate_from 0 (take (i + 1) xs)))
+pub parts_step : {X : Type 0} (f : ℕ × X → List TextLine) (xs : List X) (i : ℕ) (x y : X) (old mid new : List ℕ) → i < length xs → x ≡ get_or xs i x → y ≡ x
+    → mid ≡ old ++ lines_text (flat_map f (enumerate_from 0 (take i xs))) → new ≡ mid ++ lines_text (f (i, y)) → new ≡ old ++ lines_text (flat_map f (enumerate_from 0 (take (i + 1) xs)))
 parts_step {X} f xs i x y old mid new within is named so_far more =
-    parts_more f xs i x old new within (more ∙ ap (λ (t : List ℕ). t ++ text_of (f (i, y))) so_far ∙ ap (λ (z : X). (old ++ text_of (flat_map f (enumerate_from 0 (take i xs)))) ++ text_of (f (i, z))) (named ∙ is))
+    parts_more f xs i x old new within (more ∙ ap (λ (t : List ℕ). t ++ lines_text (f (i, y))) so_far ∙ ap (λ (z : X). (old ++ lines_text (flat_map f (enumerate_from 0 (take i xs)))) ++ lines_text (f (i, z))) (named ∙ is))

@@ -12,8 +12,8 @@ use Rattle.hex.specs.Hex.{encode_lower, IsBytes}
 use Rattle.hex.specs.Hex.{decode_of}
 use Rattle.hex.specs.declared.error.FromHexError.{FromHexError}
 use Rattle.hex.proofs.HexLemmas.{decode_of-encode_lower}
-use Rattle.bc_text.specs.Lines.{Line, text_of, parts_at}
-use Rattle.bc_text.proofs.LineLaws.{text_of-begins, parts_at-cons, parts_at-one}
+use Rattle.bc_text.specs.Lines.{TextLine, lines_text, parts_at}
+use Rattle.bc_text.proofs.LineLaws.{lines_text-begins, parts_at-cons, parts_at-one}
 use Rattle.bc_text.proofs.Sorts.{same_reading}
 use Rattle.bc_report.specs.declared.sort.Sort.{Sort}
 use Rattle.bc_report.specs.declared.sort.Sort.TheVariants as sorts
@@ -75,7 +75,7 @@ refusal_in-word (Bio Outside) = refl
 refusal_in-word (Bio DunRange) = refl
 refusal_in-word Unsupported = refl
 
-abbrev answer_in : Line → Answer
+abbrev answer_in : TextLine → Answer
 answer_in (w ∷ []) =
     if bytes_eq w (codes "done") then answers.Wrote
     else (if bytes_eq w (codes "evicted") then answers.Evicted
@@ -104,7 +104,7 @@ answer_in-line answers.Unplug is = refl
 
 -- ---- what an entry's line says
 
-abbrev via_in : Line → Via
+abbrev via_in : TextLine → Via
 via_in (w ∷ []) = if bytes_eq w (codes "plain") then vias.Plain else vias.Soft
 via_in (w ∷ d ∷ s ∷ e ∷ []) = vias.Inline (value d) (value s) (value e)
 via_in _ = vias.Plain
@@ -118,7 +118,7 @@ via_in-fields (vias.Inline device slot event) is =
     let e = value-decimal event is.2 in
     λ i. vias.Inline (d i) (s i) (e i)
 
-abbrev entry_in : Line → Entry
+abbrev entry_in : TextLine → Entry
 entry_in (t ∷ o ∷ u ∷ via) = record { thread = value t; op = value o; unit = value u; via = via_in via }
 entry_in _ = record { thread = 0; op = 0; unit = 0; via = vias.Plain }
 
@@ -152,7 +152,7 @@ skips_in-fields : (skips : List Skip) → AllByRecursion IsSkip skips → map sk
 skips_in-fields [] is = refl
 skips_in-fields (skip ∷ skips) is = let s = skip_in-field skip is.0 in let more = skips_in-fields skips is.1 in λ i. s i ∷ more i
 
-abbrev event_in : Line → Event
+abbrev event_in : TextLine → Event
 event_in (w ∷ s ∷ []) = events.Idle (value s)
 event_in (w ∷ s ∷ k ∷ []) = if bytes_eq w (codes "evict") then events.Evict (value s) (value k) else events.Program (value s) (value k) []
 event_in (w ∷ s ∷ k ∷ n ∷ []) = events.Busy (value s) (value k) (value n)
@@ -182,38 +182,38 @@ event_in-line (events.Busy slot key refs) is =
 event_in-line events.Reset is = refl
 
 -- a line is that of one value
-one_value : {X : Type 0} (Valid : X → Type 0) (line_of : X → Line) (value_in : Line → X) → ((x : X) → Valid x → value_in (line_of x) ≡ x) → (x y : X) → Valid x → Valid y → line_of x ≡ line_of y → x ≡ y
+one_value : {X : Type 0} (Valid : X → Type 0) (line_of : X → TextLine) (value_in : TextLine → X) → ((x : X) → Valid x → value_in (line_of x) ≡ x) → (x y : X) → Valid x → Valid y → line_of x ≡ line_of y → x ≡ y
 one_value Valid line_of value_in inverse x y p q e = sym (inverse x p) ∙ ap value_in e ∙ inverse y q
 
 -- ---- parts
 
 -- the sort of the first of the lines
-abbrev first_sort : List Line → Sort
+abbrev first_sort : List TextLine → Sort
 first_sort [] = sorts.End
 first_sort (l ∷ ls) = sort_of l
 
 -- no answer follows
-abbrev EndsThread : List Line → Type 0
+abbrev EndsThread : List TextLine → Type 0
 EndsThread lines = first_sort lines ≡ sorts.Other → ⊥
 
-answer_goes : (a : Answer) (rest : List Line) → IsAnswer a → EndsThread (answer_line a ∷ rest) → ⊥
+answer_goes : (a : Answer) (rest : List TextLine) → IsAnswer a → EndsThread (answer_line a ∷ rest) → ⊥
 answer_goes a rest valid ends = ends (answer_sort a)
 
 -- no part of this sort follows
-abbrev EndsSort : Sort → List Line → Type 0
+abbrev EndsSort : Sort → List TextLine → Type 0
 EndsSort sort lines = first_sort lines ≡ sort → ⊥
 
-first_and_others : (x y : Line) (a b : List Line) → x ∷ a ≡ y ∷ b → (x ≡ y) × (a ≡ b)
+first_and_others : (x y : TextLine) (a b : List TextLine) → x ∷ a ≡ y ∷ b → (x ≡ y) × (a ≡ b)
 first_and_others x y a b e = (cc, cc)
 
 thread_is_no_other : sorts.Thread ≡ sorts.Other → ⊥
 thread_is_no_other e = cc
 
-ends_thread : (n : ℕ) (ts : List (List Answer)) (rest : List Line) → EndsThread rest → EndsThread (flat_map thread_lines (enumerate_from n ts) ++ rest)
+ends_thread : (n : ℕ) (ts : List (List Answer)) (rest : List TextLine) → EndsThread rest → EndsThread (flat_map thread_lines (enumerate_from n ts) ++ rest)
 ends_thread n [] rest ends = ends
 ends_thread n (t ∷ ts) rest ends = thread_is_no_other
 
-same_threads : (n : ℕ) (ts us : List (List Answer)) (a b : List Line) → AllByRecursion (AllByRecursion IsAnswer) ts → AllByRecursion (AllByRecursion IsAnswer) us
+same_threads : (n : ℕ) (ts us : List (List Answer)) (a b : List TextLine) → AllByRecursion (AllByRecursion IsAnswer) ts → AllByRecursion (AllByRecursion IsAnswer) us
     → EndsThread a → EndsThread b → EndsSort sorts.Thread a → EndsSort sorts.Thread b
     → flat_map thread_lines (enumerate_from n ts) ++ a ≡ flat_map thread_lines (enumerate_from n us) ++ b → (ts ≡ us) × (a ≡ b)
 same_threads n [] [] a b p q ea eb sa sb e = (refl, e)
@@ -229,7 +229,7 @@ same_threads n (t ∷ ts) (u ∷ us) a b p q ea eb sa sb e =
     (λ i. here.0 i ∷ more.0 i, more.1)
 
 -- as many lines, and what follows them
-same_lines : {X : Type 0} (Valid : X → Type 0) (line_of : X → Line) → ((x y : X) → Valid x → Valid y → line_of x ≡ line_of y → x ≡ y) → (xs ys : List X) (a b : List Line) → length xs ≡ length ys
+same_lines : {X : Type 0} (Valid : X → Type 0) (line_of : X → TextLine) → ((x y : X) → Valid x → Valid y → line_of x ≡ line_of y → x ≡ y) → (xs ys : List X) (a b : List TextLine) → length xs ≡ length ys
     → AllByRecursion Valid xs → AllByRecursion Valid ys → map line_of xs ++ a ≡ map line_of ys ++ b → (xs ≡ ys) × (a ≡ b)
 same_lines Valid line_of one [] [] a b n p q e = (refl, e)
 same_lines Valid line_of one [] (y ∷ ys) a b n p q e = absurd (omega arith)
@@ -243,7 +243,7 @@ same_lines Valid line_of one (x ∷ xs) (y ∷ ys) a b n p q e =
 third_field : (a b c d m n : List ℕ) → a ∷ b ∷ m ∷ [] ≡ c ∷ d ∷ n ∷ [] → m ≡ n
 third_field a b c d m n e = cc
 
-same_shards : (n : ℕ) (ss us : List (List Entry)) (a b : List Line) → AllByRecursion (IsPart IsEntry) ss → AllByRecursion (IsPart IsEntry) us → EndsSort sorts.Shard a → EndsSort sorts.Shard b
+same_shards : (n : ℕ) (ss us : List (List Entry)) (a b : List TextLine) → AllByRecursion (IsPart IsEntry) ss → AllByRecursion (IsPart IsEntry) us → EndsSort sorts.Shard a → EndsSort sorts.Shard b
     → flat_map shard_lines (enumerate_from n ss) ++ a ≡ flat_map shard_lines (enumerate_from n us) ++ b → (ss ≡ us) × (a ≡ b)
 same_shards n [] [] a b p q sa sb e = (refl, e)
 same_shards n [] (u ∷ us) a b p q sa sb e = absurd (sa (ap first_sort e))
@@ -258,7 +258,7 @@ same_shards n (s ∷ ss) (u ∷ us) a b p q sa sb e =
     let more = same_shards (n + 1) ss us a b p.1 q.1 sa sb here.1 in
     (λ i. here.0 i ∷ more.0 i, more.1)
 
-same_devices : (n : ℕ) (ds us : List (List Event)) (a b : List Line) → AllByRecursion (IsPart IsEvent) ds → AllByRecursion (IsPart IsEvent) us → EndsSort sorts.Device a → EndsSort sorts.Device b
+same_devices : (n : ℕ) (ds us : List (List Event)) (a b : List TextLine) → AllByRecursion (IsPart IsEvent) ds → AllByRecursion (IsPart IsEvent) us → EndsSort sorts.Device a → EndsSort sorts.Device b
     → flat_map device_lines (enumerate_from n ds) ++ a ≡ flat_map device_lines (enumerate_from n us) ++ b → (ds ≡ us) × (a ≡ b)
 same_devices n [] [] a b p q sa sb e = (refl, e)
 same_devices n [] (u ∷ us) a b p q sa sb e = absurd (sa (ap first_sort e))
@@ -276,30 +276,30 @@ same_devices n (d ∷ ds) (u ∷ us) a b p q sa sb e =
 -- ---- the whole
 
 -- the lines after the threads, and what follows the foot
-abbrev after_threads : Report → List Line → List Line
+abbrev after_threads : Report → List TextLine → List TextLine
 after_threads r rest = all_shards r.shards ++ (all_devices r.devices ++ foot_line ∷ rest)
 
-ends_threads : (s : List (List Entry)) (d : List (List Event)) (rest : List Line) → let after = all_shards s ++ (all_devices d ++ foot_line ∷ rest) in EndsThread after × EndsSort sorts.Thread after
+ends_threads : (s : List (List Entry)) (d : List (List Event)) (rest : List TextLine) → let after = all_shards s ++ (all_devices d ++ foot_line ∷ rest) in EndsThread after × EndsSort sorts.Thread after
 ends_threads [] [] rest = ((λ e. cc), (λ e. cc))
 ends_threads [] (d ∷ ds) rest = ((λ e. cc), (λ e. cc))
 ends_threads (s ∷ ss) d rest = ((λ e. cc), (λ e. cc))
 
-ends_shards : (d : List (List Event)) (rest : List Line) → EndsSort sorts.Shard (all_devices d ++ foot_line ∷ rest)
+ends_shards : (d : List (List Event)) (rest : List TextLine) → EndsSort sorts.Shard (all_devices d ++ foot_line ∷ rest)
 ends_shards [] rest = λ e. cc
 ends_shards (d ∷ ds) rest = λ e. cc
 
-ends_devices : (rest : List Line) → EndsSort sorts.Device (foot_line ∷ rest)
+ends_devices : (rest : List TextLine) → EndsSort sorts.Device (foot_line ∷ rest)
 ends_devices rest = λ e. cc
 
-regroup : (r : Report) (rest : List Line) → report_lines r ++ rest ≡ head_line ∷ (all_threads r.threads ++ after_threads r rest)
+regroup : (r : Report) (rest : List TextLine) → report_lines r ++ rest ≡ head_line ∷ (all_threads r.threads ++ after_threads r rest)
 regroup r rest =
     let t = all_threads r.threads in
     let s = all_shards r.shards in
     let d = all_devices r.devices in
-    ap (λ (ls : List Line). head_line ∷ ls)
-    (append_assoc t (s ++ (d ++ foot_line ∷ [])) rest ∙ ap (λ (ls : List Line). t ++ ls) (append_assoc s (d ++ foot_line ∷ []) rest ∙ ap (λ (ls : List Line). s ++ ls) (append_assoc d (foot_line ∷ []) rest)))
+    ap (λ (ls : List TextLine). head_line ∷ ls)
+    (append_assoc t (s ++ (d ++ foot_line ∷ [])) rest ∙ ap (λ (ls : List TextLine). t ++ ls) (append_assoc s (d ++ foot_line ∷ []) rest ∙ ap (λ (ls : List TextLine). s ++ ls) (append_assoc d (foot_line ∷ []) rest)))
 
-begins_no_other : (a b : Report) (c : List Line) → IsReport a → IsReport b → report_lines a ++ c ≡ report_lines b ++ [] → (a ≡ b) × (c ≡ [])
+begins_no_other : (a b : Report) (c : List TextLine) → IsReport a → IsReport b → report_lines a ++ c ≡ report_lines b ++ [] → (a ≡ b) × (c ≡ [])
 begins_no_other a b c p q e =
     let lines = (first_and_others _ _ _ _ (sym (regroup a c) ∙ e ∙ regroup b [])).1 in
     let ea = ends_threads a.shards a.devices c in
@@ -311,9 +311,9 @@ begins_no_other a b c p q e =
 
 pub no_text_begins_another : (a b : Report) (more : List ℕ) → IsReport a → IsReport b → report_text a ++ more ≡ report_text b → (a ≡ b) × (more ≡ [])
 no_text_begins_another a b more p q e =
-    let r = text_of-begins (report_lines a) (report_lines b) more (report_lines_are_lines a p) (report_lines_are_lines b q) e in
+    let r = lines_text-begins (report_lines a) (report_lines b) more (report_lines_are_lines a p) (report_lines_are_lines b q) e in
     let same = begins_no_other a b r.0 p q (sym r.1 ∙ sym (append-nil (report_lines b))) in
-    (same.0, r.2 ∙ ap text_of same.1)
+    (same.0, r.2 ∙ ap lines_text same.1)
 
 pub one_report : (a b : Report) → IsReport a → IsReport b → report_text a ≡ report_text b → a ≡ b
 one_report a b p q e = (no_text_begins_another a b [] p q (append-nil (report_text a) ∙ e)).0
@@ -321,14 +321,14 @@ one_report a b p q e = (no_text_begins_another a b [] p q (append-nil (report_te
 -- ---- one line is the first that no report has there
 
 -- of two prefixes of a list, each with an element after it, the shorter with its element begins the longer
-shorter : (xs ys : List Line) (x y : Line) (a b : List Line) → xs ++ x ∷ a ≡ ys ++ y ∷ b → length xs < length ys → (c : List Line) × (ys ≡ (xs ++ x ∷ []) ++ c) × (a ≢ [])
+shorter : (xs ys : List TextLine) (x y : TextLine) (a b : List TextLine) → xs ++ x ∷ a ≡ ys ++ y ∷ b → length xs < length ys → (c : List TextLine) × (ys ≡ (xs ++ x ∷ []) ++ c) × (a ≢ [])
 shorter [] [] x y a b e lt = absurd (omega arith)
 shorter (z ∷ zs) [] x y a b e lt = absurd (omega arith)
 shorter [] (v ∷ vs) x y a b e lt =
     let parts = first_and_others x v a (vs ++ y ∷ b) e in
     (vs, (λ i. sym parts.0 i ∷ vs), λ none. some vs y b (sym parts.1 ∙ none))
   where
-    some : (vs : List Line) (y : Line) (b : List Line) → vs ++ y ∷ b ≡ [] → ⊥
+    some : (vs : List TextLine) (y : TextLine) (b : List TextLine) → vs ++ y ∷ b ≡ [] → ⊥
     some [] y b f = cc
     some (v ∷ vs) y b f = cc
 shorter (z ∷ zs) (v ∷ vs) x y a b e lt =

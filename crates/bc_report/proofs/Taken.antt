@@ -3,7 +3,7 @@ use Rattle.std.proofs.Common.{◌≡◌, ℕ, zero, suc, ◌+◌, ◌-◌, ◌�
 use Rattle.std.specs.List.{AllByRecursion, flat_map, enumerate_from}
 use Rattle.std.proofs.lemmas.List.{map_push}
 use Rattle.std.proofs.lemmas.List.Concat.{flat_map-append}
-use Rattle.bc_text.specs.Lines.{Line}
+use Rattle.bc_text.specs.Lines.{TextLine}
 use Rattle.bc_profile.specs.declared.event.Event.{Event}
 use Rattle.bc_report.specs.declared.part.Part.{Part}
 use Rattle.bc_report.specs.declared.part.Part.TheVariants as parts
@@ -24,11 +24,11 @@ pub length_push : {X : Type 0} (xs : List X) (x : X) → length (xs ++ x ∷ [])
 length_push xs x = length-append xs (x ∷ [])
 
 -- one part more
-pub parts_push : {X : Type 0} (f : ℕ × X → List Line) (xs : List X) (y : X) → flat_map f (enumerate_from 0 (xs ++ y ∷ [])) ≡ flat_map f (enumerate_from 0 xs) ++ f (length xs, y)
+pub parts_push : {X : Type 0} (f : ℕ × X → List TextLine) (xs : List X) (y : X) → flat_map f (enumerate_from 0 (xs ++ y ∷ [])) ≡ flat_map f (enumerate_from 0 xs) ++ f (length xs, y)
 parts_push {X} f xs y =
     let place : 0 + length xs ≡ length xs = omega arith in
     ap (flat_map f) (enumerate_from-push 0 xs y ∙ ap (λ (m : ℕ). enumerate_from 0 xs ++ (m, y) ∷ []) place)
-    ∙ flat_map-append f (enumerate_from 0 xs) ((length xs, y) ∷ []) ∙ ap (λ (t : List Line). flat_map f (enumerate_from 0 xs) ++ t) (append-nil (f (length xs, y)))
+    ∙ flat_map-append f (enumerate_from 0 xs) ((length xs, y) ∷ []) ∙ ap (λ (t : List TextLine). flat_map f (enumerate_from 0 xs) ++ t) (append-nil (f (length xs, y)))
 
 -- ---- where a report that is being read stands
 
@@ -43,8 +43,8 @@ rules_of part p i = subst (λ (x : Part). RulesIn x p) (sym i.part_is) i.rules
 
 -- ---- an entry, an event more
 
-pub one_more : (h x : Line) (t m : List Line) → (h ∷ (t ++ m)) ++ x ∷ [] ≡ h ∷ (t ++ (m ++ x ∷ []))
-one_more h x t m = ap (λ (ls : List Line). h ∷ ls) (append_assoc t m (x ∷ []))
+pub one_more : (h x : TextLine) (t m : List TextLine) → (h ∷ (t ++ m)) ++ x ∷ [] ≡ h ∷ (t ++ (m ++ x ∷ []))
+one_more h x t m = ap (λ (ls : List TextLine). h ∷ ls) (append_assoc t m (x ∷ []))
 
 still_owed : {X : Type 0} (P : X → Type 0) (xs : List X) (x : X) (owed : ℕ) → 1 ≤ owed → IsBegun P xs owed → P x → IsBegun P (xs ++ x ∷ []) (owed - 1)
 still_owed P xs x owed some b valid = record { count = omega (arith, b.count, length_push xs x); each = all_push P xs x b.each valid }
@@ -58,11 +58,11 @@ entry_rules p entry i some valid = (i.rules.0, still_owed IsEntry p.entries entr
 pub entry_progress : (p : Progress) (entry : Entry) → IsIn parts.Entries p → 1 ≤ p.owed → IsEntry entry → IsProgress (with_entry p entry)
 entry_progress p entry i some valid = subst (λ (x : Part). RulesIn x (with_entry p entry)) (sym i.part_is) (entry_rules p entry i some valid)
 
-goes_entry : (threads shards owed : ℕ) (line : Line) → 1 ≤ owed → SaysEntry line → Goes (shard_at threads shards owed) line (shard_at threads shards (owed - 1))
+goes_entry : (threads shards owed : ℕ) (line : TextLine) → 1 ≤ owed → SaysEntry line → Goes (shard_at threads shards owed) line (shard_at threads shards (owed - 1))
 goes_entry threads shards zero line some says = absurd (omega arith)
 goes_entry threads shards (suc owed) line some says = (says, refl)
 
-pub took_entry : (p new : Progress) (line : Line) (entry : Entry) → IsIn parts.Entries p → 1 ≤ p.owed → IsEntry entry → line ≡ entry_line entry → new ≡ with_entry p entry → Took p line new
+pub took_entry : (p new : Progress) (line : TextLine) (entry : Entry) → IsIn parts.Entries p → 1 ≤ p.owed → IsEntry entry → line ≡ entry_line entry → new ≡ with_entry p entry → Took p line new
 took_entry p new line entry i some valid says is =
     let q = with_entry p entry in
     let j : IsIn parts.Entries q = record { part_is = i.part_is; rules = entry_rules p entry i some valid } in
@@ -71,11 +71,11 @@ took_entry p new line entry i some valid says is =
     let read : lines_read q ≡ lines_read p ++ line ∷ [] =
     lines_in parts.Entries q j
     ∙ ap (λ (n : ℕ). head_line ∷ (all_threads p.threads ++ (before ++ (shard_line (length p.shards) n ∷ map entry_line (p.entries ++ entry ∷ []))))) (same_count p.entries entry p.owed some)
-    ∙ ap (λ (ls : List Line). head_line ∷ (all_threads p.threads ++ (before ++ (head ∷ ls)))) (map_push entry_line p.entries entry)
-    ∙ ap (λ (ls : List Line). head_line ∷ (all_threads p.threads ++ ls)) (sym (append_assoc before (head ∷ map entry_line p.entries) (entry_line entry ∷ [])))
+    ∙ ap (λ (ls : List TextLine). head_line ∷ (all_threads p.threads ++ (before ++ (head ∷ ls)))) (map_push entry_line p.entries entry)
+    ∙ ap (λ (ls : List TextLine). head_line ∷ (all_threads p.threads ++ ls)) (sym (append_assoc before (head ∷ map entry_line p.entries) (entry_line entry ∷ [])))
     ∙ sym (one_more head_line (entry_line entry) (all_threads p.threads) (before ++ (head ∷ map entry_line p.entries)))
-    ∙ ap (λ (l : Line). read_in parts.Entries p ++ l ∷ []) (sym says)
-    ∙ ap (λ (ls : List Line). ls ++ line ∷ []) (sym (lines_in parts.Entries p i)) in
+    ∙ ap (λ (l : TextLine). read_in parts.Entries p ++ l ∷ []) (sym says)
+    ∙ ap (λ (ls : List TextLine). ls ++ line ∷ []) (sym (lines_in parts.Entries p i)) in
     let took : Took p line q = record {
       lines = read;
       goes =
@@ -92,11 +92,11 @@ event_rules p event i some valid = (i.rules.0, still_owed IsEvent p.events event
 pub event_progress : (p : Progress) (event : Event) → IsIn parts.Events p → 1 ≤ p.owed → IsEvent event → IsProgress (with_event p event)
 event_progress p event i some valid = subst (λ (x : Part). RulesIn x (with_event p event)) (sym i.part_is) (event_rules p event i some valid)
 
-goes_event : (threads shards devices owed : ℕ) (line : Line) → 1 ≤ owed → SaysEvent line → Goes (device_at threads shards devices owed) line (device_at threads shards devices (owed - 1))
+goes_event : (threads shards devices owed : ℕ) (line : TextLine) → 1 ≤ owed → SaysEvent line → Goes (device_at threads shards devices owed) line (device_at threads shards devices (owed - 1))
 goes_event threads shards devices zero line some says = absurd (omega arith)
 goes_event threads shards devices (suc owed) line some says = (says, refl)
 
-pub took_event : (p new : Progress) (line : Line) (event : Event) → IsIn parts.Events p → 1 ≤ p.owed → IsEvent event → line ≡ event_line event → new ≡ with_event p event → Took p line new
+pub took_event : (p new : Progress) (line : TextLine) (event : Event) → IsIn parts.Events p → 1 ≤ p.owed → IsEvent event → line ≡ event_line event → new ≡ with_event p event → Took p line new
 took_event p new line event i some valid says is =
     let q = with_event p event in
     let j : IsIn parts.Events q = record { part_is = i.part_is; rules = event_rules p event i some valid } in
@@ -106,12 +106,12 @@ took_event p new line event i some valid says is =
     let read : lines_read q ≡ lines_read p ++ line ∷ [] =
     lines_in parts.Events q j
     ∙ ap (λ (n : ℕ). head_line ∷ (all_threads p.threads ++ (shards ++ (before ++ (device_line (length p.devices) n ∷ map event_line (p.events ++ event ∷ [])))))) (same_count p.events event p.owed some)
-    ∙ ap (λ (ls : List Line). head_line ∷ (all_threads p.threads ++ (shards ++ (before ++ (head ∷ ls))))) (map_push event_line p.events event)
-    ∙ ap (λ (ls : List Line). head_line ∷ (all_threads p.threads ++ (shards ++ ls))) (sym (append_assoc before (head ∷ map event_line p.events) (event_line event ∷ [])))
-    ∙ ap (λ (ls : List Line). head_line ∷ (all_threads p.threads ++ ls)) (sym (append_assoc shards (before ++ (head ∷ map event_line p.events)) (event_line event ∷ [])))
+    ∙ ap (λ (ls : List TextLine). head_line ∷ (all_threads p.threads ++ (shards ++ (before ++ (head ∷ ls))))) (map_push event_line p.events event)
+    ∙ ap (λ (ls : List TextLine). head_line ∷ (all_threads p.threads ++ (shards ++ ls))) (sym (append_assoc before (head ∷ map event_line p.events) (event_line event ∷ [])))
+    ∙ ap (λ (ls : List TextLine). head_line ∷ (all_threads p.threads ++ ls)) (sym (append_assoc shards (before ++ (head ∷ map event_line p.events)) (event_line event ∷ [])))
     ∙ sym (one_more head_line (event_line event) (all_threads p.threads) (shards ++ (before ++ (head ∷ map event_line p.events))))
-    ∙ ap (λ (l : Line). read_in parts.Events p ++ l ∷ []) (sym says)
-    ∙ ap (λ (ls : List Line). ls ++ line ∷ []) (sym (lines_in parts.Events p i)) in
+    ∙ ap (λ (l : TextLine). read_in parts.Events p ++ l ∷ []) (sym says)
+    ∙ ap (λ (ls : List TextLine). ls ++ line ∷ []) (sym (lines_in parts.Events p i)) in
     let took : Took p line q = record {
       lines = read;
       goes =
@@ -124,16 +124,16 @@ took_event p new line event i some valid says is =
 
 -- ---- a part is whole
 
-no_more : (t : List Line) (s : List (List Entry)) (d : List (List Event)) → s ≡ [] → d ≡ [] → t ++ (all_shards s ++ all_devices d) ≡ t
+no_more : (t : List TextLine) (s : List (List Entry)) (d : List (List Event)) → s ≡ [] → d ≡ [] → t ++ (all_shards s ++ all_devices d) ≡ t
 no_more t s d p q = rw (p, q) (append-nil t)
 
-none_after : (s : List Line) (d : List (List Event)) → d ≡ [] → s ++ all_devices d ≡ s
+none_after : (s : List TextLine) (d : List (List Event)) → d ≡ [] → s ++ all_devices d ≡ s
 none_after s d q = rw q (append-nil s)
 
 -- the lines stay
 pub thread_lines_stay : (p : Progress) → IsIn parts.Answers p → lines_read (thread_closed p) ≡ lines_read p
 thread_lines_stay p i =
-    ap (λ (ls : List Line). head_line ∷ ls) (no_more (all_threads (p.threads ++ p.answers ∷ [])) p.shards p.devices i.rules.2 i.rules.3 ∙ parts_push thread_lines p.threads p.answers)
+    ap (λ (ls : List TextLine). head_line ∷ ls) (no_more (all_threads (p.threads ++ p.answers ∷ [])) p.shards p.devices i.rules.2 i.rules.3 ∙ parts_push thread_lines p.threads p.answers)
     ∙ sym (lines_in parts.Answers p i)
 
 no_count : (n owed : ℕ) → owed ≡ 0 → n ≡ n + owed
@@ -141,13 +141,13 @@ no_count n owed none = omega arith
 
 pub shard_lines_stay : (p : Progress) → IsIn parts.Entries p → p.owed ≡ 0 → lines_read (shard_closed p) ≡ lines_read p
 shard_lines_stay p i none =
-    ap (λ (ls : List Line). head_line ∷ (all_threads p.threads ++ ls)) (none_after (all_shards (p.shards ++ p.entries ∷ [])) p.devices i.rules.2 ∙ parts_push shard_lines p.shards p.entries)
+    ap (λ (ls : List TextLine). head_line ∷ (all_threads p.threads ++ ls)) (none_after (all_shards (p.shards ++ p.entries ∷ [])) p.devices i.rules.2 ∙ parts_push shard_lines p.shards p.entries)
     ∙ ap (λ (n : ℕ). head_line ∷ (all_threads p.threads ++ (all_shards p.shards ++ (shard_line (length p.shards) n ∷ map entry_line p.entries)))) (no_count (length p.entries) p.owed none)
     ∙ sym (lines_in parts.Entries p i)
 
 pub device_lines_stay : (p : Progress) → IsIn parts.Events p → p.owed ≡ 0 → lines_read (device_closed p) ≡ lines_read p
 device_lines_stay p i none =
-    ap (λ (ls : List Line). head_line ∷ (all_threads p.threads ++ (all_shards p.shards ++ ls))) (parts_push device_lines p.devices p.events)
+    ap (λ (ls : List TextLine). head_line ∷ (all_threads p.threads ++ (all_shards p.shards ++ ls))) (parts_push device_lines p.devices p.events)
     ∙ ap (λ (n : ℕ). head_line ∷ (all_threads p.threads ++ (all_shards p.shards ++ (all_devices p.devices ++ (device_line (length p.devices) n ∷ map event_line p.events))))) (no_count (length p.events) p.owed none)
     ∙ sym (lines_in parts.Events p i)
 

@@ -4,7 +4,7 @@ use Rattle.std.specs.Prelude.{codes}
 use Rattle.std.specs.Fmt.{decimal}
 use Rattle.std.specs.List.{AllByRecursion, flat_map, enumerate_from}
 use Rattle.std.proofs.lemmas.Fmt.{decimal_injective}
-use Rattle.bc_text.specs.Lines.{Line}
+use Rattle.bc_text.specs.Lines.{TextLine}
 use Rattle.bc_profile.specs.declared.event.Event.{Event}
 use Rattle.bc_report.specs.declared.sort.Sort.{Sort}
 use Rattle.bc_report.specs.declared.sort.Sort.TheVariants as sorts
@@ -16,15 +16,15 @@ use Rattle.bc_report.specs.ReportText.{answer_line, entry_line, event_line, thre
 use Rattle.bc_report.specs.Course.{At, Head, InThread, Between, InShard, InDevice, Foot, shard_at, device_at, sort_of, Goes, Follows, FollowsInThread, BeginsShard, BeginsDevice}
 
 -- the lines lead from one place to another
-abbrev pub Walk : At → List Line → At → Type 0
+abbrev pub Walk : At → List TextLine → At → Type 0
 Walk from [] to = from ≡ to
 Walk from (line ∷ lines) to = (next : At) × Goes from line next × Walk next lines to
 
-pub walk_append : (a b : List Line) (from mid to : At) → Walk from a mid → Walk mid b to → Walk from (a ++ b) to
+pub walk_append : (a b : List TextLine) (from mid to : At) → Walk from a mid → Walk mid b to → Walk from (a ++ b) to
 walk_append [] b from mid to p q = subst (λ (x : At). Walk x b to) (sym p) q
 walk_append (l ∷ a) b from mid to p q = (p.0, p.1, walk_append a b p.0 mid to p.2 q)
 
-pub walk_split : (a b : List Line) (from to : At) → Walk from (a ++ b) to → (mid : At) × Walk from a mid × Walk mid b to
+pub walk_split : (a b : List TextLine) (from to : At) → Walk from (a ++ b) to → (mid : At) × Walk from a mid × Walk mid b to
 walk_split [] b from to w = (from, refl, w)
 walk_split (l ∷ a) b from to w = let r = walk_split a b w.0 to w.2 in (r.0, (w.0, w.1, r.1), r.2)
 
@@ -36,31 +36,31 @@ third a b c d m n e = cc
 same_counts : (a b c d : List ℕ) (m n : ℕ) → m < 2 ^ 32 → n < 2 ^ 32 → a ∷ b ∷ decimal m ∷ [] ≡ c ∷ d ∷ decimal n ∷ [] → m ≡ n
 same_counts a b c d m n p q e = decimal_injective m n (omega arith) (omega arith) (third a b c d (decimal m) (decimal n) e)
 
-one_shard : (t s : ℕ) (line : Line) (x y : At) → BeginsShard t s line x → BeginsShard t s line y → x ≡ y
+one_shard : (t s : ℕ) (line : TextLine) (x y : At) → BeginsShard t s line x → BeginsShard t s line y → x ≡ y
 one_shard t s line x y p q =
     let same = same_counts (codes "shard") (decimal s) (codes "shard") (decimal s) p.1.0 q.1.0 p.1.1 q.1.1 (sym p.1.2 ∙ q.1.2) in
     p.1.3 ∙ ap (shard_at t (s + 1)) same ∙ sym q.1.3
 
-one_device : (t s d : ℕ) (line : Line) (x y : At) → BeginsDevice t s d line x → BeginsDevice t s d line y → x ≡ y
+one_device : (t s d : ℕ) (line : TextLine) (x y : At) → BeginsDevice t s d line x → BeginsDevice t s d line y → x ≡ y
 one_device t s d line x y p q =
     let same = same_counts (codes "device") (decimal d) (codes "device") (decimal d) p.1.0 q.1.0 p.1.1 q.1.1 (sym p.1.2 ∙ q.1.2) in
     p.1.3 ∙ ap (device_at t s (d + 1)) same ∙ sym q.1.3
 
-one_follows : (t s d : ℕ) (sort : Sort) (line : Line) (x y : At) → Follows t s d sort line x → Follows t s d sort line y → x ≡ y
+one_follows : (t s d : ℕ) (sort : Sort) (line : TextLine) (x y : At) → Follows t s d sort line x → Follows t s d sort line y → x ≡ y
 one_follows t s d sorts.Thread line x y p q = p.2.2 ∙ sym q.2.2
 one_follows t s d sorts.Shard line x y p q = one_shard t s line x y p.1 q.1
 one_follows t s d sorts.Device line x y p q = one_device t s d line x y p q
 one_follows t s d sorts.End line x y p q = p.1 ∙ sym q.1
 one_follows t s d sorts.Other line x y p q = absurd p
 
-one_in_thread : (t : ℕ) (sort : Sort) (line : Line) (x y : At) → FollowsInThread t sort line x → FollowsInThread t sort line y → x ≡ y
+one_in_thread : (t : ℕ) (sort : Sort) (line : TextLine) (x y : At) → FollowsInThread t sort line x → FollowsInThread t sort line y → x ≡ y
 one_in_thread t sorts.Thread line x y p q = one_follows t 0 0 sorts.Thread line x y p q
 one_in_thread t sorts.Shard line x y p q = one_follows t 0 0 sorts.Shard line x y p q
 one_in_thread t sorts.Device line x y p q = one_follows t 0 0 sorts.Device line x y p q
 one_in_thread t sorts.End line x y p q = one_follows t 0 0 sorts.End line x y p q
 one_in_thread t sorts.Other line x y p q = p.1 ∙ sym q.1
 
-one_place : (from : At) (line : Line) (x y : At) → Goes from line x → Goes from line y → x ≡ y
+one_place : (from : At) (line : TextLine) (x y : At) → Goes from line x → Goes from line y → x ≡ y
 one_place Head line x y p q = p.1 ∙ sym q.1
 one_place (InThread t) line x y p q = one_in_thread t (sort_of line) line x y p q
 one_place (Between t s d) line x y p q = one_follows t s d (sort_of line) line x y p q
@@ -68,7 +68,7 @@ one_place (InShard t s owed) line x y p q = p.1 ∙ sym q.1
 one_place (InDevice t s d owed) line x y p q = p.1 ∙ sym q.1
 one_place Foot line x y p q = absurd p
 
-pub one_walk : (lines : List Line) (from x y : At) → Walk from lines x → Walk from lines y → x ≡ y
+pub one_walk : (lines : List TextLine) (from x y : At) → Walk from lines x → Walk from lines y → x ≡ y
 one_walk [] from x y p q = sym p ∙ q
 one_walk (line ∷ lines) from x y p q =
     let same = one_place from line p.0 q.0 p.1 q.1 in

@@ -2,7 +2,7 @@
 -- does.
 use Rattle.std.specs.Prelude.{◌≡◌, ℕ, suc, zero, ◌+◌, ◌-◌, ◌^◌, ◌<◌, if◌then◌else◌, List, [], ◌∷◌, codes}
 use Rattle.std.specs.Str.{bytes_eq}
-use Rattle.bc_text.specs.Lines.{Line}
+use Rattle.bc_text.specs.Lines.{TextLine}
 use Rattle.bc_report.specs.declared.sort.Sort.{Sort}
 use Rattle.bc_report.specs.declared.sort.Sort.TheVariants as sorts
 use Rattle.bc_report.specs.declared.answer.Answer.{Answer}
@@ -40,36 +40,43 @@ sort_of_word word =
     else (if bytes_eq word (codes "device") then sorts.Device
     else (if bytes_eq word (codes "end") then sorts.End else sorts.Other)))
 
-abbrev pub sort_of : Line → Sort
+-- the sort of a line, by its first field
+abbrev pub sort_of : TextLine → Sort
 sort_of [] = sorts.Other
 sort_of (word ∷ fields) = sort_of_word word
 
--- the line is that of an answer, an entry, an event
-abbrev pub SaysAnswer : Line → Type 0
+-- the line is an answer's
+abbrev pub SaysAnswer : TextLine → Type 0
 SaysAnswer line = (answer : Answer) × IsAnswer answer × (line ≡ answer_line answer)
 
-abbrev pub SaysEntry : Line → Type 0
+-- the line is an entry's
+abbrev pub SaysEntry : TextLine → Type 0
 SaysEntry line = (entry : Entry) × IsEntry entry × (line ≡ entry_line entry)
 
-abbrev pub SaysEvent : Line → Type 0
+-- the line is an event's
+abbrev pub SaysEvent : TextLine → Type 0
 SaysEvent line = (event : Event) × IsEvent event × (line ≡ event_line event)
 
--- the next thread, shard or device begins
-abbrev pub BeginsThread : ℕ → Line → At → Type 0
+-- the line begins the next thread
+abbrev pub BeginsThread : ℕ → TextLine → At → Type 0
 BeginsThread threads line next =
     (threads < MAX_THREADS) × (line ≡ thread_line threads) × (next ≡ InThread (threads + 1))
 
-abbrev pub BeginsShard : ℕ → ℕ → Line → At → Type 0
+-- the line begins the next shard
+abbrev pub BeginsShard : ℕ → ℕ → TextLine → At → Type 0
 BeginsShard threads shards line next =
-    (shards < MAX_SHARDS) × ((count : ℕ) × (count < 2 ^ 32) × (line ≡ shard_line shards count) × (next ≡ shard_at threads (shards + 1) count))
+    (shards < MAX_SHARDS) × ((count : ℕ) × (count < 2 ^ 32) × (line ≡ shard_line shards count)
+        × (next ≡ shard_at threads (shards + 1) count))
 
-abbrev pub BeginsDevice : ℕ → ℕ → ℕ → Line → At → Type 0
+-- the line begins the next device
+abbrev pub BeginsDevice : ℕ → ℕ → ℕ → TextLine → At → Type 0
 BeginsDevice threads shards devices line next =
     (devices < MAX_DEVICES)
-    × ((count : ℕ) × (count < 2 ^ 32) × (line ≡ device_line devices count) × (next ≡ device_at threads shards (devices + 1) count))
+    × ((count : ℕ) × (count < 2 ^ 32) × (line ≡ device_line devices count)
+        × (next ≡ device_at threads shards (devices + 1) count))
 
 -- a line of this sort follows between parts, and then the lines stand so
-abbrev pub Follows : ℕ → ℕ → ℕ → Sort → Line → At → Type 0
+abbrev pub Follows : ℕ → ℕ → ℕ → Sort → TextLine → At → Type 0
 Follows threads shards devices sorts.Thread line next = (shards ≡ 0) × (devices ≡ 0) × BeginsThread threads line next
 Follows threads shards devices sorts.Shard line next = (devices ≡ 0) × BeginsShard threads shards line next
 Follows threads shards devices sorts.Device line next = BeginsDevice threads shards devices line next
@@ -77,21 +84,22 @@ Follows threads shards devices sorts.End line next = (line ≡ foot_line) × (ne
 Follows threads shards devices sorts.Other line next = ⊥
 
 -- a line of this sort follows in a thread
-abbrev pub FollowsInThread : ℕ → Sort → Line → At → Type 0
+abbrev pub FollowsInThread : ℕ → Sort → TextLine → At → Type 0
 FollowsInThread threads sorts.Other line next = SaysAnswer line × (next ≡ InThread threads)
 FollowsInThread threads sort line next = Follows threads 0 0 sort line next
 
 -- the line follows, and then the lines stand so
-abbrev pub Goes : At → Line → At → Type 0
+abbrev pub Goes : At → TextLine → At → Type 0
 Goes Head line next = (line ≡ head_line) × (next ≡ Between 0 0 0)
 Goes (InThread threads) line next = FollowsInThread threads (sort_of line) line next
 Goes (Between threads shards devices) line next = Follows threads shards devices (sort_of line) line next
 Goes (InShard threads shards owed) line next = SaysEntry line × (next ≡ shard_at threads shards (owed - 1))
-Goes (InDevice threads shards devices owed) line next = SaysEvent line × (next ≡ device_at threads shards devices (owed - 1))
+Goes (InDevice threads shards devices owed) line next = SaysEvent line
+    × (next ≡ device_at threads shards devices (owed - 1))
 Goes Foot line next = ⊥
 
 -- the line follows nowhere
-abbrev pub IsStuck : At → Line → Type 0
+abbrev pub IsStuck : At → TextLine → Type 0
 IsStuck at line = (next : At) → Goes at line next → ⊥
 
 -- the same place with the thread whole

@@ -14,6 +14,7 @@ use Rattle.bc_report.specs.declared.answer.Answer.{Answer}
 use Rattle.bc_report.specs.declared.answer.Answer.TheVariants as answers
 use Rattle.bc_report.specs.declared.line.Line.{Line as Entry}
 
+-- for each thread the answers of its operations, for each shard its entries, for each device its events
 pub record Report : Type 0 where
   pub threads : List (List Answer)
   pub shards : List (List Entry)
@@ -21,6 +22,7 @@ pub record Report : Type 0 where
 
 -- ---- ranges: each number is in the range of its field's type
 
+-- the numbers of an answer
 abbrev pub IsAnswer : Answer → Type 0
 IsAnswer (answers.ReadFill byte) = byte < 256
 IsAnswer (answers.ReadSum digest) = IsBytes digest × (length digest ≡ 32)
@@ -28,22 +30,27 @@ IsAnswer (answers.Fault unit) = unit < 2 ^ 32
 IsAnswer (answers.Busy device slot refs) = (device < 2 ^ 8) × (slot < 2 ^ 16) × (refs < 2 ^ 16)
 IsAnswer _ = ⊤
 
+-- the numbers of a way
 abbrev pub IsVia : Via → Type 0
 IsVia (Inline device slot event) = (device < 2 ^ 8) × (slot < 2 ^ 16) × (event < 2 ^ 32)
 IsVia _ = ⊤
 
+-- the numbers of an entry
 pub record IsEntry (entry : Entry) : Type 0 where
   pub thread : entry.thread < 2 ^ 16
   pub op : entry.op < 2 ^ 32
   pub unit : entry.unit < 2 ^ 32
   pub via : IsVia entry.via
 
+-- the numbers of a slot that was passed over
 abbrev pub IsSkip : Skip → Type 0
 IsSkip skip = (skip.slot < 2 ^ 16) × (skip.refs < 2 ^ 16)
 
+-- no more of them than a device has slots
 abbrev pub AreSkips : List Skip → Type 0
 AreSkips skips = (length skips ≤ MAX_SLOTS) × AllByRecursion IsSkip skips
 
+-- the numbers of an event
 abbrev pub IsEvent : Event → Type 0
 IsEvent (events.Program slot key skipped) = (slot < 2 ^ 16) × (key < 2 ^ 16) × AreSkips skipped
 IsEvent (events.Idle slot) = slot < 2 ^ 16

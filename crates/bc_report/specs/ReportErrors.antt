@@ -1,7 +1,7 @@
 -- The first line of a text that no report has there. A line is possible after the lines above it where some report begins
 -- with all of them.
 use Rattle.std.specs.Prelude.{◌≡◌, ◌≢◌, ℕ, ◌+◌, List, [], ◌∷◌, ◌++◌, length, ⊤}
-use Rattle.bc_text.specs.Lines.{Line, lines_of}
+use Rattle.bc_text.specs.Lines.{TextLine, lines_of}
 use Rattle.bc_report.specs.declared.report_error.ReportError.{ReportError}
 use Rattle.bc_report.specs.declared.report_error.ReportError.TheVariants as errors
 use Rattle.bc_report.specs.Report.{Report, IsReport}
@@ -12,10 +12,10 @@ abbrev pub NoReportHas : List ℕ → Type 0
 NoReportHas text = (report : Report) → IsReport report → text ≡ report_text report → ⊥
 
 -- some report begins with these lines
-pub record Begins (lines : List Line) : Type 0 where
+pub record Begins (lines : List TextLine) : Type 0 where
   pub report : Report
   pub valid : IsReport report
-  pub others : List Line
+  pub others : List TextLine
   pub lines_are : report_lines report ≡ lines ++ others
 
 -- No report has the text, and this line of it, from 1, is the first that no report has there: some report begins with the
@@ -23,9 +23,9 @@ pub record Begins (lines : List Line) : Type 0 where
 -- nothing; it is named where all others begin a report.
 pub record IsFirstBad (text : List ℕ) (line : ℕ) : Type 0 where
   pub no_report : NoReportHas text
-  pub above : List Line
-  pub here : Line
-  pub below : List Line
+  pub above : List TextLine
+  pub here : TextLine
+  pub below : List TextLine
   pub lines_are : lines_of text ≡ above ++ here ∷ below
   pub number : line ≡ length above + 1
   pub possible : Begins above

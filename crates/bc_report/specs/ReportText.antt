@@ -4,7 +4,7 @@ use Rattle.std.specs.Prelude.{◌≡◌, ℕ, List, [], ◌∷◌, ◌++◌, cod
 use Rattle.std.specs.List.{enumerate_from}
 use Rattle.std.specs.Fmt.{decimal}
 use Rattle.hex.specs.Hex.{encode_lower}
-use Rattle.bc_text.specs.Lines.{Line, text_of}
+use Rattle.bc_text.specs.Lines.{TextLine, lines_text}
 use Rattle.bc_text.specs.Fields.{byte_text}
 use Rattle.bc_bio.specs.declared.refusal.BioError.TheVariants.{Empty, Misaligned, Outside, DunRange}
 use Rattle.bc_bio.specs.declared.refusal.Refusal.{Refusal}
@@ -30,7 +30,7 @@ refusal_word (Bio DunRange) = codes "dun"
 refusal_word Unsupported = codes "unsupported"
 
 -- what an operation was answered
-abbrev pub answer_line : Answer → Line
+abbrev pub answer_line : Answer → TextLine
 answer_line Wrote = codes "done" ∷ []
 answer_line (ReadFill byte) = codes "done" ∷ codes "fill" ∷ byte_text byte ∷ []
 answer_line (ReadSum digest) = codes "done" ∷ codes "sha256" ∷ encode_lower digest ∷ []
@@ -45,13 +45,13 @@ answer_line Unplug = codes "unplug" ∷ []
 -- ---- a line for each entry
 
 -- the way of a data unit: an inline one names its device, its slot, and the event that programmed the slot
-abbrev pub via_fields : Via → Line
+abbrev pub via_fields : Via → TextLine
 via_fields Plain = codes "plain" ∷ []
 via_fields Soft = codes "soft" ∷ []
 via_fields (Inline device slot event) = codes "inline" ∷ decimal device ∷ decimal slot ∷ decimal event ∷ []
 
 -- the thread, the operation and the unit, and its way
-abbrev pub entry_line : Entry → Line
+abbrev pub entry_line : Entry → TextLine
 entry_line entry = decimal entry.thread ∷ decimal entry.op ∷ decimal entry.unit ∷ via_fields entry.via
 
 -- ---- a line for each event
@@ -61,11 +61,12 @@ abbrev pub skip_field : Skip → List ℕ
 skip_field skip = decimal skip.slot ++ (codes ":" ++ decimal skip.refs)
 
 -- the slots that were passed over, where there are any
-abbrev pub skip_fields : List Skip → Line
+abbrev pub skip_fields : List Skip → TextLine
 skip_fields [] = []
 skip_fields (skip ∷ skips) = codes "skip" ∷ map skip_field (skip ∷ skips)
 
-abbrev pub event_line : Event → Line
+-- the line of an event
+abbrev pub event_line : Event → TextLine
 event_line (events.Program slot key skipped) = codes "program" ∷ decimal slot ∷ decimal key ∷ skip_fields skipped
 event_line (events.Idle slot) = codes "idle" ∷ decimal slot ∷ []
 event_line (events.Evict slot key) = codes "evict" ∷ decimal slot ∷ decimal key ∷ []
@@ -74,54 +75,61 @@ event_line events.Reset = codes "reset" ∷ []
 
 -- ---- the parts, each with its number, from 0
 
-abbrev pub thread_line : ℕ → Line
+-- a thread's first line
+abbrev pub thread_line : ℕ → TextLine
 thread_line number = codes "thread" ∷ decimal number ∷ []
 
--- a shard's or a device's first line, with the number of lines that follow in its part
-abbrev pub shard_line : ℕ → ℕ → Line
+-- a shard's first line, with the number of lines that follow in its part
+abbrev pub shard_line : ℕ → ℕ → TextLine
 shard_line number count = codes "shard" ∷ decimal number ∷ decimal count ∷ []
 
-abbrev pub device_line : ℕ → ℕ → Line
+-- a device's first line, with the number of lines that follow in its part
+abbrev pub device_line : ℕ → ℕ → TextLine
 device_line number count = codes "device" ∷ decimal number ∷ decimal count ∷ []
 
 -- a thread and its answers
-abbrev pub thread_lines : ℕ × List Answer → List Line
+abbrev pub thread_lines : ℕ × List Answer → List TextLine
 thread_lines (number, answers) = thread_line number ∷ map answer_line answers
 
 -- a shard and its entries
-abbrev pub shard_lines : ℕ × List Entry → List Line
+abbrev pub shard_lines : ℕ × List Entry → List TextLine
 shard_lines (number, entries) = shard_line number (length entries) ∷ map entry_line entries
 
 -- a device and its events
-abbrev pub device_lines : ℕ × List Event → List Line
+abbrev pub device_lines : ℕ × List Event → List TextLine
 device_lines (number, events) = device_line number (length events) ∷ map event_line events
 
--- all parts of a sort
-abbrev pub all_threads : List (List Answer) → List Line
+-- all threads
+abbrev pub all_threads : List (List Answer) → List TextLine
 all_threads threads = flat_map thread_lines (enumerate_from 0 threads)
 
-abbrev pub all_shards : List (List Entry) → List Line
+-- all shards
+abbrev pub all_shards : List (List Entry) → List TextLine
 all_shards shards = flat_map shard_lines (enumerate_from 0 shards)
 
-abbrev pub all_devices : List (List Event) → List Line
+-- all devices
+abbrev pub all_devices : List (List Event) → List TextLine
 all_devices devices = flat_map device_lines (enumerate_from 0 devices)
 
 -- ---- the whole text
 
-abbrev pub head_line : Line
+-- the first line, with the version
+abbrev pub head_line : TextLine
 head_line = codes "report" ∷ codes "1" ∷ []
 
-abbrev pub foot_line : Line
+-- the last line
+abbrev pub foot_line : TextLine
 foot_line = codes "end" ∷ []
 
 -- the lines of a report
-abbrev pub report_lines : Report → List Line
+abbrev pub report_lines : Report → List TextLine
 report_lines report =
-    head_line ∷ (all_threads report.threads ++ (all_shards report.shards ++ (all_devices report.devices ++ foot_line ∷ [])))
+    head_line ∷ (all_threads report.threads ++ (all_shards report.shards
+        ++ (all_devices report.devices ++ foot_line ∷ [])))
 
 -- the one text of a report
 abbrev pub report_text : Report → List ℕ
-report_text report = text_of (report_lines report)
+report_text report = lines_text (report_lines report)
 
 -- the text is this report's
 pub record Says (text : List ℕ) (report : Report) : Type 0 where

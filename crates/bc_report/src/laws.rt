@@ -18,11 +18,13 @@ pub fn one_report_for_each_text()
 
 /// No report's text begins another's, so a text that was read to its `end` line is whole.
 pub fn no_proper_prefix()
-    ensures { (a b : specs.Report) (more : List ℕ) → specs.IsReport a → specs.IsReport b → report_text a ++ more ≡ report_text b → (a ≡ b) × (more ≡ []) }
+    ensures { (a b : specs.Report) (more : List ℕ) → specs.IsReport a → specs.IsReport b
+        → report_text a ++ more ≡ report_text b → (a ≡ b) × (more ≡ []) }
 {}
 
 /// One line alone is the first that no report has there, and only of a text that no report has.
 pub fn one_first_bad_line()
     ensures one { (text : List ℕ) (m n : ℕ) → IsFirstBad text m → IsFirstBad text n → m ≡ n }
-    ensures no_report { (text : List ℕ) (line : ℕ) (report : specs.Report) → IsFirstBad text line → Says text report → ⊥ }
+    ensures no_report { (text : List ℕ) (line : ℕ) (report : specs.Report) → IsFirstBad text line → Says text report
+        → ⊥ }
 {}

@@ -3,7 +3,7 @@
 ghost use Rattle.std.specs.Prelude.{◌≡◌, [], ◌∷◌, ◌++◌, OnOk, IfOk, codes, map};
 ghost use Rattle.std.specs.Fmt.{decimal};
 ghost use Rattle.hex.specs.Hex.{encode_lower};
-ghost use Rattle.bc_text.specs.Lines.{text_of, line_text, fields_text};
+ghost use Rattle.bc_text.specs.Lines.{lines_text, line_text, fields_text};
 ghost use Rattle.bc_report.specs.ReportText.{refusal_word, answer_line, via_fields, entry_line, skip_field, skip_fields, event_line, thread_lines, shard_line, shard_lines, device_line, device_lines, all_threads, all_shards, all_devices, report_text};
 ghost use Rattle.bc_report.specs.Spaced.{spaced};
 
@@ -39,7 +39,7 @@ pub fn print(alloc: Global, report: &Report) -> Result<Vec<u8>, AllocError>
 // ---- threads and their answers
 
 fn put_threads(text: &mut Vec<u8>, threads: &[Items<Answer>]) -> Result<(), AllocError>
-    ensures { OnOk result (text.new.items ≡ text.old.items ++ text_of (all_threads threads.now)) }
+    ensures { OnOk result (text.new.items ≡ text.old.items ++ lines_text (all_threads threads.now)) }
 {
     for (number, answers) in threads.iter().enumerate() {
         put_thread(text, number, answers.as_slice())?;
@@ -47,9 +47,9 @@ fn put_threads(text: &mut Vec<u8>, threads: &[Items<Answer>]) -> Result<(), Allo
     Ok(())
 }
 
-#[tactic(auto, using(bc_text::proofs::Printing::text_of_more))]
+#[tactic(auto, using(bc_text::proofs::Printing::lines_text_more))]
 fn put_thread(text: &mut Vec<u8>, number: usize, answers: &[Answer]) -> Result<(), AllocError>
-    ensures { OnOk result (text.new.items ≡ text.old.items ++ text_of (thread_lines (number, answers.now))) }
+    ensures { OnOk result (text.new.items ≡ text.old.items ++ lines_text (thread_lines (number, answers.now))) }
 {
     text.extend_from_slice(b"thread ")?;
     put_number(text, number as u64)?;
@@ -80,7 +80,8 @@ fn put_answer(text: &mut Vec<u8>, answer: &Answer) -> Result<(), AllocError>
 }
 
 fn put_refusal(text: &mut Vec<u8>, refusal: &Refusal) -> Result<(), AllocError>
-    ensures { OnOk result (text.new.items ≡ text.old.items ++ (codes "refused " ++ (refusal_word refusal.now ++ codes "\n"))) }
+    ensures { OnOk result (text.new.items ≡ text.old.items
+        ++ (codes "refused " ++ (refusal_word refusal.now ++ codes "\n"))) }
 {
     text.extend_from_slice(b"refused ")?;
     text.extend_from_slice(refusal_word(refusal))?;
@@ -103,7 +104,7 @@ fn refusal_word(refusal: &Refusal) -> &'static [u8]
 // ---- shards and their entries
 
 fn put_shards(text: &mut Vec<u8>, shards: &[Items<Line>]) -> Result<(), AllocError>
-    ensures { OnOk result (text.new.items ≡ text.old.items ++ text_of (all_shards shards.now)) }
+    ensures { OnOk result (text.new.items ≡ text.old.items ++ lines_text (all_shards shards.now)) }
 {
     for (number, entries) in shards.iter().enumerate() {
         put_shard(text, number, entries.as_slice())?;
@@ -111,9 +112,9 @@ fn put_shards(text: &mut Vec<u8>, shards: &[Items<Line>]) -> Result<(), AllocErr
     Ok(())
 }
 
-#[tactic(auto, using(bc_text::proofs::Printing::text_of_more))]
+#[tactic(auto, using(bc_text::proofs::Printing::lines_text_more))]
 fn put_shard(text: &mut Vec<u8>, number: usize, entries: &[Line]) -> Result<(), AllocError>
-    ensures { OnOk result (text.new.items ≡ text.old.items ++ text_of (shard_lines (number, entries.now))) }
+    ensures { OnOk result (text.new.items ≡ text.old.items ++ lines_text (shard_lines (number, entries.now))) }
 {
     put_count(text, b"shard ", number, entries.len())?;
     for entry in entries {
@@ -146,7 +147,8 @@ fn put_via(text: &mut Vec<u8>, via: Via) -> Result<(), AllocError>
 }
 
 fn put_inline(text: &mut Vec<u8>, device: u32, slot: u32, event: u32) -> Result<(), AllocError>
-    ensures { OnOk result (text.new.items ≡ text.old.items ++ (codes " inline" ++ (codes " " ++ line_text (decimal device ∷ decimal slot ∷ decimal event ∷ [])))) }
+    ensures { OnOk result (text.new.items ≡ text.old.items
+        ++ (codes " inline" ++ (codes " " ++ line_text (decimal device ∷ decimal slot ∷ decimal event ∷ [])))) }
 {
     text.extend_from_slice(b" inline")?;
     put_next_number(text, device)?;
@@ -159,7 +161,7 @@ fn put_inline(text: &mut Vec<u8>, device: u32, slot: u32, event: u32) -> Result<
 // ---- devices and their events
 
 fn put_devices(text: &mut Vec<u8>, devices: &[Items<Event>]) -> Result<(), AllocError>
-    ensures { OnOk result (text.new.items ≡ text.old.items ++ text_of (all_devices devices.now)) }
+    ensures { OnOk result (text.new.items ≡ text.old.items ++ lines_text (all_devices devices.now)) }
 {
     for (number, events) in devices.iter().enumerate() {
         put_device(text, number, events.as_slice())?;
@@ -167,9 +169,9 @@ fn put_devices(text: &mut Vec<u8>, devices: &[Items<Event>]) -> Result<(), Alloc
     Ok(())
 }
 
-#[tactic(auto, using(bc_text::proofs::Printing::text_of_more))]
+#[tactic(auto, using(bc_text::proofs::Printing::lines_text_more))]
 fn put_device(text: &mut Vec<u8>, number: usize, events: &[Event]) -> Result<(), AllocError>
-    ensures { OnOk result (text.new.items ≡ text.old.items ++ text_of (device_lines (number, events.now))) }
+    ensures { OnOk result (text.new.items ≡ text.old.items ++ lines_text (device_lines (number, events.now))) }
 {
     put_count(text, b"device ", number, events.len())?;
     for event in events {
@@ -195,7 +197,8 @@ fn put_event(text: &mut Vec<u8>, event: &Event) -> Result<(), AllocError>
 }
 
 fn put_program(text: &mut Vec<u8>, slot: u32, key: u32, skipped: &[Skip]) -> Result<(), AllocError>
-    ensures { OnOk result (text.new.items ≡ text.old.items ++ line_text (codes "program" ∷ decimal slot ∷ decimal key ∷ skip_fields skipped.now)) }
+    ensures { OnOk result (text.new.items ≡ text.old.items
+        ++ line_text (codes "program" ∷ decimal slot ∷ decimal key ∷ skip_fields skipped.now)) }
 {
     text.extend_from_slice(b"program")?;
     put_next_number(text, slot)?;
@@ -206,7 +209,8 @@ fn put_program(text: &mut Vec<u8>, slot: u32, key: u32, skipped: &[Skip]) -> Res
 }
 
 /// The fields of the slots that were passed over, each with a space before it.
-#[tactic(auto, using(crate::proofs::Printed::spaced_more, crate::proofs::Printed::some_skips, crate::proofs::Printed::no_skips))]
+#[tactic(auto, using(crate::proofs::Printed::spaced_more, crate::proofs::Printed::some_skips,
+    crate::proofs::Printed::no_skips))]
 fn put_skips(text: &mut Vec<u8>, skipped: &[Skip]) -> Result<(), AllocError>
     ensures { OnOk result (text.new.items ≡ text.old.items ++ spaced (skip_fields skipped.now)) }
 {
@@ -229,7 +233,8 @@ fn put_skip(text: &mut Vec<u8>, skip: &Skip) -> Result<(), AllocError>
 }
 
 fn put_evict(text: &mut Vec<u8>, slot: u32, key: u32) -> Result<(), AllocError>
-    ensures { OnOk result (text.new.items ≡ text.old.items ++ line_text (codes "evict" ∷ decimal slot ∷ decimal key ∷ [])) }
+    ensures { OnOk result (text.new.items ≡ text.old.items
+        ++ line_text (codes "evict" ∷ decimal slot ∷ decimal key ∷ [])) }
 {
     text.extend_from_slice(b"evict")?;
     put_next_number(text, slot)?;
@@ -242,7 +247,8 @@ fn put_evict(text: &mut Vec<u8>, slot: u32, key: u32) -> Result<(), AllocError>
 
 /// The first line of a shard or a device, whose word has a space after it.
 fn put_count(text: &mut Vec<u8>, word: &[u8], number: usize, count: usize) -> Result<(), AllocError>
-    ensures { OnOk result (text.new.items ≡ text.old.items ++ (word.now ++ line_text (decimal number ∷ decimal count ∷ []))) }
+    ensures { OnOk result (text.new.items ≡ text.old.items
+        ++ (word.now ++ line_text (decimal number ∷ decimal count ∷ []))) }
 {
     text.extend_from_slice(word)?;
     put_number(text, number as u64)?;
@@ -253,7 +259,8 @@ fn put_count(text: &mut Vec<u8>, word: &[u8], number: usize, count: usize) -> Re
 }
 
 fn put_busy(text: &mut Vec<u8>, first: u32, second: u32, refs: u32) -> Result<(), AllocError>
-    ensures { OnOk result (text.new.items ≡ text.old.items ++ line_text (codes "busy" ∷ decimal first ∷ decimal second ∷ decimal refs ∷ [])) }
+    ensures { OnOk result (text.new.items ≡ text.old.items
+        ++ line_text (codes "busy" ∷ decimal first ∷ decimal second ∷ decimal refs ∷ [])) }
 {
     text.extend_from_slice(b"busy")?;
     put_next_number(text, first)?;

@@ -393,7 +393,8 @@ fn one(mut fields: Parts) -> Option<&[u8]>
 
 /// The two fields that are left.
 fn two(mut fields: Parts) -> Option<(&[u8], &[u8])>
-    ensures { MatchOption result ((a b : List ℕ) → fields.entry ≡ a ∷ b ∷ [] → ⊥) (λ f. fields.entry ≡ f.0.now ∷ f.1.now ∷ []) }
+    ensures { MatchOption result ((a b : List ℕ) → fields.entry ≡ a ∷ b ∷ [] → ⊥)
+        (λ f. fields.entry ≡ f.0.now ∷ f.1.now ∷ []) }
 {
     let first = fields.next()?;
     let second = one(fields)?;
@@ -409,7 +410,8 @@ pub(crate) fn one_number(fields: Parts, most: u32) -> Option<u32>
 
 /// The two numbers that are left, each at most its limit.
 pub(crate) fn two_numbers(mut fields: Parts, most: u32, most_second: u32) -> Option<(u32, u32)>
-    ensures { Reads (λ n. (n.0 ≤ most) × (n.1 ≤ most_second)) (λ n. decimal n.0 ∷ decimal n.1 ∷ []) fields.entry result }
+    ensures { Reads (λ n. (n.0 ≤ most) × (n.1 ≤ most_second))
+        (λ n. decimal n.0 ∷ decimal n.1 ∷ []) fields.entry result }
 {
     let first = number(fields.next()?, 0, most)?;
     let second = one_number(fields, most_second)?;
@@ -423,7 +425,8 @@ fn three_numbers(
     most_second: u32,
     most_third: u32,
 ) -> Option<(u32, u32, u32)>
-    ensures { Reads (λ n. (n.0 ≤ most) × (n.1 ≤ most_second) × (n.2 ≤ most_third)) (λ n. decimal n.0 ∷ decimal n.1 ∷ decimal n.2 ∷ []) fields.entry result }
+    ensures { Reads (λ n. (n.0 ≤ most) × (n.1 ≤ most_second) × (n.2 ≤ most_third))
+        (λ n. decimal n.0 ∷ decimal n.1 ∷ decimal n.2 ∷ []) fields.entry result }
 {
     let first = number(fields.next()?, 0, most)?;
     let (second, third) = two_numbers(fields, most_second, most_third)?;

@@ -4,7 +4,7 @@ use Rattle.std.specs.Prelude.{ℕ, List, [], ◌∷◌, ◌++◌, codes, length,
 use Rattle.std.specs.List.{enumerate_from}
 use Rattle.std.specs.Fmt.{decimal}
 use Rattle.hex.specs.Hex.{encode_lower}
-use Rattle.bc_text.specs.Lines.{Line as TextLine, text_of}
+use Rattle.bc_text.specs.Lines.{TextLine, lines_text}
 use Rattle.bc_text.specs.Fields.{byte_text}
 use Rattle.bc_bio.specs.declared.refusal.BioError.TheVariants.{Empty, Misaligned, Outside, DunRange}
 use Rattle.bc_bio.specs.declared.refusal.Refusal.{Refusal}
@@ -46,7 +46,7 @@ via_word Plain = codes "plain"
 via_word Soft = codes "soft"
 
 -- the thread, the operation and the unit, and its way
-abbrev pub entry_line : Line → TextLine
+abbrev pub entry_line : TextLine → TextLine
 entry_line entry =
     decimal entry.name.thread ∷ decimal entry.name.op ∷ decimal entry.name.unit
     ∷ via_word entry.via ∷ []
@@ -58,7 +58,7 @@ abbrev pub thread_lines : ℕ × List Answer → List TextLine
 thread_lines (number, answers) = (codes "thread" ∷ decimal number ∷ []) ∷ map answer_line answers
 
 -- a shard, how many entries it has, and these
-abbrev pub shard_lines : ℕ × List Line → List TextLine
+abbrev pub shard_lines : ℕ × List TextLine → List TextLine
 shard_lines (number, entries) =
     (codes "shard" ∷ decimal number ∷ decimal (length entries) ∷ []) ∷ map entry_line entries
 
@@ -82,4 +82,4 @@ report_lines report =
 
 -- the one text of a report
 abbrev pub report_text : Report → List ℕ
-report_text report = text_of (report_lines report)
+report_text report = lines_text (report_lines report)

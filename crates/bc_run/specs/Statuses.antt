@@ -1,7 +1,7 @@
 -- How a run ends: the number of each status, and what each status says of the run.
 use Rattle.std.specs.Prelude.{◌≡◌, ◌<◌, ℕ, List, length, Option, IfSome}
 use Rattle.std.specs.Io.KnownBytes.{Appends}
-use Rattle.bc_base.specs.Outside.{Rose, AppendsFront}
+use Rattle.bc_base.specs.Outside.{Rose, AppendsPrefix}
 use Rattle.bc_run.specs.declared.status.Status.{Status}
 use Rattle.bc_run.specs.declared.status.Status.TheVariants.{Ok, Usage, BadScript, ReadFault, WriteFault, TooLong, NoMemory}
 use Rattle.bc_script.specs.declared.limits.TheConstants.{MAX_TEXT}
@@ -43,7 +43,7 @@ Written run = Appends run.held_before run.held_after
 
 -- the sink took a prefix of these bytes
 abbrev pub PrefixWritten : CommandRun → List ℕ → Type 0
-PrefixWritten run = AppendsFront run.held_before run.held_after
+PrefixWritten run = AppendsPrefix run.held_before run.held_after
 
 -- why a run ended with this status, in the order of its stages; each row also says what the stages before it
 -- passed

@@ -3,7 +3,7 @@
 ghost use Rattle.std.specs.Prelude.{◌≡◌, ◌≢◌, ◌↔◌, ◌⊎◌, ◌*◌, ◌≤◌, ◌<◌, [], ◌∷◌, codes, map, length, replicate, IfSome, IsOk, IfOk, IfErr, OnOk, MatchResult, Ok, Err};
 ghost use Rattle.std.specs.String.{string_bytes};
 ghost use Rattle.std.specs.Io.KnownBytes.{Consumes, Appends, IsAtEnd, Keeps};
-ghost use Rattle.bc_base.specs.Outside.{Rose, HasCause, AppendsFront};
+ghost use Rattle.bc_base.specs.Outside.{Rose, HasCause, AppendsPrefix};
 ghost use Rattle.bc_script.specs.ScriptText.{Says, NoScriptHas};
 ghost use Rattle.bc_run.specs.ReportText.{report_text};
 ghost use Rattle.bc_script.specs.declared.limits.TheConstants.{MAX_TEXT};
@@ -201,7 +201,7 @@ fn text_of_report(alloc: Global, report: &Report) -> Result<Vec<u8>, Status>
 /// Writes the text of the report.
 fn write_text<K: Sink>(out: &mut K, text: &[u8]) -> Result<(), Status>
     ensures ok { OnOk result (Appends (K.held out.old) (K.held out.new) text.now) }
-    ensures prefix { AppendsFront (K.held out.old) (K.held out.new) text.now }
+    ensures prefix { AppendsPrefix (K.held out.old) (K.held out.new) text.now }
     ensures fault { IfErr result (λ e. e ≡ Status.WriteFault) }
     ensures cause { HasCause (K.faults out.old) (K.faults out.new)
         (result ≡ Err Status.WriteFault) }

@@ -3,7 +3,7 @@
 ghost use Rattle.std.specs.Prelude.{◌≡◌, ◌++◌, OnOk, IfOk, codes};
 ghost use Rattle.std.specs.Fmt.{decimal};
 ghost use Rattle.hex.specs.Hex.{encode_lower};
-ghost use Rattle.bc_text.specs.Lines.{text_of, line_text};
+ghost use Rattle.bc_text.specs.Lines.{lines_text, line_text};
 ghost use Rattle.bc_run.specs.ReportText.{refusal_word, answer_line, via_word, entry_line, thread_lines, shard_lines, report_text};
 
 use crate::report::{Answer, Line, Report};
@@ -34,10 +34,10 @@ pub fn print(alloc: Global, report: &Report) -> Result<Vec<u8>, AllocError>
     Ok(text)
 }
 
-#[tactic(auto, using(crate::proofs::Printing::text_of_more))]
+#[tactic(auto, using(crate::proofs::Printing::lines_text_more))]
 fn put_thread(text: &mut Vec<u8>, number: usize, answers: &[Answer]) -> Result<(), AllocError>
     ensures { OnOk result (text.new.items
-        ≡ text.old.items ++ text_of (thread_lines (number, answers.now))) }
+        ≡ text.old.items ++ lines_text (thread_lines (number, answers.now))) }
 {
     text.extend_from_slice(b"thread ")?;
     put_number(text, number as u64)?;
@@ -48,10 +48,10 @@ fn put_thread(text: &mut Vec<u8>, number: usize, answers: &[Answer]) -> Result<(
     Ok(())
 }
 
-#[tactic(auto, using(crate::proofs::Printing::text_of_more))]
+#[tactic(auto, using(crate::proofs::Printing::lines_text_more))]
 fn put_shard(text: &mut Vec<u8>, number: usize, entries: &[Line]) -> Result<(), AllocError>
     ensures { OnOk result (text.new.items
-        ≡ text.old.items ++ text_of (shard_lines (number, entries.now))) }
+        ≡ text.old.items ++ lines_text (shard_lines (number, entries.now))) }
 {
     text.extend_from_slice(b"shard ")?;
     put_number(text, number as u64)?;

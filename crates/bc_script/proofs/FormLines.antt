@@ -1,7 +1,7 @@
 -- The one line that has a form.
 use Rattle.std.proofs.Common.{◌≡◌, ℕ, Bool, true, false, List, [], ◌∷◌, Option, Some, None, codes, bytes_eq, if◌then◌else◌, refl, sym, ap, subst, ◌∙◌}
 use Rattle.std.proofs.lemmas.Slice.Eq.{bytes_eq-Decides}
-use Rattle.bc_text.specs.Lines.{Line}
+use Rattle.bc_text.specs.Lines.{TextLine}
 use Rattle.bc_key.specs.declared.config.Mode.{Mode}
 use Rattle.bc_key.specs.declared.config.Mode.TheVariants.{Aes256Xts, Aes128CbcEssiv}
 use Rattle.bc_script.specs.ScriptText.{mode_text}
@@ -9,7 +9,7 @@ use Rattle.bc_script.specs.Statements.{text_line, form_line, DashesAgree}
 use Rattle.bc_script.specs.Forms.{Form, BioForm, TextForm, Fill, Hex, Version, Disk, Fallback, Key, Thread, Write, Read, Evict, Reset, Plug, Unplug, End, alone, with_one, with_word, mode_of, key_form, with_key, dashes_agree, text_form, write_form, with_bio, with_bio_and_text, form_of}
 
 -- the line of a form
-pub record IsLineOf (line : Line) (form : Form) : Type 0 where
+pub record IsLineOf (line : TextLine) (form : Form) : Type 0 where
   pub line_is : line ≡ form_line form
   pub agrees : DashesAgree form
 
@@ -22,14 +22,14 @@ same_form : (a b : Form) → Some a ≡ Some b → a ≡ b
 same_form a b e = cc
 
 -- what holds of a form holds of the same form
-carry : (line : Line) (a b : Form) → IsLineOf line a → Some a ≡ Some b → IsLineOf line b
+carry : (line : TextLine) (a b : Form) → IsLineOf line a → Some a ≡ Some b → IsLineOf line b
 carry line a b is e = subst (IsLineOf line) (same_form a b e) is
 
-of_alone : (word : List ℕ) (built form : Form) (fields : Line) → IsLineOf (word ∷ []) built → alone built fields ≡ Some form → IsLineOf (word ∷ fields) form
+of_alone : (word : List ℕ) (built form : Form) (fields : TextLine) → IsLineOf (word ∷ []) built → alone built fields ≡ Some form → IsLineOf (word ∷ fields) form
 of_alone word built form [] is e = carry (word ∷ []) built form is e
 of_alone word built form (f ∷ fs) is e = absurd (no_form form e)
 
-of_one : (word : List ℕ) (built : List ℕ → Form) (form : Form) (fields : Line) → ((field : List ℕ) → IsLineOf (word ∷ field ∷ []) (built field)) → with_one built fields ≡ Some form → IsLineOf (word ∷ fields) form
+of_one : (word : List ℕ) (built : List ℕ → Form) (form : Form) (fields : TextLine) → ((field : List ℕ) → IsLineOf (word ∷ field ∷ []) (built field)) → with_one built fields ≡ Some form → IsLineOf (word ∷ fields) form
 of_one word built form [] is e = absurd (no_form form e)
 of_one word built form (f ∷ []) is e = carry (word ∷ f ∷ []) (built f) form (is f) e
 of_one word built form (f ∷ g ∷ fs) is e = absurd (no_form form e)
@@ -39,13 +39,13 @@ let_through : (test : Bool) (built : Option Form) (form : Form) → (if test the
 let_through true built form e = (refl, e)
 let_through false built form e = absurd (no_form form e)
 
-of_word : (word fixed : List ℕ) (built form : Form) (fields : Line) → IsLineOf (word ∷ fixed ∷ []) built → with_word fixed built fields ≡ Some form → IsLineOf (word ∷ fields) form
+of_word : (word fixed : List ℕ) (built form : Form) (fields : TextLine) → IsLineOf (word ∷ fixed ∷ []) built → with_word fixed built fields ≡ Some form → IsLineOf (word ∷ fields) form
 of_word word fixed built form [] is e = absurd (no_form form e)
 of_word word fixed built form (f ∷ fs) is e =
     let through = let_through (bytes_eq f fixed) (alone built fs) form e in
     rest fs ((bytes_eq-Decides f fixed).0 through.0) through.1
   where
-    rest : (fs : Line) → f ≡ fixed → alone built fs ≡ Some form → IsLineOf (word ∷ f ∷ fs) form
+    rest : (fs : TextLine) → f ≡ fixed → alone built fs ≡ Some form → IsLineOf (word ∷ f ∷ fs) form
     rest [] same e = subst (λ (g : List ℕ). IsLineOf (word ∷ g ∷ []) form) (sym same) (carry (word ∷ fixed ∷ []) built form is e)
     rest (g ∷ gs) same e = absurd (no_form form e)
 
@@ -68,7 +68,7 @@ mode_text-mode_of word mode e = first (bytes_eq word (codes "aes-256-xts")) refl
         second (bytes_eq word (codes "aes-128-cbc-essiv")) refl
         (sym (ap (λ (b : Bool). if b then Some Aes256Xts else (if bytes_eq word (codes "aes-128-cbc-essiv") then Some Aes128CbcEssiv else None)) is) ∙ e)
 
-of_key : (form : Form) (fields : Line) → with_key fields ≡ Some form → IsLineOf (codes "key" ∷ fields) form
+of_key : (form : Form) (fields : TextLine) → with_key fields ≡ Some form → IsLineOf (codes "key" ∷ fields) form
 of_key form [] e = absurd (no_form form e)
 of_key form (a ∷ []) e = absurd (no_form form e)
 of_key form (a ∷ b ∷ []) e = absurd (no_form form e)
@@ -88,7 +88,7 @@ of_key form (name ∷ mode ∷ unit ∷ dun_bytes ∷ digits ∷ []) e = by_mode
 abbrev bio_of : List ℕ → List ℕ → List ℕ → List ℕ → BioForm
 bio_of key sector units number = record { key = key; sector = sector; units = units; number = number }
 
-of_read : (form : Form) (fields : Line) → with_bio fields ≡ Some form → IsLineOf (codes "read" ∷ fields) form
+of_read : (form : Form) (fields : TextLine) → with_bio fields ≡ Some form → IsLineOf (codes "read" ∷ fields) form
 of_read form [] e = absurd (no_form form e)
 of_read form (a ∷ []) e = absurd (no_form form e)
 of_read form (a ∷ b ∷ []) e = absurd (no_form form e)
@@ -118,7 +118,7 @@ text_line-text_form word digits text e = first (bytes_eq word (codes "fill")) re
         second (bytes_eq word (codes "hex")) refl
         (sym (ap (λ (b : Bool). if b then Some (Fill digits) else (if bytes_eq word (codes "hex") then Some (Hex digits) else None)) is) ∙ e)
 
-of_write : (form : Form) (fields : Line) → with_bio_and_text fields ≡ Some form → IsLineOf (codes "write" ∷ fields) form
+of_write : (form : Form) (fields : TextLine) → with_bio_and_text fields ≡ Some form → IsLineOf (codes "write" ∷ fields) form
 of_write form [] e = absurd (no_form form e)
 of_write form (a ∷ []) e = absurd (no_form form e)
 of_write form (a ∷ b ∷ []) e = absurd (no_form form e)
@@ -134,13 +134,13 @@ of_write form (key ∷ sector ∷ units ∷ number ∷ word ∷ digits ∷ []) e
         let through = let_through (dashes_agree (bio_of key sector units number)) (Some (Write (bio_of key sector units number) text)) form
         (sym (ap (write_form (bio_of key sector units number)) is) ∙ e) in
         carry (codes "write" ∷ key ∷ sector ∷ units ∷ number ∷ word ∷ digits ∷ []) (Write (bio_of key sector units number) text) form
-        (record { line_is = ap (λ (t : Line). codes "write" ∷ key ∷ sector ∷ units ∷ number ∷ t) (text_line-text_form word digits text is); agrees = through.0 })
+        (record { line_is = ap (λ (t : TextLine). codes "write" ∷ key ∷ sector ∷ units ∷ number ∷ t) (text_line-text_form word digits text is); agrees = through.0 })
         through.1
 
 -- ---- the first word
 
 -- a word that is this one has the form that its fields give, and any other the form that the other words give
-by_word : (word this : List ℕ) (fields : Line) (form : Form) (here there : Option Form) → (if bytes_eq word this then here else there) ≡ Some form
+by_word : (word this : List ℕ) (fields : TextLine) (form : Form) (here there : Option Form) → (if bytes_eq word this then here else there) ≡ Some form
     → (here ≡ Some form → IsLineOf (this ∷ fields) form) → (there ≡ Some form → IsLineOf (word ∷ fields) form) → IsLineOf (word ∷ fields) form
 by_word word this fields form here there e yes_here no_there = pick (bytes_eq word this) refl
   where
@@ -150,7 +150,7 @@ by_word word this fields form here there e yes_here no_there = pick (bytes_eq wo
         (yes_here (sym (ap (λ (b : Bool). if b then here else there) is) ∙ e))
     pick false is = no_there (sym (ap (λ (b : Bool). if b then here else there) is) ∙ e)
 
-pub IsLineOf-form_of : (line : Line) (form : Form) → form_of line ≡ Some form → IsLineOf line form
+pub IsLineOf-form_of : (line : TextLine) (form : Form) → form_of line ≡ Some form → IsLineOf line form
 IsLineOf-form_of [] form e = absurd (no_form form e)
 IsLineOf-form_of (word ∷ fields) form e =
     by_word word (codes "write") fields form _ _ e (of_write form fields) (λ e.

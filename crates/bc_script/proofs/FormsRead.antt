@@ -2,7 +2,7 @@
 use Rattle.std.proofs.Common.{◌≡◌, ℕ, Bool, true, false, List, [], ◌∷◌, ◌++◌, map, flat_map, Option, Some, None, refl, sym, ap, ◌∙◌}
 use Rattle.std.specs.List.{AllByRecursion}
 use Rattle.std.specs.Fmt.{decimal}
-use Rattle.bc_text.specs.Lines.{Line}
+use Rattle.bc_text.specs.Lines.{TextLine}
 use Rattle.bc_script.specs.declared.named_key.NamedKey.{NamedKey}
 use Rattle.bc_script.specs.declared.op.Op.{Op}
 use Rattle.bc_script.specs.declared.sort.Sort.{Sort}
@@ -105,7 +105,7 @@ forms_read-in p is = forms_below-onto (lines_read p) (forms_in p) [] (have_forms
 -- ---- steps
 
 -- one more line that is read is one more form
-pub forms_read-step : (p q : Progress) (line : Line) (form : Form) → lines_read q ≡ lines_read p ++ line ∷ [] → form_of line ≡ Some form → forms_read q ≡ form ∷ forms_read p
+pub forms_read-step : (p q : Progress) (line : TextLine) (form : Form) → lines_read q ≡ lines_read p ++ line ∷ [] → form_of line ≡ Some form → forms_read q ≡ form ∷ forms_read p
 forms_read-step p q line form more is =
     ap (forms_below []) more ∙ forms_below-append [] (lines_read p) (line ∷ []) ∙ ap (λ (o : Option Form). with_form o (forms_read p)) is
 

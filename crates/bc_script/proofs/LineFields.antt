@@ -5,7 +5,7 @@ use Rattle.std.specs.List.{AllByRecursion, list_all}
 use Rattle.std.proofs.lemmas.Bool.Decides.{nat_tests}
 use Rattle.std.proofs.lemmas.List.Elements.{All-from_recursion, All-get_or, recursion_from_All}
 use Rattle.hex.specs.Hex.{encode_lower, encode_with, lower_digits, IsBytes}
-use Rattle.bc_text.specs.Lines.{Line, IsField, IsLine, space, line_feed}
+use Rattle.bc_text.specs.Lines.{TextLine, IsField, IsLine, space, line_feed}
 use Rattle.bc_text.proofs.FieldLaws.{IsField-from_test, IsField-decimal}
 use Rattle.bc_key.specs.declared.config.Mode.{Mode}
 use Rattle.bc_key.specs.declared.config.Mode.TheVariants.{Aes256Xts, Aes128CbcEssiv}
@@ -102,7 +102,7 @@ IsField-number keys (Some context) is = IsField-number_text context.dun is.1
 
 -- ---- lines
 
-abbrev AreFields : Line → Type 0
+abbrev AreFields : TextLine → Type 0
 AreFields fields = AllByRecursion IsField fields
 
 key_line_is : (named : NamedKey) → IsNamedKey named → IsLine (key_line named)
@@ -128,7 +128,7 @@ text_fields_are keys context units (Fill byte) is = (IsField-from_test (codes "f
 text_fields_are keys context units (Bytes bytes) is = (IsField-from_test (codes "hex") refl, (IsField-encode_lower bytes is.0, tt))
 
 -- fields in front of others
-bio_fields_are : (keys : List NamedKey) (context : Option Context) (sector units : ℕ) (others : Line) → AreKeys keys → IsBio (bare_keys keys) context sector units → AreFields others → AreFields (bio_fields keys context sector units ++ others)
+bio_fields_are : (keys : List NamedKey) (context : Option Context) (sector units : ℕ) (others : TextLine) → AreKeys keys → IsBio (bare_keys keys) context sector units → AreFields others → AreFields (bio_fields keys context sector units ++ others)
 bio_fields_are keys context sector units others are is rest =
     let low = is.sector_is in
     let few = is.few_units in
@@ -147,7 +147,7 @@ op_lines_are : (keys : List NamedKey) → AreKeys keys → (section : List Op) �
 op_lines_are keys are [] each = tt
 op_lines_are keys are (op ∷ section) each = (op_line_is keys are op each.0, op_lines_are keys are section each.1)
 
-All-append : (xs ys : List Line) → AllByRecursion IsLine xs → AllByRecursion IsLine ys → AllByRecursion IsLine (xs ++ ys)
+All-append : (xs ys : List TextLine) → AllByRecursion IsLine xs → AllByRecursion IsLine ys → AllByRecursion IsLine (xs ++ ys)
 All-append [] ys p q = q
 All-append (x ∷ xs) ys p q = (p.0, All-append xs ys p.1 q)
 

@@ -8,7 +8,7 @@ use Rattle.std.proofs.lemmas.Fmt.{digits_is_IsNumeral, decimal_injective}
 use Rattle.std.proofs.lemmas.Slice.Eq.{bytes_eq-Decides}
 use Rattle.hex.specs.Hex.{encode_lower, IsBytes}
 use Rattle.hex.proofs.HexLemmas.{decode_of-encode_lower, decode_of-same}
-use Rattle.bc_text.specs.Lines.{Line}
+use Rattle.bc_text.specs.Lines.{TextLine}
 use Rattle.bc_key.specs.declared.config.Mode.{Mode}
 use Rattle.bc_key.specs.declared.config.Mode.TheVariants.{Aes256Xts, Aes128CbcEssiv}
 use Rattle.bc_key.specs.declared.config.DataUnit.{DataUnit}
@@ -39,7 +39,7 @@ clash_words x y differ e = no (sym differ ∙ (bytes_eq-Decides x y).1 e)
     no e = absurd cc
 
 -- lines with different first fields are different
-pub clash : (x y : List ℕ) (a b : Line) → bytes_eq x y ≡ false → x ∷ a ≡ y ∷ b → ⊥
+pub clash : (x y : List ℕ) (a b : TextLine) → bytes_eq x y ≡ false → x ∷ a ≡ y ∷ b → ⊥
 clash x y a b differ e = let words : x ≡ y = cc in clash_words x y differ words
 
 pub encode_lower_injective : (xs ys : List ℕ) → IsBytes xs → IsBytes ys → encode_lower xs ≡ encode_lower ys → xs ≡ ys
@@ -111,10 +111,10 @@ same_text keys s t u v (Fill a) (Bytes b) p q e = absurd (clash (codes "fill") (
 same_text keys s t u v (Bytes a) (Fill b) p q e = absurd (clash (codes "hex") (codes "fill") _ _ refl e)
 
 -- the four fields of a bio, and those behind them
-after_first_of_five : (p q r s t v w x y z : List ℕ) (a b : Line) → p ∷ q ∷ r ∷ s ∷ t ∷ a ≡ v ∷ w ∷ x ∷ y ∷ z ∷ b → (q ≡ w) × (r ≡ x) × (s ≡ y) × (t ≡ z) × (a ≡ b)
+after_first_of_five : (p q r s t v w x y z : List ℕ) (a b : TextLine) → p ∷ q ∷ r ∷ s ∷ t ∷ a ≡ v ∷ w ∷ x ∷ y ∷ z ∷ b → (q ≡ w) × (r ≡ x) × (s ≡ y) × (t ≡ z) × (a ≡ b)
 after_first_of_five p q r s t v w x y z a b e = (cc, cc, cc, cc, cc)
 
-same_bio : (keys : List NamedKey) (a b : Option Context) (s t u v : ℕ) (word other : List ℕ) (c d : Line) → AreKeys keys → IsBio (bare_keys keys) a s u → IsBio (bare_keys keys) b t v
+same_bio : (keys : List NamedKey) (a b : Option Context) (s t u v : ℕ) (word other : List ℕ) (c d : TextLine) → AreKeys keys → IsBio (bare_keys keys) a s u → IsBio (bare_keys keys) b t v
     → word ∷ key_field keys a ∷ decimal s ∷ decimal u ∷ number_field a ∷ c ≡ other ∷ key_field keys b ∷ decimal t ∷ decimal v ∷ number_field b ∷ d → (a ≡ b) × (s ≡ t) × (u ≡ v) × (c ≡ d)
 same_bio keys a b s t u v word other c d are p q e =
     let fields = after_first_of_five _ _ _ _ _ _ _ _ _ _ _ _ e in

@@ -3,8 +3,8 @@ use Rattle.std.proofs.Common.{◌≡◌, ◌≢◌, ℕ, suc, ◌<◌, ◌≤◌
 use Rattle.std.specs.Prelude.{sum_by, AllPairs, IsSome, ⊤, ◌&&◌}
 use Rattle.std.specs.List.{AllByRecursion}
 use Rattle.std.proofs.lemmas.List.Sums.{sum_by-append, sum_by-cons}
-use Rattle.bc_text.specs.Lines.{Line, lines_of, nothing}
-use Rattle.bc_text.proofs.LineLaws.{lines_of-text_of}
+use Rattle.bc_text.specs.Lines.{TextLine, lines_of, nothing}
+use Rattle.bc_text.proofs.LineLaws.{lines_of-lines_text}
 use Rattle.bc_script.specs.declared.named_key.NamedKey.{NamedKey}
 use Rattle.bc_script.specs.declared.op.Op.{Op}
 use Rattle.bc_script.specs.declared.op.Op.TheVariants as ops
@@ -28,16 +28,16 @@ use Rattle.bc_script.proofs.Steps.{nothing_read, with_version, with_disk, with_f
 -- ---- lines that pass
 
 -- each line passes its tests behind those above it
-abbrev pub Pass : List Form → List Line → Type 0
+abbrev pub Pass : List Form → List TextLine → Type 0
 Pass above [] = ⊤
 Pass above (line ∷ lines) = (error_at above line ≡ None) × Pass (with_form (form_of line) above) lines
 
-Pass-append : (above : List Form) (xs ys : List Line) → Pass above xs → Pass (forms_below above xs) ys → Pass above (xs ++ ys)
+Pass-append : (above : List Form) (xs ys : List TextLine) → Pass above xs → Pass (forms_below above xs) ys → Pass above (xs ++ ys)
 Pass-append above [] ys p q = q
 Pass-append above (x ∷ xs) ys p q = (p.0, Pass-append (with_form (form_of x) above) xs ys p.1 q)
 
 -- then no line of theirs is the first that fails, and nor is what stands behind them
-pub no_first_error : (above : List Form) (lines : List Line) (tail : Line) → Pass above lines → error_at_end (forms_below above lines) tail ≡ None → first_error above (lines ++ tail ∷ []) ≡ None
+pub no_first_error : (above : List Form) (lines : List TextLine) (tail : TextLine) → Pass above lines → error_at_end (forms_below above lines) tail ≡ None → first_error above (lines ++ tail ∷ []) ≡ None
 no_first_error above [] tail pass e = ap (λ (w : Why). or_below (length above + 1) w None) e
 no_first_error above (l ∷ []) tail pass e =
     ap (λ (w : Why). or_below (length above + 1) w (first_error (with_form (form_of l) above) (tail ∷ []))) pass.0
@@ -49,7 +49,7 @@ no_first_error above (l ∷ m ∷ ls) tail pass e =
 -- ---- from one progress to a later one
 
 -- lines that are read, each of which passes, and what has been read then
-record Reads (p : Progress) (lines : List Line) (Then : Progress → Type 0) : Type 0 where
+record Reads (p : Progress) (lines : List TextLine) (Then : Progress → Type 0) : Type 0 where
   after : Progress
   rules : IsProgress after
   pass : Pass (forms_read p) lines
@@ -61,13 +61,13 @@ still : (p : Progress) (Then : Progress → Type 0) → IsProgress p → Then p 
 still p Then is holds = record { after = p; rules = is; pass = tt; forms = refl; holds = holds }
 
 -- one line
-one : (p q : Progress) (line : Line) (form : Form) (Then : Progress → Type 0) → IsProgress q → error_at (forms_read p) line ≡ None → lines_read q ≡ lines_read p ++ line ∷ [] → form_of line ≡ Some form → Then q → Reads p (line ∷ []) Then
+one : (p q : Progress) (line : TextLine) (form : Form) (Then : Progress → Type 0) → IsProgress q → error_at (forms_read p) line ≡ None → lines_read q ≡ lines_read p ++ line ∷ [] → form_of line ≡ Some form → Then q → Reads p (line ∷ []) Then
 one p q line form Then rules passes lines is_form holds =
     let step = forms_read-step p q line form lines is_form in
     record { after = q; rules = rules; pass = (passes, tt); forms = ap (λ (o : Option Form). with_form o (forms_read p)) is_form ∙ sym step; holds = holds }
 
 -- lines, and others behind them
-further : (p : Progress) (xs ys : List Line) (P Q : Progress → Type 0) → Reads p xs P → ((q : Progress) → IsProgress q → P q → Reads q ys Q) → Reads p (xs ++ ys) Q
+further : (p : Progress) (xs ys : List TextLine) (P Q : Progress → Type 0) → Reads p xs P → ((q : Progress) → IsProgress q → P q → Reads q ys Q) → Reads p (xs ++ ys) Q
 further p xs ys P Q first rest =
     let then = rest first.after first.rules first.holds in
     record {
@@ -79,7 +79,7 @@ further p xs ys P Q first rest =
     }
 
 -- what holds then, and what follows from it
-weaker : (p : Progress) (lines : List Line) (P Q : Progress → Type 0) → ((q : Progress) → P q → Q q) → Reads p lines P → Reads p lines Q
+weaker : (p : Progress) (lines : List TextLine) (P Q : Progress → Type 0) → ((q : Progress) → P q → Q q) → Reads p lines P → Reads p lines Q
 weaker p lines P Q f reads = record { after = reads.after; rules = reads.rules; pass = reads.pass; forms = reads.forms; holds = f reads.after reads.holds }
 
 -- ---- the first three lines
@@ -304,7 +304,7 @@ end_passes p is follows closed =
     (lines_read-end p is follows) refl refl
 
 -- the lines of a script in which software does what no device can, and no fault is planned
-abbrev built_lines : Script → List Line
+abbrev built_lines : Script → List TextLine
 built_lines s = (version_line ∷ disk_line s.blocks ∷ fallback_line true ∷ []) ++ (map key_line s.keys ++ (flat_map (section_lines s.keys) s.threads ++ end_line ∷ []))
 
 are_built : (s : Script) → IsScript s → script_lines s ≡ built_lines s
@@ -339,7 +339,7 @@ whole_passes s valid =
 -- no line of a script's text fails
 pub no_error : (s : Script) → IsScript s → error_of (script_text s) ≡ None
 no_error s valid =
-    let lines : lines_of (script_text s) ≡ built_lines s ++ nothing ∷ [] = lines_of-text_of (script_lines s) (script_lines_are_lines s valid) ∙ ap (λ (ls : List Line). ls ++ nothing ∷ []) (are_built s valid) in
+    let lines : lines_of (script_text s) ≡ built_lines s ++ nothing ∷ [] = lines_of-lines_text (script_lines s) (script_lines_are_lines s valid) ∙ ap (λ (ls : List TextLine). ls ++ nothing ∷ []) (are_built s valid) in
     let reads = whole_passes s valid in
     let ended : is_end (last_sort (forms_below [] (built_lines s))) ≡ true =
     ap (λ (above : List Form). is_end (last_sort above)) reads.forms ∙ ap (λ (last : Option Sort). is_end last) (last_sort-read reads.after reads.rules ∙ reads.holds) in

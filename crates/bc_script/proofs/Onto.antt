@@ -2,7 +2,7 @@
 use Rattle.std.proofs.Common.{◌≡◌, ℕ, suc, ◌+◌, false, List, [], ◌∷◌, ◌++◌, map, length, flat_map, sum_by, Option, Some, refl, sym, ap, ◌∙◌, arith}
 use Rattle.std.specs.List.{AllByRecursion}
 use Rattle.std.proofs.lemmas.List.Sums.{sum_by-cons, sum_by-append}
-use Rattle.bc_text.specs.Lines.{Line}
+use Rattle.bc_text.specs.Lines.{TextLine}
 use Rattle.bc_script.specs.declared.sort.Sort.{Sort}
 use Rattle.bc_script.specs.Forms.{Form, Version, Disk, Fallback, Key, Thread, Write, Read, Evict, Reset, Plug, Unplug, End, form_of, sort_of}
 use Rattle.bc_script.specs.ScriptErrors.{with_form, last_sort, is_key, key_named}
@@ -56,15 +56,15 @@ pub onto-append : (xs ys above : List Form) → onto (xs ++ ys) above ≡ onto y
 onto-append [] ys above = refl
 onto-append (x ∷ xs) ys above = onto-append xs ys (x ∷ above)
 
-pub forms_below-append : (above : List Form) (xs ys : List Line) → forms_below above (xs ++ ys) ≡ forms_below (forms_below above xs) ys
+pub forms_below-append : (above : List Form) (xs ys : List TextLine) → forms_below above (xs ++ ys) ≡ forms_below (forms_below above xs) ys
 forms_below-append above [] ys = refl
 forms_below-append above (x ∷ xs) ys = forms_below-append (with_form (form_of x) above) xs ys
 
 -- lines that have these forms
-abbrev pub HaveForms : List Line → List Form → Type 0
+abbrev pub HaveForms : List TextLine → List Form → Type 0
 HaveForms lines forms = map form_of lines ≡ map Some forms
 
-pub HaveForms-append : (xs ys : List Line) (us vs : List Form) → HaveForms xs us → HaveForms ys vs → HaveForms (xs ++ ys) (us ++ vs)
+pub HaveForms-append : (xs ys : List TextLine) (us vs : List Form) → HaveForms xs us → HaveForms ys vs → HaveForms (xs ++ ys) (us ++ vs)
 HaveForms-append xs ys us vs p q =
     map-append form_of xs ys ∙ ap (λ t. t ++ map form_of ys) p ∙ ap (λ t. map Some us ++ t) q ∙ sym (map-append Some us vs)
 
@@ -74,7 +74,7 @@ heads x y xs ys e = cc
 tails : {X : Type 0} (x y : X) (xs ys : List X) → x ∷ xs ≡ y ∷ ys → xs ≡ ys
 tails x y xs ys e = cc
 
-pub forms_below-onto : (lines : List Line) (forms above : List Form) → HaveForms lines forms → forms_below above lines ≡ onto forms above
+pub forms_below-onto : (lines : List TextLine) (forms above : List Form) → HaveForms lines forms → forms_below above lines ≡ onto forms above
 forms_below-onto [] [] above e = refl
 forms_below-onto [] (f ∷ fs) above e = absurd cc
 forms_below-onto (l ∷ ls) [] above e = absurd cc
@@ -86,7 +86,7 @@ pub length-onto : (forms above : List Form) → length (onto forms above) ≡ le
 length-onto [] above = omega arith
 length-onto (f ∷ fs) above = let rest = length-onto fs (f ∷ above) in omega arith
 
-pub length-HaveForms : (lines : List Line) (forms : List Form) → HaveForms lines forms → length lines ≡ length forms
+pub length-HaveForms : (lines : List TextLine) (forms : List Form) → HaveForms lines forms → length lines ≡ length forms
 length-HaveForms [] [] e = refl
 length-HaveForms [] (f ∷ fs) e = absurd cc
 length-HaveForms (l ∷ ls) [] e = absurd cc

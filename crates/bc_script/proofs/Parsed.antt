@@ -1,9 +1,9 @@
 -- A text that is read line after line, and what is found of it.
 use Rattle.std.proofs.Common.{◌≡◌, ℕ, ◌+◌, List, [], ◌∷◌, ◌++◌, length, map, Option, Some, None, position, refl, sym, ap, ◌∙◌}
 use Rattle.std.specs.Prelude.{◌==◌, Result, Ok, Err, IfOk, IfErr}
-use Rattle.bc_text.specs.Lines.{Line, nothing, lines_of, parts_at, space, line_feed}
+use Rattle.bc_text.specs.Lines.{TextLine, nothing, lines_of, parts_at, space, line_feed}
 use Rattle.bc_text.proofs.Splits.{parts_at-place, parts_at-nowhere}
-use Rattle.bc_text.proofs.LineLaws.{text_of-lines_of}
+use Rattle.bc_text.proofs.LineLaws.{lines_text-lines_of}
 use Rattle.bc_script.specs.declared.script_error.ScriptError.{ScriptError}
 use Rattle.bc_script.specs.declared.script_error.ParseError.{ParseError}
 use Rattle.bc_script.specs.declared.script_error.ParseError.TheVariants as errors
@@ -17,7 +17,7 @@ use Rattle.bc_script.specs.Parsing.{IsRefused}
 use Rattle.bc_script.proofs.NoError.{no_script_has}
 
 -- what has been read and what is left are the text, and the first error of what is left is that of the text
-pub record Underway (text : List ℕ) (p : Progress) (left : List Line) : Type 0 where
+pub record Underway (text : List ℕ) (p : Progress) (left : List TextLine) : Type 0 where
   pub whole : lines_of text ≡ lines_read p ++ left
   pub error : first_error (forms_read p) left ≡ error_of text
 
@@ -36,7 +36,7 @@ some_line text none = cases (parts_at line_feed text) refl
     cases [] at = some_part line_feed text at
     cases (part ∷ parts) at = let lines : lines_of text ≡ parts_at space part ∷ map (parts_at space) parts = ap (map (parts_at space)) at in cc
 
-module _ (text : List ℕ) (p : Progress) (line next : Line) (left : List Line) (underway : Underway text p (line ∷ next ∷ left)) where
+module _ (text : List ℕ) (p : Progress) (line next : TextLine) (left : List TextLine) (underway : Underway text p (line ∷ next ∷ left)) where
   pub line_refused : (e : ParseError) → ReportsNext p (error_at (forms_read p) line) e → IsRefused text e
   line_refused (errors.Bad e) tells =
       let at : error_of text ≡ Some e =
@@ -45,7 +45,7 @@ module _ (text : List ℕ) (p : Progress) (line next : Line) (left : List Line) 
       (at, no_script_has text e at)
   line_refused errors.Memory tells = tt
 
-module _ (text : List ℕ) (p : Progress) (rest : Line) (underway : Underway text p (rest ∷ [])) where
+module _ (text : List ℕ) (p : Progress) (rest : TextLine) (underway : Underway text p (rest ∷ [])) where
   rest_refused : (e : ParseError) → ReportsNext p (error_at_end (forms_read p) rest) e → IsRefused text e
   rest_refused (errors.Bad e) tells =
       let at : error_of text ≡ Some e =
@@ -56,7 +56,7 @@ module _ (text : List ℕ) (p : Progress) (rest : Line) (underway : Underway tex
   pub says : (r : Result Script ParseError) → IfOk r (IsWhole p rest) → IfOk r (Says text)
   says (Ok s) whole = record {
     valid = whole.valid;
-    text_is = text_of-lines_of text (script_lines s) (underway.whole ∙ ap (λ (l : Line). lines_read p ++ l ∷ []) whole.rest_is ∙ sym (ap (λ (ls : List Line). ls ++ nothing ∷ []) whole.lines));
+    text_is = lines_text-lines_of text (script_lines s) (underway.whole ∙ ap (λ (l : TextLine). lines_read p ++ l ∷ []) whole.rest_is ∙ sym (ap (λ (ls : List TextLine). ls ++ nothing ∷ []) whole.lines));
   }
   says (Err e) whole = tt
 

@@ -6,7 +6,7 @@ use Rattle.std.specs.Option.{option_map_or}
 use Rattle.std.specs.Fmt.{decimal}
 use Rattle.std.proofs.lemmas.Bool.{and_from, or_right, not_from_true, not_from_false}
 use Rattle.hex.specs.Hex.{encode_lower}
-use Rattle.bc_text.specs.Lines.{Line}
+use Rattle.bc_text.specs.Lines.{TextLine}
 use Rattle.bc_key.specs.DataUnits.{bytes_of, sectors_of, unit_of}
 use Rattle.bc_key.specs.declared.config.Mode.{Mode}
 use Rattle.bc_key.specs.declared.config.Mode.TheVariants.{Aes256Xts, Aes128CbcEssiv}
@@ -65,7 +65,7 @@ not_after_end (Some sorts.End) sorts.Operation h = absurd cc
 not_after_end (Some sorts.End) sorts.End h = absurd cc
 
 -- a line passes where its form may stand and passes its own tests
-pub error_at-passed : (p : Progress) (line : Line) (form : Form) → IsProgress p → is_unbuilt p.last line ≡ false → form_of line ≡ Some form → may_follow p.last (sort_of form) ≡ true → tests_of (forms_read p) form ≡ None → error_at (forms_read p) line ≡ None
+pub error_at-passed : (p : Progress) (line : TextLine) (form : Form) → IsProgress p → is_unbuilt p.last line ≡ false → form_of line ≡ Some form → may_follow p.last (sort_of form) ≡ true → tests_of (forms_read p) form ≡ None → error_at (forms_read p) line ≡ None
 error_at-passed p line form is built is_form follows tests =
     let above = forms_read p in
     let last = last_sort-read p is in
@@ -77,7 +77,7 @@ error_at-passed p line form is built is_form follows tests =
     (passed (not (is_unbuilt (last_sort above) line)) why.NotBuilt (error_of_form above (form_of line)) (not_from_false _ there) of_form)
 
 -- no line that begins otherwise is of a form that isn't built
-pub is_built : (last : Option Sort) (word : List ℕ) (fields : Line) → bytes_eq word (codes "fallback") ≡ false → bytes_eq word (codes "device") ≡ false → bytes_eq word (codes "fault") ≡ false → is_unbuilt last (word ∷ fields) ≡ false
+pub is_built : (last : Option Sort) (word : List ℕ) (fields : TextLine) → bytes_eq word (codes "fallback") ≡ false → bytes_eq word (codes "device") ≡ false → bytes_eq word (codes "fault") ≡ false → is_unbuilt last (word ∷ fields) ≡ false
 is_built None word fields fallback device fault = refl
 is_built (Some sorts.Version) word fields fallback device fault = refl
 is_built (Some sorts.Disk) word [] fallback device fault = refl

@@ -4,30 +4,30 @@ use Rattle.std.specs.Prelude.{codes}
 use Rattle.std.specs.List.{flat_map}
 use Rattle.std.proofs.lemmas.List.{take_more, map_push, append-nil}
 use Rattle.std.proofs.lemmas.List.Concat.{flat_map-append}
-use Rattle.bc_text.specs.Lines.{Line, space, line_feed, fields_text, line_text, text_of}
+use Rattle.bc_text.specs.Lines.{TextLine, space, line_feed, fields_text, line_text, lines_text}
 
-text_of-append : (a b : List Line) → text_of (a ++ b) ≡ text_of a ++ text_of b
-text_of-append a b = flat_map-append line_text a b
+lines_text-append : (a b : List TextLine) → lines_text (a ++ b) ≡ lines_text a ++ lines_text b
+lines_text-append a b = flat_map-append line_text a b
 
 -- one part of several lines more
-pub parts_more : {X : Type 0} (f : X → List Line) (xs : List X) (i : ℕ) (d : X) (old new : List ℕ) → i < length xs
-    → new ≡ (old ++ text_of (flat_map f (take i xs))) ++ text_of (f (get_or xs i d)) → new ≡ old ++ text_of (flat_map f (take (i + 1) xs))
+pub parts_more : {X : Type 0} (f : X → List TextLine) (xs : List X) (i : ℕ) (d : X) (old new : List ℕ) → i < length xs
+    → new ≡ (old ++ lines_text (flat_map f (take i xs))) ++ lines_text (f (get_or xs i d)) → new ≡ old ++ lines_text (flat_map f (take (i + 1) xs))
 parts_more {X} f xs i d old new lt e =
     let x = get_or xs i d in
     let before = flat_map f (take i xs) in
-    let step : text_of (flat_map f (take (i + 1) xs)) ≡ text_of before ++ text_of (f x) =
-    ap (λ (t : List X). text_of (flat_map f t)) (take_more xs i d lt) ∙ ap text_of (flat_map-append f (take i xs) (x ∷ []))
-    ∙ text_of-append before (f x ++ []) ∙ ap (λ (t : List Line). text_of before ++ text_of t) (append-nil (f x)) in
-    e ∙ append_assoc old (text_of before) (text_of (f x)) ∙ ap (λ (t : List ℕ). old ++ t) (sym step)
+    let step : lines_text (flat_map f (take (i + 1) xs)) ≡ lines_text before ++ lines_text (f x) =
+    ap (λ (t : List X). lines_text (flat_map f t)) (take_more xs i d lt) ∙ ap lines_text (flat_map-append f (take i xs) (x ∷ []))
+    ∙ lines_text-append before (f x ++ []) ∙ ap (λ (t : List TextLine). lines_text before ++ lines_text t) (append-nil (f x)) in
+    e ∙ append_assoc old (lines_text before) (lines_text (f x)) ∙ ap (λ (t : List ℕ). old ++ t) (sym step)
 
 -- one line more
-pub text_of_more : {X : Type 0} (f : X → Line) (xs : List X) (i : ℕ) (d : X) (old new : List ℕ) → i < length xs → new ≡ (old ++ text_of (map f (take i xs))) ++ line_text (f (get_or xs i d))
-    → new ≡ old ++ text_of (map f (take (i + 1) xs))
-text_of_more f xs i d old new lt e =
-    let step : text_of (map f (take (i + 1) xs)) ≡ text_of (map f (take i xs)) ++ line_text (f (get_or xs i d)) =
-    ap (λ (t : List _). text_of (map f t)) (take_more xs i d lt) ∙ ap text_of (map_push f (take i xs) (get_or xs i d)) ∙ text_of-append (map f (take i xs)) (f (get_or xs i d) ∷ [])
-    ∙ ap (λ (t : List ℕ). text_of (map f (take i xs)) ++ t) (append-nil (line_text (f (get_or xs i d)))) in
-    e ∙ append_assoc old (text_of (map f (take i xs))) (line_text (f (get_or xs i d))) ∙ ap (λ (t : List ℕ). old ++ t) (sym step)
+pub lines_text_more : {X : Type 0} (f : X → TextLine) (xs : List X) (i : ℕ) (d : X) (old new : List ℕ) → i < length xs → new ≡ (old ++ lines_text (map f (take i xs))) ++ line_text (f (get_or xs i d))
+    → new ≡ old ++ lines_text (map f (take (i + 1) xs))
+lines_text_more f xs i d old new lt e =
+    let step : lines_text (map f (take (i + 1) xs)) ≡ lines_text (map f (take i xs)) ++ line_text (f (get_or xs i d)) =
+    ap (λ (t : List _). lines_text (map f t)) (take_more xs i d lt) ∙ ap lines_text (map_push f (take i xs) (get_or xs i d)) ∙ lines_text-append (map f (take i xs)) (f (get_or xs i d) ∷ [])
+    ∙ ap (λ (t : List ℕ). lines_text (map f (take i xs)) ++ t) (append-nil (line_text (f (get_or xs i d)))) in
+    e ∙ append_assoc old (lines_text (map f (take i xs))) (line_text (f (get_or xs i d))) ∙ ap (λ (t : List ℕ). old ++ t) (sym step)
 
 -- one field in front of others, and what stands behind them
 in_front : (x y n r : List ℕ) → y ++ n ≡ r → (x ++ space ∷ y) ++ n ≡ x ++ space ∷ r
@@ -61,11 +61,11 @@ pub three_lines : (old a b c new : List ℕ) → new ≡ ((old ++ a) ++ b) ++ c 
 three_lines old a b c new e = e ∙ append_assoc (old ++ a) b c ∙ append_assoc old a (b ++ c) ∙ ap (λ (t : List ℕ). old ++ (a ++ (b ++ t))) (sym (append-nil c))
 
 -- all parts of a text
-pub all_parts : (head keys faults sections text : List ℕ) (a b c d e : List Line) → head ≡ text_of a → keys ≡ head ++ text_of b → faults ≡ keys ++ text_of c → sections ≡ faults ++ text_of d → text ≡ sections ++ text_of e
-    → text ≡ text_of (a ++ (b ++ (c ++ (d ++ e))))
+pub all_parts : (head keys faults sections text : List ℕ) (a b c d e : List TextLine) → head ≡ lines_text a → keys ≡ head ++ lines_text b → faults ≡ keys ++ lines_text c → sections ≡ faults ++ lines_text d → text ≡ sections ++ lines_text e
+    → text ≡ lines_text (a ++ (b ++ (c ++ (d ++ e))))
 all_parts head keys faults sections text a b c d e p q r s t =
-    let two = q ∙ ap (λ (x : List ℕ). x ++ text_of b) p ∙ sym (text_of-append a b) in
-    let three = r ∙ ap (λ (x : List ℕ). x ++ text_of c) two ∙ sym (text_of-append (a ++ b) c) in
-    let four = s ∙ ap (λ (x : List ℕ). x ++ text_of d) three ∙ sym (text_of-append ((a ++ b) ++ c) d) in
-    t ∙ ap (λ (x : List ℕ). x ++ text_of e) four ∙ sym (text_of-append (((a ++ b) ++ c) ++ d) e)
-    ∙ ap text_of (append_assoc ((a ++ b) ++ c) d e ∙ append_assoc (a ++ b) c (d ++ e) ∙ append_assoc a b (c ++ (d ++ e)))
+    let two = q ∙ ap (λ (x : List ℕ). x ++ lines_text b) p ∙ sym (lines_text-append a b) in
+    let three = r ∙ ap (λ (x : List ℕ). x ++ lines_text c) two ∙ sym (lines_text-append (a ++ b) c) in
+    let four = s ∙ ap (λ (x : List ℕ). x ++ lines_text d) three ∙ sym (lines_text-append ((a ++ b) ++ c) d) in
+    t ∙ ap (λ (x : List ℕ). x ++ lines_text e) four ∙ sym (lines_text-append (((a ++ b) ++ c) ++ d) e)
+    ∙ ap lines_text (append_assoc ((a ++ b) ++ c) d e ∙ append_assoc (a ++ b) c (d ++ e) ∙ append_assoc a b (c ++ (d ++ e)))

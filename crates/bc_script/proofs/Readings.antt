@@ -2,7 +2,7 @@
 use Rattle.std.proofs.Common.{◌≡◌, ℕ, ◌<◌, ◌≤◌, ◌+◌, Bool, true, false, List, [], ◌∷◌, ◌++◌, length, map, flat_map, Option, Some, None, append-nil, refl, sym, ap, subst, ◌∙◌, arith}
 use Rattle.std.specs.Prelude.{sum_by, IsSome, ◌&&◌}
 use Rattle.std.proofs.lemmas.List.Sums.{sum_by-append}
-use Rattle.bc_text.specs.Lines.{Line}
+use Rattle.bc_text.specs.Lines.{TextLine}
 use Rattle.bc_script.specs.declared.named_key.NamedKey.{NamedKey}
 use Rattle.bc_script.specs.declared.op.Op.{Op}
 use Rattle.bc_script.specs.declared.sort.Sort.{Sort}
@@ -35,7 +35,7 @@ reading_none = record { rules = IsProgress-nothing_read; line_count = refl; plug
 pub few_lines : (p : Progress) (lines count units : ℕ) (plugged : Bool) → IsReading p lines plugged count units → lines ≤ 69652
 few_lines p lines count units plugged is = subst (λ (n : ℕ). n ≤ 69652) (sym is.line_count) (length-read_le p is.rules)
 
-reading_step : (p q : Progress) (line : Line) (form : Form) (lines count units counted united : ℕ) (plugged closed : Bool) → IsReading p lines plugged count units → IsProgress q → lines_read q ≡ lines_read p ++ line ∷ [] → form_of line ≡ Some form
+reading_step : (p q : Progress) (line : TextLine) (form : Form) (lines count units counted united : ℕ) (plugged closed : Bool) → IsReading p lines plugged count units → IsProgress q → lines_read q ≡ lines_read p ++ line ∷ [] → form_of line ≡ Some form
     → open_after false q.section ≡ Some closed → counted ≡ sum_by length (sections_read q) → united ≡ sum_by unit_count_of_section (sections_read q) → IsReading q (lines + 1) closed counted united
 reading_step p q line form lines count units counted united plugged closed is rules more is_form plug few many =
     let longer = ap length (forms_read-step p q line form more is_form) in
@@ -205,14 +205,14 @@ module _ (p : Progress) (is : IsProgress p) where
       (lines_read-op p op is follows)
   took_statement statements.End follows fits = taken statements.End End refl (error_at-passed p end_line End is (is_built p.last _ _ refl refl refl) refl follows (end_passed p is fits)) (lines_read-end p is follows)
 
-pub took : (p : Progress) (line : Line) (statement : Statement) (q : Progress) → IsNext p line statement → q ≡ with_statement p statement → Took p line q
+pub took : (p : Progress) (line : TextLine) (statement : Statement) (q : Progress) → IsNext p line statement → q ≡ with_statement p statement → Took p line q
 took p line statement q next same =
-    subst (λ (r : Progress). Took p line r) (sym same) (subst (λ (l : Line). Took p l (with_statement p statement)) (sym next.line_is) (took_statement p next.rules statement next.follows next.fits))
+    subst (λ (r : Progress). Took p line r) (sym same) (subst (λ (l : TextLine). Took p l (with_statement p statement)) (sym next.line_is) (took_statement p next.rules statement next.follows next.fits))
 
 -- ---- the end
 
 -- a text that goes on, or ends too early
-module _ (p : Progress) (is : IsProgress p) (rest : Line) (last : Option Sort) (nearest : last ≡ p.last) where
+module _ (p : Progress) (is : IsProgress p) (rest : TextLine) (last : Option Sort) (nearest : last ≡ p.last) where
   ended_is : (is_end (last_sort (forms_read p)) && is_nothing rest) ≡ (is_end last && is_nothing rest)
   ended_is = ap (λ (l : Option Sort). is_end l && is_nothing rest) (last_sort-read p is ∙ sym nearest)
 

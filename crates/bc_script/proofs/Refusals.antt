@@ -3,7 +3,7 @@ use Rattle.std.proofs.Common.{◌≡◌, ◌≢◌, ℕ, suc, ◌≤◌, ◌+◌
 use Rattle.std.specs.Prelude.{sum_by, count_by, MatchOption}
 use Rattle.std.specs.List.{AllByRecursion}
 use Rattle.std.specs.Option.{option_map}
-use Rattle.bc_text.specs.Lines.{Line}
+use Rattle.bc_text.specs.Lines.{TextLine}
 use Rattle.bc_key.specs.declared.keys.KeyNo.{KeyNo}
 use Rattle.bc_key.specs.declared.key.KeyError.{KeyError}
 use Rattle.bc_key.specs.KeyRefusal.{key_refusal}
@@ -69,7 +69,7 @@ or_yes false = refl
 
 -- ---- where a line may stand
 
-module _ (p : Progress) (line : Line) (last : Option Sort) (is : IsProgress p) (nearest : last ≡ p.last) where
+module _ (p : Progress) (line : TextLine) (last : Option Sort) (is : IsProgress p) (nearest : last ≡ p.last) where
   nearest_is : last_sort (forms_read p) ≡ last
   nearest_is = last_sort-read p is ∙ sym nearest
 

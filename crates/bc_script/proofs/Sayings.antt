@@ -2,7 +2,7 @@
 use Rattle.std.proofs.Common.{◌≡◌, ℕ, zero, suc, ◌<◌, ◌≤◌, ◌+◌, ◌*◌, Bool, true, false, not, ◌&&◌, if◌then◌else◌, nat_lt, nat_le, List, [], ◌∷◌, ◌++◌, length, Option, Some, None, is_some, bytes_eq, Result, Ok, Err, refl, sym, ap, subst, ◌∙◌, arith, ltb-true, leb-true}
 use Rattle.std.specs.Prelude.{codes, sum_by, MatchOption, MatchResult, IfOk, IfErr, IsSome, IsTrue}
 use Rattle.std.proofs.lemmas.Bool.{and_parts}
-use Rattle.bc_text.specs.Lines.{Line}
+use Rattle.bc_text.specs.Lines.{TextLine}
 use Rattle.bc_key.specs.declared.keys.KeyNo.{KeyNo}
 use Rattle.bc_bio.specs.declared.context.Context.{Context}
 use Rattle.bc_bio.specs.Extent.{unit_sectors}
@@ -199,10 +199,10 @@ module _ (p : Progress) (bio : BioForm) (fields : BioFields) (sectors : ℕ) (ro
 
 -- ---- the whole line
 
-pub next_is : (p : Progress) (line : Line) (form : Form) (said : Result Statement Unread) → IsProgress p → line ≡ form_line form → may_follow p.last (sort_of form) ≡ true → MatchResult said (IsStatementOf p form) (Reports (tests_of (forms_read p) form)) → IfOk said (IsNext p line)
+pub next_is : (p : Progress) (line : TextLine) (form : Form) (said : Result Statement Unread) → IsProgress p → line ≡ form_line form → may_follow p.last (sort_of form) ≡ true → MatchResult said (IsStatementOf p form) (Reports (tests_of (forms_read p) form)) → IfOk said (IsNext p line)
 next_is p line form (Ok statement) rules line_is follows is = record { rules = rules; line_is = line_is ∙ is.line_is; follows = ap (λ (s : Sort). may_follow p.last s) (sym is.sort_is) ∙ follows; fits = is.fits }
 next_is p line form (Err e) rules line_is follows tells = tt
 
-pub next_told : (p : Progress) (line : Line) (form : Form) (said : Result Statement Unread) → error_at (forms_read p) line ≡ tests_of (forms_read p) form → MatchResult said (IsStatementOf p form) (Reports (tests_of (forms_read p) form)) → IfErr said (Reports (error_at (forms_read p) line))
+pub next_told : (p : Progress) (line : TextLine) (form : Form) (said : Result Statement Unread) → error_at (forms_read p) line ≡ tests_of (forms_read p) form → MatchResult said (IsStatementOf p form) (Reports (tests_of (forms_read p) form)) → IfErr said (Reports (error_at (forms_read p) line))
 next_told p line form (Ok statement) tests is = tt
 next_told p line form (Err e) tests told = subst (λ (w : Why). Reports w e) (sym tests) told

@@ -4,8 +4,8 @@ use Rattle.std.specs.Prelude.{codes, flat_map, ◌⊎◌}
 use Rattle.std.specs.List.{AllByRecursion}
 use Rattle.std.proofs.lemmas.Fmt.{decimal_injective}
 use Rattle.std.proofs.lemmas.List.{append-nil}
-use Rattle.bc_text.specs.Lines.{Line, StartsAs, text_of}
-use Rattle.bc_text.proofs.LineLaws.{text_of-begins}
+use Rattle.bc_text.specs.Lines.{TextLine, StartsAs, lines_text}
+use Rattle.bc_text.proofs.LineLaws.{lines_text-begins}
 use Rattle.bc_text.proofs.Sorts.{same_reading}
 use Rattle.bc_script.specs.declared.named_key.NamedKey.{NamedKey}
 use Rattle.bc_script.specs.declared.op.Op.{Op}
@@ -18,10 +18,10 @@ use Rattle.bc_script.proofs.LineLaws.{clash, clash_words, key_line_injective, op
 -- ---- sections
 
 -- the lines go on with a section's first line, or with the last line
-abbrev EndsSection : List Line → Type 0
+abbrev EndsSection : List TextLine → Type 0
 EndsSection lines = StartsAs (codes "thread") lines ⊎ StartsAs (codes "end") lines
 
-op_goes : (keys : List NamedKey) (op : Op) (rest : List Line) → IsOp (bare_keys keys) op → EndsSection (op_line keys op ∷ rest) → ⊥
+op_goes : (keys : List NamedKey) (op : Op) (rest : List TextLine) → IsOp (bare_keys keys) op → EndsSection (op_line keys op ∷ rest) → ⊥
 op_goes keys (ops.Write context sector units text) rest valid (inl e) = clash_words (codes "write") (codes "thread") refl e
 op_goes keys (ops.Write context sector units text) rest valid (inr e) = clash_words (codes "write") (codes "end") refl e
 op_goes keys (ops.Read context sector units) rest valid (inl e) = clash_words (codes "read") (codes "thread") refl e
@@ -35,29 +35,29 @@ op_goes keys ops.Plug rest valid (inr e) = clash_words (codes "plug") (codes "en
 op_goes keys ops.Unplug rest valid (inl e) = clash_words (codes "unplug") (codes "thread") refl e
 op_goes keys ops.Unplug rest valid (inr e) = clash_words (codes "unplug") (codes "end") refl e
 
-drop_first : (x y : Line) (a b : List Line) → x ∷ a ≡ y ∷ b → a ≡ b
+drop_first : (x y : TextLine) (a b : List TextLine) → x ∷ a ≡ y ∷ b → a ≡ b
 drop_first x y a b e = cc
 
-thread_is_no_end : (a b : List Line) → thread_line ∷ a ≡ end_line ∷ b → ⊥
+thread_is_no_end : (a b : List TextLine) → thread_line ∷ a ≡ end_line ∷ b → ⊥
 thread_is_no_end a b e = clash (codes "thread") (codes "end") [] [] refl (first_line thread_line end_line a b e)
   where
-    first_line : (x y : Line) (a b : List Line) → x ∷ a ≡ y ∷ b → x ≡ y
+    first_line : (x y : TextLine) (a b : List TextLine) → x ∷ a ≡ y ∷ b → x ≡ y
     first_line x y a b e = cc
 
 -- the lines of sections and the last line, and what stands behind them
-abbrev sections_and_end : List NamedKey → List (List Op) → List Line → List Line
+abbrev sections_and_end : List NamedKey → List (List Op) → List TextLine → List TextLine
 sections_and_end keys threads rest = flat_map (section_lines keys) threads ++ end_line ∷ rest
 
-ends_section : (keys : List NamedKey) (threads : List (List Op)) (rest : List Line) → EndsSection (sections_and_end keys threads rest)
+ends_section : (keys : List NamedKey) (threads : List (List Op)) (rest : List TextLine) → EndsSection (sections_and_end keys threads rest)
 ends_section keys [] rest = inr refl
 ends_section keys (section ∷ threads) rest = inl refl
 
 -- the first section's lines, and the others
-first_section : (keys : List NamedKey) (section : List Op) (threads : List (List Op)) (rest : List Line)
+first_section : (keys : List NamedKey) (section : List Op) (threads : List (List Op)) (rest : List TextLine)
     → sections_and_end keys (section ∷ threads) rest ≡ thread_line ∷ (map (op_line keys) section ++ sections_and_end keys threads rest)
 first_section keys section threads rest = append_assoc (section_lines keys section) (flat_map (section_lines keys) threads) (end_line ∷ rest)
 
-begins_no_other_sections : (keys : List NamedKey) → AreKeys keys → (a b : List (List Op)) (c : List Line) → AllByRecursion (IsSection (bare_keys keys)) a → AllByRecursion (IsSection (bare_keys keys)) b
+begins_no_other_sections : (keys : List NamedKey) → AreKeys keys → (a b : List (List Op)) (c : List TextLine) → AllByRecursion (IsSection (bare_keys keys)) a → AllByRecursion (IsSection (bare_keys keys)) b
     → sections_and_end keys a c ≡ sections_and_end keys b [] → (a ≡ b) × (c ≡ [])
 begins_no_other_sections keys are [] [] c p q e = (refl, drop_first end_line end_line c [] e)
 begins_no_other_sections keys are [] (t ∷ b) c p q e = absurd (thread_is_no_end _ _ (sym e))
@@ -71,39 +71,39 @@ begins_no_other_sections keys are (s ∷ a) (t ∷ b) c p q e =
 -- ---- keys
 
 -- the lines go on with another line than a key's
-abbrev EndsKeys : List Line → Type 0
+abbrev EndsKeys : List TextLine → Type 0
 EndsKeys lines = StartsAs (codes "key") lines → ⊥
 
-key_goes : (key : NamedKey) (rest : List Line) → IsNamedKey key → EndsKeys (key_line key ∷ rest) → ⊥
+key_goes : (key : NamedKey) (rest : List TextLine) → IsNamedKey key → EndsKeys (key_line key ∷ rest) → ⊥
 key_goes key rest valid ends = ends refl
 
-ends_keys : (keys : List NamedKey) (threads : List (List Op)) (rest : List Line) → EndsKeys (sections_and_end keys threads rest)
+ends_keys : (keys : List NamedKey) (threads : List (List Op)) (rest : List TextLine) → EndsKeys (sections_and_end keys threads rest)
 ends_keys keys [] rest e = clash_words (codes "end") (codes "key") refl e
 ends_keys keys (section ∷ threads) rest e = clash_words (codes "thread") (codes "key") refl e
 
 -- ---- the whole
 
 -- where no fault is planned, sections stand behind the keys
-abbrev behind_head : Script → List Line → List Line
+abbrev behind_head : Script → List TextLine → List TextLine
 behind_head s rest = map key_line s.keys ++ sections_and_end s.keys s.threads rest
 
-lines_of_script : (s : Script) (rest : List Line) → s.faults ≡ [] → script_lines s ++ rest ≡ head_lines s ++ behind_head s rest
+lines_of_script : (s : Script) (rest : List TextLine) → s.faults ≡ [] → script_lines s ++ rest ≡ head_lines s ++ behind_head s rest
 lines_of_script s rest none =
     let keys = map key_line s.keys in
     let sections = flat_map (section_lines s.keys) s.threads in
     let no_faults : script_lines s ≡ head_lines s ++ (keys ++ (sections ++ end_line ∷ [])) = ap (λ (f : List (ℕ × ℕ)). head_lines s ++ (keys ++ (map fault_line f ++ (sections ++ end_line ∷ [])))) none in
-    ap (λ (t : List Line). t ++ rest) no_faults
-    ∙ ap (λ (t : List Line). head_lines s ++ t) (append_assoc keys (sections ++ end_line ∷ []) rest ∙ ap (λ (t : List Line). keys ++ t) (append_assoc sections (end_line ∷ []) rest))
+    ap (λ (t : List TextLine). t ++ rest) no_faults
+    ∙ ap (λ (t : List TextLine). head_lines s ++ t) (append_assoc keys (sections ++ end_line ∷ []) rest ∙ ap (λ (t : List TextLine). keys ++ t) (append_assoc sections (end_line ∷ []) rest))
 
-after_head : (a b : Script) (x y : List Line) → IsDiskSize a.blocks → IsDiskSize b.blocks → head_lines a ++ x ≡ head_lines b ++ y → (a.blocks ≡ b.blocks) × (x ≡ y)
+after_head : (a b : Script) (x y : List TextLine) → IsDiskSize a.blocks → IsDiskSize b.blocks → head_lines a ++ x ≡ head_lines b ++ y → (a.blocks ≡ b.blocks) × (x ≡ y)
 after_head a b x y p q e =
     let parts = second_and_rest _ _ _ _ _ _ _ _ _ _ e in
     (decimal_injective a.blocks b.blocks (omega arith) (omega arith) parts.0, parts.1)
   where
-    second_and_rest : (p v r x : Line) (w z m n : List ℕ) (a b : List Line) → p ∷ (w ∷ m ∷ []) ∷ r ∷ a ≡ v ∷ (z ∷ n ∷ []) ∷ x ∷ b → (m ≡ n) × (a ≡ b)
+    second_and_rest : (p v r x : TextLine) (w z m n : List ℕ) (a b : List TextLine) → p ∷ (w ∷ m ∷ []) ∷ r ∷ a ≡ v ∷ (z ∷ n ∷ []) ∷ x ∷ b → (m ≡ n) × (a ≡ b)
     second_and_rest p v r x w z m n a b e = (cc, cc)
 
-begins_no_other : (a b : Script) (c : List Line) → IsScript a → IsScript b → script_lines a ++ c ≡ script_lines b ++ [] → (a ≡ b) × (c ≡ [])
+begins_no_other : (a b : Script) (c : List TextLine) → IsScript a → IsScript b → script_lines a ++ c ≡ script_lines b ++ [] → (a ≡ b) × (c ≡ [])
 begins_no_other a b c p q e =
     let head = after_head a b _ _ p.blocks q.blocks (sym (lines_of_script a c p.faults) ∙ e ∙ lines_of_script b [] q.faults) in
     let keys = same_reading NamedKey key_line IsNamedKey EndsKeys key_line_injective key_goes a.keys b.keys (sections_and_end a.keys a.threads c) (sections_and_end b.keys b.threads []) p.keys.each q.keys.each (ends_keys a.keys a.threads c) (ends_keys b.keys b.threads []) head.1 in
@@ -115,6 +115,6 @@ begins_no_other a b c p q e =
 
 pub no_text_begins_another : (a b : Script) (more : List ℕ) → IsScript a → IsScript b → script_text a ++ more ≡ script_text b → (a ≡ b) × (more ≡ [])
 no_text_begins_another a b more p q e =
-    let r = text_of-begins (script_lines a) (script_lines b) more (script_lines_are_lines a p) (script_lines_are_lines b q) e in
+    let r = lines_text-begins (script_lines a) (script_lines b) more (script_lines_are_lines a p) (script_lines_are_lines b q) e in
     let same = begins_no_other a b r.0 p q (sym r.1 ∙ sym (append-nil (script_lines b))) in
-    (same.0, r.2 ∙ ap text_of same.1)
+    (same.0, r.2 ∙ ap lines_text same.1)

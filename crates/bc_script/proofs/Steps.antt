@@ -6,7 +6,7 @@ use Rattle.std.proofs.lemmas.Grind.{flat_map-append}
 use Rattle.std.proofs.lemmas.List.Sums.{sum_by-append}
 use Rattle.std.proofs.lemmas.List.Kept.{AllPairs-cons}
 use Rattle.std.proofs.lemmas.List.Elements.{All-from_recursion}
-use Rattle.bc_text.specs.Lines.{Line}
+use Rattle.bc_text.specs.Lines.{TextLine}
 use Rattle.bc_script.specs.declared.named_key.NamedKey.{NamedKey}
 use Rattle.bc_script.specs.declared.op.Op.{Op}
 use Rattle.bc_script.specs.declared.sort.Sort.{Sort}
@@ -49,7 +49,7 @@ head_only last blocks (k ∷ ks) threads section none_keys none outside unended 
 head_only last blocks [] (t ∷ ts) section none_keys none outside unended = absurd cc
 head_only last blocks [] [] section none_keys none outside unended =
     ap (λ (b : Bool). head_read last blocks ++ (flat_map (section_lines []) (with_section b section) ++ end_read last)) outside
-    ∙ ap (λ (e : List Line). head_read last blocks ++ e) unended
+    ∙ ap (λ (e : List TextLine). head_read last blocks ++ e) unended
     ∙ append-nil (head_read last blocks)
 
 -- behind which lines each of the first three stands
@@ -118,7 +118,7 @@ lines_read-version p is follows =
     let last = behind_none p.last follows in
     let at = subst (λ (last : Option Sort). IsAt last p) last is.at in
     let before : lines_read p ≡ [] = head_only p.last p.blocks p.keys p.threads p.section at.0 at.1 (ap is_in_section last) (ap end_read last) ∙ ap (λ (l : Option Sort). head_read l p.blocks) last in
-    head_only (Some sorts.Version) p.blocks p.keys p.threads p.section at.0 at.1 refl refl ∙ sym (ap (λ (ls : List Line). ls ++ version_line ∷ []) before)
+    head_only (Some sorts.Version) p.blocks p.keys p.threads p.section at.0 at.1 refl refl ∙ sym (ap (λ (ls : List TextLine). ls ++ version_line ∷ []) before)
 
 pub IsProgress-disk : (p : Progress) (blocks : ℕ) → IsProgress p → may_follow p.last sorts.Disk ≡ true → IsDiskSize blocks → IsProgress (with_disk p blocks)
 IsProgress-disk p blocks is follows size =
@@ -130,7 +130,7 @@ lines_read-disk p blocks is follows =
     let last = behind_version p.last follows in
     let at = subst (λ (last : Option Sort). IsAt last p) last is.at in
     let before : lines_read p ≡ version_line ∷ [] = head_only p.last p.blocks p.keys p.threads p.section at.0 at.1 (ap is_in_section last) (ap end_read last) ∙ ap (λ (l : Option Sort). head_read l p.blocks) last in
-    head_only (Some sorts.Disk) blocks p.keys p.threads p.section at.0 at.1 refl refl ∙ sym (ap (λ (ls : List Line). ls ++ disk_line blocks ∷ []) before)
+    head_only (Some sorts.Disk) blocks p.keys p.threads p.section at.0 at.1 refl refl ∙ sym (ap (λ (ls : List TextLine). ls ++ disk_line blocks ∷ []) before)
 
 pub IsProgress-fallback : (p : Progress) → IsProgress p → may_follow p.last sorts.Fallback ≡ true → IsProgress (with_fallback p)
 IsProgress-fallback p is follows =
@@ -142,7 +142,7 @@ lines_read-fallback p is follows =
     let last = behind_disk p.last follows in
     let at = subst (λ (last : Option Sort). IsAt last p) last is.at in
     let before : lines_read p ≡ version_line ∷ disk_line p.blocks ∷ [] = head_only p.last p.blocks p.keys p.threads p.section at.1 at.2 (ap is_in_section last) (ap end_read last) ∙ ap (λ (l : Option Sort). head_read l p.blocks) last in
-    head_only (Some sorts.Fallback) p.blocks p.keys p.threads p.section at.1 at.2 refl refl ∙ sym (ap (λ (ls : List Line). ls ++ fallback_line true ∷ []) before)
+    head_only (Some sorts.Fallback) p.blocks p.keys p.threads p.section at.1 at.2 refl refl ∙ sym (ap (λ (ls : List TextLine). ls ++ fallback_line true ∷ []) before)
 
 -- ---- behind the first three lines
 
@@ -208,20 +208,20 @@ inside_section (Some sorts.End) h = absurd cc
 pub is_inside : (last : Option Sort) → may_follow last sorts.Operation ≡ true → is_in_section last ≡ true
 is_inside last follows = (inside_section last follows).inside
 
-abbrev full_head : ℕ → List Line
+abbrev full_head : ℕ → List TextLine
 full_head blocks = version_line ∷ disk_line blocks ∷ fallback_line true ∷ []
 
 -- the lines behind the head
 body : (p : Progress) → IsBehindHead p.last → lines_read p ≡ full_head p.blocks ++ (map key_line p.keys ++ flat_map (section_lines p.keys) (sections_read p))
 body p behind =
     let sections = flat_map (section_lines p.keys) (sections_read p) in
-    ap (λ (head : List Line). head ++ (map key_line p.keys ++ (sections ++ end_read p.last))) (behind.head p.blocks)
-    ∙ ap (λ (end : List Line). full_head p.blocks ++ (map key_line p.keys ++ (sections ++ end))) behind.unended
-    ∙ ap (λ (ls : List Line). full_head p.blocks ++ (map key_line p.keys ++ ls)) (append-nil sections)
+    ap (λ (head : List TextLine). head ++ (map key_line p.keys ++ (sections ++ end_read p.last))) (behind.head p.blocks)
+    ∙ ap (λ (end : List TextLine). full_head p.blocks ++ (map key_line p.keys ++ (sections ++ end))) behind.unended
+    ∙ ap (λ (ls : List TextLine). full_head p.blocks ++ (map key_line p.keys ++ ls)) (append-nil sections)
 
 -- one more line behind three lists of lines
-one_more : (a b c : List Line) (line : Line) → (a ++ (b ++ c)) ++ line ∷ [] ≡ a ++ (b ++ (c ++ line ∷ []))
-one_more a b c line = append_assoc a (b ++ c) (line ∷ []) ∙ ap (λ (ls : List Line). a ++ ls) (append_assoc b c (line ∷ []))
+one_more : (a b c : List TextLine) (line : TextLine) → (a ++ (b ++ c)) ++ line ∷ [] ≡ a ++ (b ++ (c ++ line ∷ []))
+one_more a b c line = append_assoc a (b ++ c) (line ∷ []) ∙ ap (λ (ls : List TextLine). a ++ ls) (append_assoc b c (line ∷ []))
 
 -- ---- keys
 
@@ -247,8 +247,8 @@ lines_read-key p named is follows =
     let new : lines_read (with_key p named) ≡ full_head p.blocks ++ (map key_line keys ++ []) =
     ap (λ (t : List (List Op)). full_head p.blocks ++ (map key_line keys ++ (flat_map (section_lines keys) t ++ []))) threads in
     new
-    ∙ ap (λ (ls : List Line). full_head p.blocks ++ ls) (append-nil (map key_line keys) ∙ map-append key_line p.keys (named ∷ []))
-    ∙ sym (ap (λ (ls : List Line). ls ++ key_line named ∷ []) old ∙ one_more (full_head p.blocks) (map key_line p.keys) [] (key_line named))
+    ∙ ap (λ (ls : List TextLine). full_head p.blocks ++ ls) (append-nil (map key_line keys) ∙ map-append key_line p.keys (named ∷ []))
+    ∙ sym (ap (λ (ls : List TextLine). ls ++ key_line named ∷ []) old ∙ one_more (full_head p.blocks) (map key_line p.keys) [] (key_line named))
 
 -- one more key, which has a name of its own
 names_push : (keys : List NamedKey) (named : NamedKey) → AllPairs (λ (first second : NamedKey). first.name ≢ second.name) keys → AllByRecursion (λ (key : NamedKey). key.name ≢ named.name) keys
@@ -299,31 +299,31 @@ lines_read-thread p is follows =
     let lines = section_lines p.keys in
     let sections = flat_map lines (sections_read p) in
     let new : flat_map lines (sections_read p ++ [] ∷ []) ++ [] ≡ sections ++ thread_line ∷ [] = append-nil (flat_map lines (sections_read p ++ [] ∷ [])) ∙ flat_map-append lines (sections_read p) ([] ∷ []) in
-    ap (λ (ls : List Line). full_head p.blocks ++ (map key_line p.keys ++ ls)) new
-    ∙ sym (ap (λ (ls : List Line). ls ++ thread_line ∷ []) (body p (behind_head p.last (sym (thread_or_end p.last) ∙ follows))) ∙ one_more (full_head p.blocks) (map key_line p.keys) sections thread_line)
+    ap (λ (ls : List TextLine). full_head p.blocks ++ (map key_line p.keys ++ ls)) new
+    ∙ sym (ap (λ (ls : List TextLine). ls ++ thread_line ∷ []) (body p (behind_head p.last (sym (thread_or_end p.last) ∙ follows))) ∙ one_more (full_head p.blocks) (map key_line p.keys) sections thread_line)
 
 pub lines_read-end : (p : Progress) → IsProgress p → may_follow p.last sorts.End ≡ true → lines_read (with_section_ended p sorts.End) ≡ lines_read p ++ end_line ∷ []
 lines_read-end p is follows =
     let lines = section_lines p.keys in
     let sections = flat_map lines (sections_read p) in
     ap (λ (t : List (List Op)). full_head p.blocks ++ (map key_line p.keys ++ (flat_map lines t ++ end_line ∷ []))) (append-nil (sections_read p))
-    ∙ sym (ap (λ (ls : List Line). ls ++ end_line ∷ []) (body p (behind_head p.last follows)) ∙ one_more (full_head p.blocks) (map key_line p.keys) sections end_line)
+    ∙ sym (ap (λ (ls : List TextLine). ls ++ end_line ∷ []) (body p (behind_head p.last follows)) ∙ one_more (full_head p.blocks) (map key_line p.keys) sections end_line)
 
 pub lines_read-op : (p : Progress) (op : Op) → IsProgress p → may_follow p.last sorts.Operation ≡ true → lines_read (with_op p op) ≡ lines_read p ++ op_line p.keys op ∷ []
 lines_read-op p op is follows =
     let inside = inside_section p.last follows in
     let lines = section_lines p.keys in
     let threads = flat_map lines p.threads in
-    let one : (section : List Op) → flat_map lines (p.threads ++ section ∷ []) ≡ threads ++ lines section = λ section. flat_map-append lines p.threads (section ∷ []) ∙ ap (λ (ls : List Line). threads ++ ls) (append-nil (lines section)) in
+    let one : (section : List Op) → flat_map lines (p.threads ++ section ∷ []) ≡ threads ++ lines section = λ section. flat_map-append lines p.threads (section ∷ []) ∙ ap (λ (ls : List TextLine). threads ++ ls) (append-nil (lines section)) in
     let old : flat_map lines (sections_read p) ≡ threads ++ lines p.section = ap (λ (b : Bool). flat_map lines (p.threads ++ with_section b p.section)) inside.inside ∙ one p.section in
     let new : flat_map lines (p.threads ++ (p.section ++ op ∷ []) ∷ []) ++ [] ≡ flat_map lines (sections_read p) ++ op_line p.keys op ∷ [] =
     append-nil (flat_map lines (p.threads ++ (p.section ++ op ∷ []) ∷ []))
     ∙ one (p.section ++ op ∷ [])
-    ∙ ap (λ (ls : List Line). threads ++ thread_line ∷ ls) (map-append (op_line p.keys) p.section (op ∷ []))
+    ∙ ap (λ (ls : List TextLine). threads ++ thread_line ∷ ls) (map-append (op_line p.keys) p.section (op ∷ []))
     ∙ sym (append_assoc threads (lines p.section) (op_line p.keys op ∷ []))
-    ∙ ap (λ (ls : List Line). ls ++ op_line p.keys op ∷ []) (sym old) in
-    ap (λ (ls : List Line). full_head p.blocks ++ (map key_line p.keys ++ ls)) new
-    ∙ sym (ap (λ (ls : List Line). ls ++ op_line p.keys op ∷ []) (body p (behind_head p.last inside.ends)) ∙ one_more (full_head p.blocks) (map key_line p.keys) (flat_map lines (sections_read p)) (op_line p.keys op))
+    ∙ ap (λ (ls : List TextLine). ls ++ op_line p.keys op ∷ []) (sym old) in
+    ap (λ (ls : List TextLine). full_head p.blocks ++ (map key_line p.keys ++ ls)) new
+    ∙ sym (ap (λ (ls : List TextLine). ls ++ op_line p.keys op ∷ []) (body p (behind_head p.last inside.ends)) ∙ one_more (full_head p.blocks) (map key_line p.keys) (flat_map lines (sections_read p)) (op_line p.keys op))
 
 -- each section that has been read is valid, where the last of them is closed
 sections_valid : (p : Progress) → IsProgress p → open_after false p.section ≡ Some false → AllByRecursion (IsSection (bare_keys p.keys)) (sections_read p)

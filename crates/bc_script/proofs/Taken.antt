@@ -7,7 +7,7 @@ use Rattle.std.specs.Str.Parse.{digits_value}
 use Rattle.std.proofs.lemmas.Bool.{and_parts, both_ways, not-true, not-false}
 use Rattle.std.proofs.lemmas.Slice.Eq.{bytes_eq-Decides}
 use Rattle.hex.specs.Hex.{encode_lower, IsBytes}
-use Rattle.bc_text.specs.Lines.{Line}
+use Rattle.bc_text.specs.Lines.{TextLine}
 use Rattle.bc_key.specs.DataUnits.{bytes_of, unit_of}
 use Rattle.bc_key.specs.declared.config.Mode.{Mode}
 use Rattle.bc_key.specs.declared.config.Mode.TheVariants.{Aes256Xts, Aes128CbcEssiv}
@@ -45,7 +45,7 @@ use Rattle.bc_script.proofs.Steps.{with_version, with_disk, with_fallback, with_
 use Rattle.std.proofs.lemmas.List.{length-map}
 
 -- what has been read with one more line
-pub record Took (p : Progress) (line : Line) : Type 0 where
+pub record Took (p : Progress) (line : TextLine) : Type 0 where
   pub after : Progress
   pub rules : IsProgress after
   pub lines : lines_read after ≡ lines_read p ++ line ∷ []
@@ -181,7 +181,7 @@ key_taken p key is follows e =
     } in
     let unit_is : key.unit ≡ decimal (bytes_of made.unit) = unit.0 ∙ ap decimal (sym made.unit_is) in
     let line : key_line named ≡ form_line (Key key) = λ i. form_line (Key (record { name = key.name; mode = key.mode; unit = sym unit_is i; dun_bytes = sym dun.0 i; digits = sym digits.0 i })) in
-    record { after = with_key p named; rules = IsProgress-key p named is follows valid fresh room; lines = lines_read-key p named is follows ∙ ap (λ (l : Line). lines_read p ++ l ∷ []) line }
+    record { after = with_key p named; rules = IsProgress-key p named is follows valid fresh room; lines = lines_read-key p named is follows ∙ ap (λ (l : TextLine). lines_read p ++ l ∷ []) line }
 
 -- ---- plugs
 
@@ -220,7 +220,7 @@ form_line-op_form keys ops.Unplug = refl
 op_taken : (p : Progress) (op : Op) → IsProgress p → may_follow p.last sorts.Operation ≡ true → IsOp (bare_keys p.keys) op → IsSome (open_after false (p.section ++ op ∷ []))
     → sum_by length (sections_read p) < max_ops → sum_by unit_count_of_section (sections_read p) + unit_count op ≤ max_units → Took p (form_line (op_form p.keys op))
 op_taken p op is follows valid plugs room fits =
-    record { after = with_op p op; rules = IsProgress-op p op is follows valid plugs room fits; lines = lines_read-op p op is follows ∙ ap (λ (l : Line). lines_read p ++ l ∷ []) (form_line-op_form p.keys op) }
+    record { after = with_op p op; rules = IsProgress-op p op is follows valid plugs room fits; lines = lines_read-op p op is follows ∙ ap (λ (l : TextLine). lines_read p ++ l ∷ []) (form_line-op_form p.keys op) }
 
 -- there is room for one operation more
 room_is : (p : Progress) → IsProgress p → op_limit (forms_read p) ≡ None → sum_by length (sections_read p) < max_ops
@@ -411,12 +411,12 @@ form_taken p Unplug is follows agrees e = unplug_taken p is follows e
 form_taken p End is follows agrees e = end_taken p is follows e
 
 -- what a line has that passes
-pub record PassesAs (p : Progress) (line : Line) : Type 0 where
+pub record PassesAs (p : Progress) (line : TextLine) : Type 0 where
   pub form : Form
   pub form_is : form_of line ≡ Some form
   pub took : Took p line
 
-pub line_taken : (p : Progress) (line : Line) → IsProgress p → error_at (forms_read p) line ≡ None → PassesAs p line
+pub line_taken : (p : Progress) (line : TextLine) → IsProgress p → error_at (forms_read p) line ≡ None → PassesAs p line
 line_taken p line is e =
     let above = forms_read p in
     let a = both_passed (not (is_end (last_sort above))) why.End _ e in

@@ -3,8 +3,8 @@ use Rattle.std.proofs.Common.{◌≡◌, ℕ, ◌+◌, Bool, true, false, ◌&&�
 use Rattle.std.specs.Prelude.{◌↔◌, ◌==◌, ◌≤◌, sum_by}
 use Rattle.std.specs.List.{onto_first}
 use Rattle.std.proofs.lemmas.Bool.{and_parts}
-use Rattle.bc_text.specs.Lines.{Line, lines_of, parts_at, line_feed, space, nothing, text_of}
-use Rattle.bc_text.proofs.LineLaws.{text_of-lines_of, nothing_at}
+use Rattle.bc_text.specs.Lines.{TextLine, lines_of, parts_at, line_feed, space, nothing, lines_text}
+use Rattle.bc_text.proofs.LineLaws.{lines_text-lines_of, nothing_at}
 use Rattle.bc_script.specs.declared.sort.Sort.{Sort}
 use Rattle.bc_script.specs.declared.sort.Sort.TheVariants as sorts
 use Rattle.bc_script.specs.declared.script_error.ScriptError.{ScriptError}
@@ -29,19 +29,19 @@ none_below number None below e = (refl, e)
 none_below number (Some kind) below e = absurd cc
 
 -- all lines but the last pass, and the last is what stands behind the end
-record PassToEnd (above : List Form) (all : List Line) : Type 0 where
-  lines : List Line
-  tail : Line
+record PassToEnd (above : List Form) (all : List TextLine) : Type 0 where
+  lines : List TextLine
+  tail : TextLine
   whole : all ≡ lines ++ tail ∷ []
   pass : Pass above lines
   ends : error_at_end (forms_below above lines) tail ≡ None
 
-pass_to_end : (above : List Form) (line : Line) (lines : List Line) → first_error above (line ∷ lines) ≡ None → PassToEnd above (line ∷ lines)
+pass_to_end : (above : List Form) (line : TextLine) (lines : List TextLine) → first_error above (line ∷ lines) ≡ None → PassToEnd above (line ∷ lines)
 pass_to_end above line [] e = record { lines = []; tail = line; whole = refl; pass = tt; ends = (none_below (length above + 1) (error_at_end above line) None e).0 }
 pass_to_end above line (next ∷ lines) e =
     let parts = none_below (length above + 1) (error_at above line) (first_error (with_form (form_of line) above) (next ∷ lines)) e in
     let rest = pass_to_end (with_form (form_of line) above) next lines parts.1 in
-    record { lines = line ∷ rest.lines; tail = rest.tail; whole = ap (λ (ls : List Line). line ∷ ls) rest.whole; pass = (parts.0, rest.pass); ends = rest.ends }
+    record { lines = line ∷ rest.lines; tail = rest.tail; whole = ap (λ (ls : List TextLine). line ∷ ls) rest.whole; pass = (parts.0, rest.pass); ends = rest.ends }
 
 -- a text has one line at least
 some_part : (byte : ℕ) (text : List ℕ) → (part : List ℕ) × (parts : List (List ℕ)) × (parts_at byte text ≡ part ∷ parts)
@@ -56,13 +56,13 @@ some_part byte (b ∷ bs) = first (b == byte) refl (some_part byte bs)
 -- ---- what they say
 
 -- what has been read with all of them
-record TookAll (p : Progress) (all : List Line) : Type 0 where
+record TookAll (p : Progress) (all : List TextLine) : Type 0 where
   after : Progress
   rules : IsProgress after
   lines : lines_read after ≡ lines_read p ++ all
   forms : forms_read after ≡ forms_below (forms_read p) all
 
-all_taken : (p : Progress) (lines : List Line) → IsProgress p → Pass (forms_read p) lines → TookAll p lines
+all_taken : (p : Progress) (lines : List TextLine) → IsProgress p → Pass (forms_read p) lines → TookAll p lines
 all_taken p [] is pass = record { after = p; rules = is; lines = sym (append-nil (lines_read p)); forms = refl }
 all_taken p (line ∷ lines) is pass =
     let now = line_taken p line is pass.0 in
@@ -73,7 +73,7 @@ all_taken p (line ∷ lines) is pass =
     record {
       after = rest.after;
       rules = rest.rules;
-      lines = rest.lines ∙ ap (λ (ls : List Line). ls ++ lines) now.took.lines ∙ append_assoc (lines_read p) (line ∷ []) lines;
+      lines = rest.lines ∙ ap (λ (ls : List TextLine). ls ++ lines) now.took.lines ∙ append_assoc (lines_read p) (line ∷ []) lines;
       forms = rest.forms ∙ ap (λ (above : List Form). forms_below above lines) forms;
     }
 
@@ -119,8 +119,8 @@ has_script text e =
     let last : p.last ≡ Some sorts.End =
     is_at_end p.last (ap (λ (l : Option Sort). is_end l) (sym (last_sort-read p took.rules)) ∙ ap (λ (above : List Form). is_end (last_sort above)) took.forms ∙ ends.0) in
     let script = at_the_end p took.rules last in
-    let lines : lines_of text ≡ to_end.lines ++ nothing ∷ [] = all ∙ to_end.whole ∙ ap (λ (l : Line). to_end.lines ++ l ∷ []) (nothing_at to_end.tail ends.1) in
-    (script_read p, record { valid = script.0; text_is = text_of-lines_of text to_end.lines lines ∙ ap text_of (sym took.lines ∙ sym script.1) })
+    let lines : lines_of text ≡ to_end.lines ++ nothing ∷ [] = all ∙ to_end.whole ∙ ap (λ (l : TextLine). to_end.lines ++ l ∷ []) (nothing_at to_end.tail ends.1) in
+    (script_read p, record { valid = script.0; text_is = lines_text-lines_of text to_end.lines lines ∙ ap lines_text (sym took.lines ∙ sym script.1) })
 
 -- no line of a text fails exactly where some script has the text
 pub errors_exact : (text : List ℕ) → (error_of text ≡ None) ↔ ((s : Script) × Says text s)

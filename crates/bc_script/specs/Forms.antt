@@ -2,7 +2,7 @@
 -- fields stand as they are written.
 use Rattle.std.specs.Prelude.{ℕ, Bool, not, if◌then◌else◌, List, [], ◌∷◌, codes, Option, Some, None}
 use Rattle.std.specs.Str.{bytes_eq}
-use Rattle.bc_text.specs.Lines.{Line}
+use Rattle.bc_text.specs.Lines.{TextLine}
 use Rattle.bc_key.specs.declared.config.Mode.{Mode}
 use Rattle.bc_key.specs.declared.config.Mode.TheVariants.{Aes256Xts, Aes128CbcEssiv}
 use Rattle.bc_script.specs.ScriptText.{dash}
@@ -47,17 +47,17 @@ pub data Form : Type 0 where
 -- ---- the form of a line
 
 -- a form that has no fields but its word
-abbrev pub alone : Form → Line → Option Form
+abbrev pub alone : Form → TextLine → Option Form
 alone form [] = Some form
 alone form (field ∷ fields) = None
 
 -- a form that has one more field, and any
-abbrev pub with_one : (List ℕ → Form) → Line → Option Form
+abbrev pub with_one : (List ℕ → Form) → TextLine → Option Form
 with_one form [] = None
 with_one form (field ∷ fields) = alone (form field) fields
 
 -- a form that has one more field, which is fixed
-abbrev pub with_word : List ℕ → Form → Line → Option Form
+abbrev pub with_word : List ℕ → Form → TextLine → Option Form
 with_word word form [] = None
 with_word word form (field ∷ fields) = if bytes_eq field word then alone form fields else None
 
@@ -74,7 +74,7 @@ key_form name (Some mode) unit dun_bytes digits =
     Some (Key (record { name = name; mode = mode; unit = unit; dun_bytes = dun_bytes; digits = digits }))
 
 -- NAME MODE UNIT BYTES HEX
-abbrev pub with_key : Line → Option Form
+abbrev pub with_key : TextLine → Option Form
 with_key (name ∷ mode ∷ unit ∷ dun_bytes ∷ digits ∷ []) = key_form name (mode_of mode) unit dun_bytes digits
 with_key _ = None
 
@@ -98,18 +98,18 @@ write_form bio None = None
 write_form bio (Some text) = if dashes_agree bio then Some (Write bio text) else None
 
 -- KEY SECTOR UNITS NUMBER
-abbrev pub with_bio : Line → Option Form
+abbrev pub with_bio : TextLine → Option Form
 with_bio (key ∷ sector ∷ units ∷ number ∷ []) = read_form (record { key = key; sector = sector; units = units; number = number })
 with_bio _ = None
 
 -- KEY SECTOR UNITS NUMBER, and `fill` or `hex` with digits
-abbrev pub with_bio_and_text : Line → Option Form
+abbrev pub with_bio_and_text : TextLine → Option Form
 with_bio_and_text (key ∷ sector ∷ units ∷ number ∷ word ∷ digits ∷ []) =
     write_form (record { key = key; sector = sector; units = units; number = number }) (text_form word digits)
 with_bio_and_text _ = None
 
 -- the form that a line has by its first word and its other fields, if it has one
-abbrev pub form_of_word : List ℕ → Line → Option Form
+abbrev pub form_of_word : List ℕ → TextLine → Option Form
 form_of_word word fields =
     if bytes_eq word (codes "write") then with_bio_and_text fields
     else (if bytes_eq word (codes "read") then with_bio fields
@@ -126,7 +126,7 @@ form_of_word word fields =
     else None)))))))))))
 
 -- the form of a line, if it has one
-abbrev pub form_of : Line → Option Form
+abbrev pub form_of : TextLine → Option Form
 form_of [] = None
 form_of (word ∷ fields) = form_of_word word fields
 

@@ -1,7 +1,7 @@
 -- The order of lines: which sort of line may stand after which.
 use Rattle.std.specs.Prelude.{Bool, true, false, ◌&&◌, ◌||◌, [], ◌∷◌, codes, Option, Some, None}
 use Rattle.std.specs.Str.{bytes_eq}
-use Rattle.bc_text.specs.Lines.{Line}
+use Rattle.bc_text.specs.Lines.{TextLine}
 use Rattle.bc_script.specs.declared.sort.Sort.{Sort}
 use Rattle.bc_script.specs.declared.sort.Sort.TheVariants as sorts
 
@@ -27,7 +27,7 @@ may_follow _ _ = false
 
 -- A line of a form that isn't built yet, at a place where it may stand: software that doesn't do what no device can, a device
 -- (after the first three lines), or a planned fault (after the keys, or after the first three lines where there are none).
-abbrev pub is_unbuilt : Option Sort → Line → Bool
+abbrev pub is_unbuilt : Option Sort → TextLine → Bool
 is_unbuilt (Some sorts.Disk) (word ∷ switch ∷ []) = bytes_eq word (codes "fallback") && bytes_eq switch (codes "off")
 is_unbuilt (Some sorts.Fallback) (word ∷ fields) = bytes_eq word (codes "device") || bytes_eq word (codes "fault")
 is_unbuilt (Some sorts.Key) (word ∷ fields) = bytes_eq word (codes "fault")

@@ -2,7 +2,7 @@
 -- this; no public one does.
 use Rattle.std.specs.Prelude.{◌≡◌, ℕ, ◌≤◌, Bool, true, false, List, [], ◌∷◌, ◌++◌, length, map, flat_map, sum_by, Option, Some, None, IsSome}
 use Rattle.std.specs.List.{AllByRecursion}
-use Rattle.bc_text.specs.Lines.{Line}
+use Rattle.bc_text.specs.Lines.{TextLine}
 use Rattle.bc_script.specs.declared.named_key.NamedKey.{NamedKey}
 use Rattle.bc_script.specs.declared.op.Op.{Op}
 use Rattle.bc_script.specs.declared.sort.Sort.{Sort}
@@ -24,7 +24,7 @@ pub record Progress : Type 0 where
 -- ---- the lines that have been read
 
 -- as many of the first three as there are
-abbrev pub head_read : Option Sort → ℕ → List Line
+abbrev pub head_read : Option Sort → ℕ → List TextLine
 head_read None blocks = []
 head_read (Some sorts.Version) blocks = version_line ∷ []
 head_read (Some sorts.Disk) blocks = version_line ∷ disk_line blocks ∷ []
@@ -46,17 +46,17 @@ abbrev pub sections_read : Progress → List (List Op)
 sections_read p = p.threads ++ with_section (is_in_section p.last) p.section
 
 -- the last line, where it has been read
-abbrev pub end_read : Option Sort → List Line
+abbrev pub end_read : Option Sort → List TextLine
 end_read (Some sorts.End) = end_line ∷ []
 end_read _ = []
 
 -- all lines that have been read
-abbrev pub lines_read : Progress → List Line
+abbrev pub lines_read : Progress → List TextLine
 lines_read p =
     head_read p.last p.blocks ++ (map key_line p.keys ++ (flat_map (section_lines p.keys) (sections_read p) ++ end_read p.last))
 
 -- the forms of lines below those above, the nearest first
-abbrev pub forms_below : List Form → List Line → List Form
+abbrev pub forms_below : List Form → List TextLine → List Form
 forms_below above [] = above
 forms_below above (line ∷ lines) = forms_below (with_form (form_of line) above) lines
 

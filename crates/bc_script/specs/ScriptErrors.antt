@@ -9,7 +9,7 @@ use Rattle.std.specs.Str.{bytes_eq}
 use Rattle.std.specs.Str.Parse.{digits_value}
 use Rattle.std.specs.Fmt.{decimal}
 use Rattle.hex.specs.Hex.{encode_lower, decode_of}
-use Rattle.bc_text.specs.Lines.{Line, lines_of, is_nothing}
+use Rattle.bc_text.specs.Lines.{TextLine, lines_of, is_nothing}
 use Rattle.bc_key.specs.NumberText.{number_text}
 use Rattle.bc_key.specs.KeyRefusal.{key_refusal}
 use Rattle.bc_script.specs.declared.sort.Sort.{Sort}
@@ -192,14 +192,14 @@ error_of_form above None = Some why.Word
 error_of_form above (Some form) = first_of (may_follow (last_sort above) (sort_of form)) why.Word (tests_of above form)
 
 -- the test that a line fails
-abbrev pub error_at : List Form → Line → Why
+abbrev pub error_at : List Form → TextLine → Why
 error_at above line =
     first_of (not (is_end (last_sort above))) why.End
     (first_of (not (is_unbuilt (last_sort above) line)) why.NotBuilt
     (error_of_form above (form_of line)))
 
 -- the text ends here: after the `end` line, and with a line feed; or too early
-abbrev pub error_at_end : List Form → Line → Why
+abbrev pub error_at_end : List Form → TextLine → Why
 error_at_end above tail = first_of (is_end (last_sort above) && is_nothing tail) why.End None
 
 -- the forms above, with the form of one line more
@@ -213,7 +213,7 @@ or_below number None below = below
 or_below number (Some kind) below = Some (record { line = number; why = kind })
 
 -- The first line, from 1, that fails, and the test. The last of the lines is what stands after the last line feed.
-abbrev pub first_error : List Form → List Line → Option ScriptError
+abbrev pub first_error : List Form → List TextLine → Option ScriptError
 first_error above [] = None
 first_error above (tail ∷ []) = or_below (length above + 1) (error_at_end above tail) None
 first_error above (line ∷ next ∷ below) =

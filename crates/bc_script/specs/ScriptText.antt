@@ -3,7 +3,7 @@ use Rattle.std.specs.Prelude.{◌≡◌, ℕ, Bool, true, false, List, [], ◌�
 use Rattle.std.specs.Option.{option_map}
 use Rattle.std.specs.Fmt.{decimal}
 use Rattle.hex.specs.Hex.{encode_lower}
-use Rattle.bc_text.specs.Lines.{Line, text_of}
+use Rattle.bc_text.specs.Lines.{TextLine, lines_text}
 use Rattle.bc_text.specs.Fields.{byte_text}
 use Rattle.bc_key.specs.declared.config.Mode.{Mode}
 use Rattle.bc_key.specs.declared.config.Mode.TheVariants.{Aes256Xts, Aes128CbcEssiv}
@@ -21,11 +21,11 @@ use Rattle.bc_script.specs.Script.{Script, IsScript}
 -- ---- the first three lines
 
 -- the name of the language, and its version
-abbrev pub version_line : Line
+abbrev pub version_line : TextLine
 version_line = codes "blkcrypt" ∷ codes "1" ∷ []
 
 -- how many blocks the disk has
-abbrev pub disk_line : ℕ → Line
+abbrev pub disk_line : ℕ → TextLine
 disk_line blocks = codes "disk" ∷ decimal blocks ∷ []
 
 -- a switch
@@ -34,11 +34,11 @@ on_off true = codes "on"
 on_off false = codes "off"
 
 -- whether software does what no device can
-abbrev pub fallback_line : Bool → Line
+abbrev pub fallback_line : Bool → TextLine
 fallback_line fallback = codes "fallback" ∷ on_off fallback ∷ []
 
 -- the first three lines
-abbrev pub head_lines : Script → List Line
+abbrev pub head_lines : Script → List TextLine
 head_lines s = version_line ∷ disk_line s.blocks ∷ fallback_line s.fallback ∷ []
 
 -- ---- a line for each key
@@ -49,7 +49,7 @@ mode_text Aes256Xts = codes "aes-256-xts"
 mode_text Aes128CbcEssiv = codes "aes-128-cbc-essiv"
 
 -- the name, the mode, the data unit's bytes, the number bytes, and the key's bytes in hexadecimal digits
-abbrev pub key_line : NamedKey → Line
+abbrev pub key_line : NamedKey → TextLine
 key_line named =
     codes "key" ∷ named.name ∷ mode_text named.key.config.mode ∷ decimal (bytes_of named.key.config.unit) ∷ decimal named.key.config.dun_bytes
     ∷ encode_lower named.key.raw ∷ []
@@ -57,7 +57,7 @@ key_line named =
 -- ---- a line for each fault that is planned
 
 -- the shard, and the place in its order
-abbrev pub fault_line : ℕ × ℕ → Line
+abbrev pub fault_line : ℕ × ℕ → TextLine
 fault_line fault = codes "fault" ∷ decimal fault.0 ∷ decimal fault.1 ∷ []
 
 -- ---- a line for each thread, and one for each of its operations
@@ -81,16 +81,16 @@ number_field None = dash
 number_field (Some context) = number_text context.dun
 
 -- what a write writes, in hexadecimal digits
-abbrev pub text_fields : Text → Line
+abbrev pub text_fields : Text → TextLine
 text_fields (Fill byte) = codes "fill" ∷ byte_text byte ∷ []
 text_fields (Bytes bytes) = codes "hex" ∷ encode_lower bytes ∷ []
 
 -- the key, the sector, the number of units, and the number of the first unit
-abbrev pub bio_fields : List NamedKey → Option Context → ℕ → ℕ → Line
+abbrev pub bio_fields : List NamedKey → Option Context → ℕ → ℕ → TextLine
 bio_fields keys context sector units = key_field keys context ∷ decimal sector ∷ decimal units ∷ number_field context ∷ []
 
 -- the line of an operation
-abbrev pub op_line : List NamedKey → Op → Line
+abbrev pub op_line : List NamedKey → Op → TextLine
 op_line keys (Write context sector units text) = codes "write" ∷ (bio_fields keys context sector units ++ text_fields text)
 op_line keys (Read context sector units) = codes "read" ∷ bio_fields keys context sector units
 op_line keys (Evict key) = codes "evict" ∷ name_of keys key ∷ []
@@ -99,27 +99,27 @@ op_line keys Plug = codes "plug" ∷ []
 op_line keys Unplug = codes "unplug" ∷ []
 
 -- the line that begins a section
-abbrev pub thread_line : Line
+abbrev pub thread_line : TextLine
 thread_line = codes "thread" ∷ []
 
 -- a section's first line, and a line for each of its operations
-abbrev pub section_lines : List NamedKey → List Op → List Line
+abbrev pub section_lines : List NamedKey → List Op → List TextLine
 section_lines keys section = thread_line ∷ map (op_line keys) section
 
 -- ---- the whole text
 
 -- the last line
-abbrev pub end_line : Line
+abbrev pub end_line : TextLine
 end_line = codes "end" ∷ []
 
 -- the lines of a script: the first three, then keys, faults and sections, then the last
-abbrev pub script_lines : Script → List Line
+abbrev pub script_lines : Script → List TextLine
 script_lines s =
     head_lines s ++ (map key_line s.keys ++ (map fault_line s.faults ++ (flat_map (section_lines s.keys) s.threads ++ end_line ∷ [])))
 
 -- the one text of a script
 abbrev pub script_text : Script → List ℕ
-script_text s = text_of (script_lines s)
+script_text s = lines_text (script_lines s)
 
 -- the text is this script's
 pub record Says (text : List ℕ) (s : Script) : Type 0 where

@@ -1,7 +1,7 @@
 -- What one line states: the line that states it, whether it fits after the lines that have been read, and what is read with it.
 -- The contracts of private functions speak of this; no public one does.
 use Rattle.std.specs.Prelude.{◌≡◌, ◌+◌, ◌<◌, ◌≤◌, Bool, true, false, List, [], ◌∷◌, ◌++◌, codes, length, sum_by, Some, IsSome, Result, MatchResult, ⊤}
-use Rattle.bc_text.specs.Lines.{Line}
+use Rattle.bc_text.specs.Lines.{TextLine}
 use Rattle.bc_script.specs.declared.op.Op.{Op}
 use Rattle.bc_script.specs.declared.sort.Sort.{Sort}
 use Rattle.bc_script.specs.declared.sort.Sort.TheVariants as sorts
@@ -22,12 +22,12 @@ use Rattle.bc_script.specs.Progress.{Progress, IsProgress, forms_read, sections_
 -- ---- lines by their forms
 
 -- the last two fields of a write's line
-abbrev pub text_line : TextForm → Line
+abbrev pub text_line : TextForm → TextLine
 text_line (Fill digits) = codes "fill" ∷ digits ∷ []
 text_line (Hex digits) = codes "hex" ∷ digits ∷ []
 
 -- the one line that has this form
-abbrev pub form_line : Form → Line
+abbrev pub form_line : Form → TextLine
 form_line Version = codes "blkcrypt" ∷ codes "1" ∷ []
 form_line (Disk blocks) = codes "disk" ∷ blocks ∷ []
 form_line Fallback = codes "fallback" ∷ codes "on" ∷ []
@@ -44,7 +44,7 @@ form_line End = codes "end" ∷ []
 -- ---- items
 
 -- the line that states it
-abbrev pub line_of : List NamedKey → Statement → Line
+abbrev pub line_of : List NamedKey → Statement → TextLine
 line_of keys statements.Version = version_line
 line_of keys (statements.Disk blocks) = disk_line blocks
 line_of keys statements.Fallback = fallback_line true
@@ -122,7 +122,7 @@ pub record IsStatementOf (p : Progress) (form : Form) (statement : Statement) : 
   pub fits : Fits p statement
 
 -- the line makes the statement, which may stand after what has been read and fits
-pub record IsNext (p : Progress) (line : Line) (statement : Statement) : Type 0 where
+pub record IsNext (p : Progress) (line : TextLine) (statement : Statement) : Type 0 where
   pub rules : IsProgress p
   pub line_is : line ≡ line_of p.keys statement
   pub follows : may_follow p.last (sort_of_statement statement) ≡ true
@@ -149,7 +149,3 @@ Refuses passed kind unread.Memory = ⊤
 -- a line of this form is read as the statement that it makes, or refused by the first test that it fails
 abbrev pub ReadsForm : Progress → Form → Result Statement Unread → Type 0
 ReadsForm p form r = MatchResult r (IsStatementOf p form) (Reports (tests_of (forms_read p) form))
-
--- a field that passes its test is read as this value, and another is refused as this kind
-abbrev pub ReadsField : {X : Type 0} → (X → Type 0) → Bool → ScriptWhy → Result X Unread → Type 0
-ReadsField Says passed kind r = MatchResult r Says (Refuses passed kind)

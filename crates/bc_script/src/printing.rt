@@ -5,7 +5,7 @@ ghost use Rattle.std.specs.Fmt.{decimal};
 ghost use Rattle.hex.specs.Hex.{encode_lower};
 ghost use Rattle.bc_key.specs.DataUnits.{bytes_of};
 ghost use Rattle.bc_key.specs.NumberText.{number_text};
-ghost use Rattle.bc_text.specs.Lines.{fields_text, line_text, text_of};
+ghost use Rattle.bc_text.specs.Lines.{fields_text, line_text, lines_text};
 ghost use Rattle.bc_script.specs.ScriptText.{head_lines, disk_line, on_off, fallback_line, mode_text, key_line, fault_line, name_of, key_field, number_field, bio_fields, text_fields, op_line, section_lines, script_text};
 
 use crate::named_key::NamedKey;
@@ -41,7 +41,7 @@ pub fn print(alloc: Global, script: &Script) -> Result<Vec<u8>, AllocError>
 
 #[tactic(auto, using(crate::proofs::Printed::three_lines))]
 fn put_head(text: &mut Vec<u8>, script: &Script) -> Result<(), AllocError>
-    ensures { OnOk result (text.new.items ≡ text.old.items ++ text_of (head_lines script.now)) }
+    ensures { OnOk result (text.new.items ≡ text.old.items ++ lines_text (head_lines script.now)) }
 {
     text.extend_from_slice(b"blkcrypt 1\n")?;
     put_disk(text, script.blocks())?;
@@ -74,9 +74,9 @@ fn on_off(is_on: bool) -> &'static [u8]
 
 // ---- keys
 
-#[tactic(auto, using(crate::proofs::Printed::text_of_more))]
+#[tactic(auto, using(crate::proofs::Printed::lines_text_more))]
 fn put_keys(text: &mut Vec<u8>, keys: &[NamedKey]) -> Result<(), AllocError>
-    ensures { OnOk result (text.new.items ≡ text.old.items ++ text_of (map key_line keys.now)) }
+    ensures { OnOk result (text.new.items ≡ text.old.items ++ lines_text (map key_line keys.now)) }
 {
     for key in keys {
         put_key(text, key)?;
@@ -129,9 +129,9 @@ fn mode_text(mode: Mode) -> &'static [u8]
 
 // ---- faults
 
-#[tactic(auto, using(crate::proofs::Printed::text_of_more))]
+#[tactic(auto, using(crate::proofs::Printed::lines_text_more))]
 fn put_faults(text: &mut Vec<u8>, faults: &[(u16, u32)]) -> Result<(), AllocError>
-    ensures { OnOk result (text.new.items ≡ text.old.items ++ text_of (map fault_line faults.now)) }
+    ensures { OnOk result (text.new.items ≡ text.old.items ++ lines_text (map fault_line faults.now)) }
 {
     for fault in faults {
         put_fault(text, fault.0, fault.1)?;
@@ -159,7 +159,7 @@ fn put_sections(
     threads: &[Items<Op>],
 ) -> Result<(), AllocError>
     ensures { OnOk result
-        (text.new.items ≡ text.old.items ++ text_of (flat_map (section_lines keys.now) threads.now)) }
+        (text.new.items ≡ text.old.items ++ lines_text (flat_map (section_lines keys.now) threads.now)) }
 {
     for section in threads {
         put_section(text, keys, section.as_slice())?;
@@ -167,9 +167,9 @@ fn put_sections(
     Ok(())
 }
 
-#[tactic(auto, using(crate::proofs::Printed::text_of_more))]
+#[tactic(auto, using(crate::proofs::Printed::lines_text_more))]
 fn put_section(text: &mut Vec<u8>, keys: &[NamedKey], section: &[Op]) -> Result<(), AllocError>
-    ensures { OnOk result (text.new.items ≡ text.old.items ++ text_of (section_lines keys.now section.now)) }
+    ensures { OnOk result (text.new.items ≡ text.old.items ++ lines_text (section_lines keys.now section.now)) }
 {
     text.extend_from_slice(b"thread\n")?;
     for op in section {

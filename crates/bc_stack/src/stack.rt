@@ -139,7 +139,8 @@ fn end_of_piece(
     requires within { first < count_units (tagged_bios request.now.bios) }
     requires device { option_map (device_of targets.now)
         (slice_get (units_of_request keys.now.keys (tagged_bios request.now.bios)) first) ≡ Some device }
-    ensures end { EndsPiece targets.now (units_of_request keys.now.keys (tagged_bios request.now.bios)) first device result }
+    ensures end { EndsPiece targets.now (units_of_request keys.now.keys (tagged_bios request.now.bios)) first device
+        result }
     ensures most { result ≤ count_units (tagged_bios request.now.bios) }
 {
     let units = request.units();

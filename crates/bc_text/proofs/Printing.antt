@@ -3,19 +3,19 @@ use Rattle.std.proofs.Common.{◌≡◌, ℕ, ◌+◌, ◌<◌, List, [], ◌∷
 use Rattle.std.proofs.lemmas.List.{take_more, map_push, append-nil}
 use Rattle.std.proofs.lemmas.List.Concat.{flat_map-append}
 use Rattle.hex.specs.Hex.{encode_with, encode_lower, lower_digits}
-use Rattle.bc_text.specs.Lines.{Line, line_text, text_of}
+use Rattle.bc_text.specs.Lines.{TextLine, line_text, lines_text}
 
-pub text_of-append : (a b : List Line) → text_of (a ++ b) ≡ text_of a ++ text_of b
-text_of-append a b = flat_map-append line_text a b
+pub lines_text-append : (a b : List TextLine) → lines_text (a ++ b) ≡ lines_text a ++ lines_text b
+lines_text-append a b = flat_map-append line_text a b
 
 -- one line more
-pub text_of_more : {X : Type 0} (f : X → Line) (xs : List X) (i : ℕ) (d : X) (old new : List ℕ) → i < length xs → new ≡ (old ++ text_of (map f (take i xs))) ++ line_text (f (get_or xs i d))
-    → new ≡ old ++ text_of (map f (take (i + 1) xs))
-text_of_more f xs i d old new lt e =
-    let step : text_of (map f (take (i + 1) xs)) ≡ text_of (map f (take i xs)) ++ line_text (f (get_or xs i d)) =
-    ap (λ (t : List _). text_of (map f t)) (take_more xs i d lt) ∙ ap text_of (map_push f (take i xs) (get_or xs i d)) ∙ text_of-append (map f (take i xs)) (f (get_or xs i d) ∷ [])
-    ∙ ap (λ (t : List ℕ). text_of (map f (take i xs)) ++ t) (append-nil (line_text (f (get_or xs i d)))) in
-    e ∙ append_assoc old (text_of (map f (take i xs))) (line_text (f (get_or xs i d))) ∙ ap (λ (t : List ℕ). old ++ t) (sym step)
+pub lines_text_more : {X : Type 0} (f : X → TextLine) (xs : List X) (i : ℕ) (d : X) (old new : List ℕ) → i < length xs → new ≡ (old ++ lines_text (map f (take i xs))) ++ line_text (f (get_or xs i d))
+    → new ≡ old ++ lines_text (map f (take (i + 1) xs))
+lines_text_more f xs i d old new lt e =
+    let step : lines_text (map f (take (i + 1) xs)) ≡ lines_text (map f (take i xs)) ++ line_text (f (get_or xs i d)) =
+    ap (λ (t : List _). lines_text (map f t)) (take_more xs i d lt) ∙ ap lines_text (map_push f (take i xs) (get_or xs i d)) ∙ lines_text-append (map f (take i xs)) (f (get_or xs i d) ∷ [])
+    ∙ ap (λ (t : List ℕ). lines_text (map f (take i xs)) ++ t) (append-nil (line_text (f (get_or xs i d)))) in
+    e ∙ append_assoc old (lines_text (map f (take i xs))) (line_text (f (get_or xs i d))) ∙ ap (λ (t : List ℕ). old ++ t) (sym step)
 
 -- ---- one byte more, in hexadecimal digits
 

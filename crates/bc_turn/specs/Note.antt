@@ -2,6 +2,7 @@
 -- don't.
 use Rattle.std.specs.Prelude.{ℕ}
 
+-- what one entry says of a slot
 pub data Note : Type 0 where
   -- the slot was programmed with a key
   programming : ℕ → ℕ → Note

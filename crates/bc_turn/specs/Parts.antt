@@ -49,7 +49,8 @@ module _ {E B : Type 0} where
 
   -- the pass is one of these turns
   abbrev pub IsOf : TurnsData B → Pass E B → Type 0
-  IsOf t p = (p.caller < t.callers) × (map part_key p.parts ≡ map cell_key t.cells) × Each (λ q. q.caller ≡ p.caller) p.parts
+  IsOf t p = (p.caller < t.callers) × (map part_key p.parts ≡ map cell_key t.cells)
+      × Each (λ q. q.caller ≡ p.caller) p.parts
 
   -- one part of the pass changed, in such a way
   abbrev pub Changes : Pass E B → Pass E B → ℕ → (Part E B → Part E B → Type 0) → Type 0
@@ -109,12 +110,14 @@ part_of s = part s.table_id (mine s.me.0).number s.me.0.base (mine s.me.0).seen 
 
 -- the seat is a caller's, at rest or with the value. The counts are those of its own entries, and of all entries of the value
 abbrev pub IsPost : {V E B : Type 0} → (E → ℕ) → Seat (Option V) (View E B) → ℕ → ℕ → Type 0
-IsPost by s made held = (AtRest s.me ⊎ (Holding s.me × (held ≡ length (mine s.me.0).seen))) × (made ≡ length (own by (mine s.me.0).number (mine s.me.0).seen))
+IsPost by s made held = (AtRest s.me ⊎ (Holding s.me × (held ≡ length (mine s.me.0).seen)))
+    × (made ≡ length (own by (mine s.me.0).number (mine s.me.0).seen))
 
 module _ {V E B : Type 0} (entries : V → List E) (kept : B → V → Type 0) (by : E → ℕ) where
   -- the value begins with all that was seen, keeps to the base of opening, and has of this caller what was seen of it alone
   abbrev pub Continues : Part E B → V → Type 0
-  Continues q v = StartsWith (entries v) q.seen × (own by q.caller (entries v) ≡ own by q.caller q.seen) × IfSome q.base (λ b. kept b v) × (length (entries v) < 2 ^ 62)
+  Continues q v = StartsWith (entries v) q.seen × (own by q.caller (entries v) ≡ own by q.caller q.seen)
+      × IfSome q.base (λ b. kept b v) × (length (entries v) < 2 ^ 62)
 
   -- the value was taken
   abbrev pub Takes : Part E B → V → Part E B → Type 0
@@ -126,20 +129,25 @@ module _ {V E B : Type 0} (entries : V → List E) (kept : B → V → Type 0) (
 
   -- the value is the taken one followed by entries of this caller
   abbrev pub GoesOn : Part E B → V → Type 0
-  GoesOn q v = ((new : List E) × (entries v ≡ q.seen ++ new) × Each (λ x. by x ≡ q.caller) new) × IfSome q.base (λ b. kept b v) × (length (entries v) < 2 ^ 62)
+  GoesOn q v = ((new : List E) × (entries v ≡ q.seen ++ new) × Each (λ x. by x ≡ q.caller) new)
+      × IfSome q.base (λ b. kept b v) × (length (entries v) < 2 ^ 62)
 
   -- a caller had the turn in between: it found v, and left v'
   abbrev pub Visits : Part E B → V → V → Part E B → Type 0
-  Visits q v v' q' = Continues q v × (q.missed ≤ q'.missed) × (q' ≡ part q.cell q.caller q.base (entries v') q'.missed false)
+  Visits q v v' q' = Continues q v × (q.missed ≤ q'.missed)
+      × (q' ≡ part q.cell q.caller q.base (entries v') q'.missed false)
 
   -- the story was seen as long as the count says
   abbrev pub Counts : Part E B → Part E B → ℕ → Type 0
-  Counts q q' n = (q' ≡ with_seen q q'.seen) × StartsWith q'.seen q.seen × (own by q.caller q'.seen ≡ own by q.caller q.seen) × (length q'.seen ≡ n)
+  Counts q q' n = (q' ≡ with_seen q q'.seen) × StartsWith q'.seen q.seen
+      × (own by q.caller q'.seen ≡ own by q.caller q.seen) × (length q'.seen ≡ n)
 
   -- what a pass has seen of a cell is a prefix of the story at the end, which has of its caller what it made alone
   abbrev pub Ends : ℕ → V → Pass E B → Type 0
-  Ends k v p = AllAt p.parts k (λ q. StartsWith (entries v) q.seen × (own by p.caller (entries v) ≡ own by p.caller q.seen))
+  Ends k v p = AllAt p.parts k (λ q. StartsWith (entries v) q.seen
+      × (own by p.caller (entries v) ≡ own by p.caller q.seen))
 
   -- the value of a cell at the end: it has the base of opening, what each pass made, and nothing of others
   abbrev pub IsClosed : TurnsData B → List (Pass E B) → ℕ → V → Type 0
-  IsClosed t passes k v = AllAt t.cells k (λ c. kept c.base v) × Each (Ends k v) passes × ((c : ℕ) → t.callers ≤ c → own by c (entries v) ≡ [])
+  IsClosed t passes k v = AllAt t.cells k (λ c. kept c.base v) × Each (Ends k v) passes
+      × ((c : ℕ) → t.callers ≤ c → own by c (entries v) ≡ [])

@@ -53,7 +53,8 @@ newcomers (suc n) = account n [] 0 false ∷ newcomers n
 module _ {E : Type 0} (by : E → ℕ) where
   -- the account begins the story, has all of its caller's entries, and the whole story while it has the turn
   abbrev pub Fits : List E → Account E → Type 0
-  Fits story a = StartsWith story a.seen × (own by a.number story ≡ own by a.number a.seen) × (a.has ≡ true → a.seen ≡ story)
+  Fits story a = StartsWith story a.seen × (own by a.number story ≡ own by a.number a.seen)
+      × (a.has ≡ true → a.seen ≡ story)
 
 -- a seat that stands for a caller knows the base
 abbrev pub Based : {E B : Type 0} → B → View E B → Type 0
@@ -123,15 +124,19 @@ module _ {V E B : Type 0} (entries : V → List E) (kept : B → V → Type 0) (
 
   -- the value begins with what the caller had seen, and has its own entries and the base
   abbrev pub Follows : View E B → V → Type 0
-  Follows v x = StartsWith (entries x) (mine v).seen × (own by (mine v).number (entries x) ≡ own by (mine v).number (mine v).seen) × IfSome v.base (λ b. kept b x) × (length (entries x) < 2 ^ 62)
+  Follows v x = StartsWith (entries x) (mine v).seen
+      × (own by (mine v).number (entries x) ≡ own by (mine v).number (mine v).seen) × IfSome v.base (λ b. kept b x)
+      × (length (entries x) < 2 ^ 62)
 
   -- the turn was got: the value is out with the seat
   abbrev pub Got : S → S → Type 0
-  Got m m' = (x : V) × (m'.1 ≡ (0, Some x) ∷ m.1) × (m'.0 ≡ view_of m.0.base (account (mine m.0).number (entries x) (mine m.0).missed true ∷ [])) × Follows m.0 x
+  Got m m' = (x : V) × (m'.1 ≡ (0, Some x) ∷ m.1)
+      × (m'.0 ≡ view_of m.0.base (account (mine m.0).number (entries x) (mine m.0).missed true ∷ [])) × Follows m.0 x
 
   -- the turn was another's
   abbrev pub Missed : S → S → Type 0
-  Missed m m' = (m'.1 ≡ m.1) × (m'.0 ≡ view_of m.0.base (account (mine m.0).number (mine m.0).seen ((mine m.0).missed + 1) (mine m.0).has ∷ []))
+  Missed m m' = (m'.1 ≡ m.1) × (m'.0 ≡ view_of m.0.base
+      (account (mine m.0).number (mine m.0).seen ((mine m.0).missed + 1) (mine m.0).has ∷ []))
 
   -- what the fetch tells its caller
   abbrev pub tried : Step (Option V) → S → ℕ → S → Type 0
@@ -139,12 +144,16 @@ module _ {V E B : Type 0} (entries : V → List E) (kept : B → V → Type 0) (
 
   -- what the store tells its caller
   abbrev pub gave : Step (Option V) → S → ℕ → S → Type 0
-  gave st m r m' = (m'.1 ≡ rest m.1) × ((v : V) (xs : List (ℕ × Option V)) → m.1 ≡ (0, Some v) ∷ xs → m'.0 ≡ view_of m.0.base (account (mine m.0).number (entries v) (mine m.0).missed false ∷ []))
+  gave st m r m' = (m'.1 ≡ rest m.1) × ((v : V) (xs : List (ℕ × Option V)) → m.1 ≡ (0, Some v) ∷ xs
+      → m'.0 ≡ view_of m.0.base (account (mine m.0).number (entries v) (mine m.0).missed false ∷ []))
 
   -- the story was seen as long as the word says
   abbrev pub Counted : S → S → ℕ → Type 0
-  Counted m m' n = (m'.1 ≡ m.1) × (m'.0.base ≡ m.0.base) × Alone m'.0 × ((mine m'.0).number ≡ (mine m.0).number) × ((mine m'.0).has ≡ (mine m.0).has) × ((mine m'.0).missed ≡ (mine m.0).missed)
-      × StartsWith (mine m'.0).seen (mine m.0).seen × (own by (mine m.0).number (mine m'.0).seen ≡ own by (mine m.0).number (mine m.0).seen) × (length (mine m'.0).seen ≡ n)
+  Counted m m' n = (m'.1 ≡ m.1) × (m'.0.base ≡ m.0.base) × Alone m'.0 × ((mine m'.0).number ≡ (mine m.0).number)
+      × ((mine m'.0).has ≡ (mine m.0).has) × ((mine m'.0).missed ≡ (mine m.0).missed)
+      × StartsWith (mine m'.0).seen (mine m.0).seen
+      × (own by (mine m.0).number (mine m'.0).seen ≡ own by (mine m.0).number (mine m.0).seen)
+      × (length (mine m'.0).seen ≡ n)
       × ((mine m.0).has ≡ true → (mine m'.0).seen ≡ (mine m.0).seen)
 
   -- what the load tells its caller
@@ -163,16 +172,20 @@ module _ {V E B : Type 0} where
 
   -- the same seat of the same cell, for the same caller
   abbrev pub SameSeat : Seat (Option V) (View E B) → Seat (Option V) (View E B) → Type 0
-  SameSeat p q = (q.table_id ≡ p.table_id) × (q.id ≡ p.id) × (q.me.0.base ≡ p.me.0.base) × ((mine q.me.0).number ≡ (mine p.me.0).number)
+  SameSeat p q = (q.table_id ≡ p.table_id) × (q.id ≡ p.id) × (q.me.0.base ≡ p.me.0.base)
+      × ((mine q.me.0).number ≡ (mine p.me.0).number)
 
   -- nothing was got, and the turn was found with another k times
   abbrev pub Stayed : Me (Option V) (View E B) → Me (Option V) (View E B) → ℕ → Type 0
   Stayed m m' k = AtRest m' × ((mine m'.0).seen ≡ (mine m.0).seen) × ((mine m'.0).missed ≡ (mine m.0).missed + k)
 
 -- the value was taken, and its story is what the seat has seen
-abbrev pub Took : {V E B : Type 0} → (V → List E) → (B → V → Type 0) → (E → ℕ) → Me (Option V) (View E B) → V → Me (Option V) (View E B) → Type 0
-Took entries kept by m v m' = Holding m' × Follows entries kept by m.0 v × ((mine m'.0).seen ≡ entries v) × ((mine m.0).missed ≤ (mine m'.0).missed)
+abbrev pub Took : {V E B : Type 0} → (V → List E) → (B → V → Type 0) → (E → ℕ) → Me (Option V) (View E B) → V
+    → Me (Option V) (View E B) → Type 0
+Took entries kept by m v m' = Holding m' × Follows entries kept by m.0 v × ((mine m'.0).seen ≡ entries v)
+    × ((mine m.0).missed ≤ (mine m'.0).missed)
 
 -- the value goes on from what the seat has seen by entries of its caller, and its base is unchanged
 abbrev pub GoesOn : {V E B : Type 0} → (V → List E) → (B → V → Type 0) → (E → ℕ) → View E B → V → Type 0
-GoesOn {E = E} entries kept by w v = ((new : List E) × (entries v ≡ (mine w).seen ++ new) × Each (λ x. by x ≡ (mine w).number) new) × IfSome w.base (λ b. kept b v) × (length (entries v) < 2 ^ 62)
+GoesOn {E = E} entries kept by w v = ((new : List E) × (entries v ≡ (mine w).seen ++ new)
+    × Each (λ x. by x ≡ (mine w).number) new) × IfSome w.base (λ b. kept b v) × (length (entries v) < 2 ^ 62)
