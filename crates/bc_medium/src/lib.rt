@@ -10,6 +10,7 @@ mod via;
 
 // shards
 mod shard;
+mod opened_shard;
 mod shards;
 
 // laws of orders
