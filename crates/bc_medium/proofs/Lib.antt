@@ -1,3 +1,5 @@
 pub mod Orders
 pub mod Chosen
 pub mod Told
+pub mod Quotas
+pub mod Access

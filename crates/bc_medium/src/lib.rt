@@ -13,12 +13,17 @@ mod shard;
 mod opened_shard;
 mod shards;
 
+// shards behind turns
+mod medium;
+mod opening;
+
 // laws of orders
 mod laws;
 
 pub use entry::Entry;
 pub use fault::Fault;
 pub use laws::order_laws;
+pub use medium::{Medium, MediumPass};
 pub use shards::Shards;
 pub use unit_at::UnitAt;
 pub use unit_name::UnitName;

@@ -9,10 +9,12 @@ ghost use Rattle.bc_medium.specs.Entries.{written_entry, read_entry, failed_entr
 ghost use Rattle.bc_medium.specs.ShardOrder.{EntersNext, KeepsOrder, KeepsAnyOrder, StandsInOrder, FailsInOrder};
 
 use crate::entry::Entry;
+use crate::opening::Opening;
 use crate::unit_at::UnitAt;
 use crate::via::Via;
 use bc_base::{Items, Store};
 use bc_bio::Access;
+use bc_turn::Story;
 use std::alloc::{AllocError, Global};
 use std::marker::Model;
 
@@ -36,6 +38,28 @@ impl<S: Store> Model for Shard<S> {
     } };
 
     ghost invariant = { λ s. (length s.entries.items ≤ vec_capacity s.entries) × (vec_capacity s.entries < 2 ^ 32) };
+}
+
+impl<S: Store> Story for Shard<S> {
+    ghost use Rattle.bc_turn.specs.Note as notes;
+    ghost use Rattle.bc_medium.specs.Entries.{caller_of};
+    ghost use Rattle.bc_medium.specs.Medium.{Keeps};
+
+    type Base = Opening<S>;
+
+    type Item = Entry;
+
+    ghost entries_of = { λ s. s.entries };
+
+    ghost keeps = { Keeps S.owns S.contents S.told S.faults };
+
+    ghost by = { caller_of };
+
+    ghost note = { λ e. notes.none };
+
+    fn entries(&self) -> u64 {
+        self.entries.len() as u64
+    }
 }
 
 impl<S: Store> Shard<S> {

@@ -182,7 +182,7 @@ impl<S: Store + Drop> Shards<S> {
 }
 
 /// The last first.
-fn turn_round<T>(items: &mut Vec<T>)
+pub(crate) fn turn_round<T>(items: &mut Vec<T>)
     ensures items { items.new.items ≡ reverse items.old.items }
     ensures length { vec_len items.new ≡ vec_len items.old }
 {
