@@ -1,16 +1,15 @@
 -- One access through a turn: what is known once the shard was taken, and what holds once it was given back.
-use Rattle.std.proofs.Common.{◌≡◌, ◌≢◌, ◌⊎◌, inl, inr, ⊎_elim, ℕ, zero, suc, ◌+◌, ◌*◌, ◌/◌, ◌-◌, ◌<◌, ◌≤◌, ◌^◌, Bool, true, false, List, [], ◌∷◌, ◌++◌, map, length, set, get_or, take, drop, refl, sym, ap, ap₂, ◌∙◌, subst, arith, length-append, append-nil, eq-eqb, Some, None, Option}
-use Rattle.std.specs.Prelude.{IfSome, IfOk, IfErr, Result, Ok, Err, slice_get}
-use Rattle.std.proofs.lemmas.List.{length-map, set-set}
+use Rattle.std.proofs.Common.{◌≡◌, ℕ, zero, suc, ◌+◌, ◌*◌, ◌/◌, ◌<◌, ◌≤◌, ◌^◌, Bool, true, false, List, [], ◌∷◌, ◌++◌, map, length, set, get_or, take, drop, refl, sym, ap, ap₂, ◌∙◌, subst, arith, Some, Option}
+use Rattle.std.specs.Prelude.{IfSome, IfOk, IfErr, Result, Ok, Err}
+use Rattle.std.proofs.lemmas.List.{set-set}
 use Rattle.std.proofs.lemmas.Option.{none-some, same_Some}
 use Rattle.bc_base.specs.Lists.{Each, At, AllAt, list_at}
 use Rattle.bc_base.specs.Sectors.{Sectors}
 use Rattle.bc_base.specs.Stores.{ToldCalls, IsPiece, IsPieceOf}
 use Rattle.bc_base.specs.Story.{own, StartsWith}
-use Rattle.bc_base.proofs.Lists.{each_at, each_set, all_at, at_map, at_one}
-use Rattle.bc_base.proofs.Stories.{own-append}
+use Rattle.bc_base.proofs.Lists.{each_at, each_set, all_at, at_one}
 use Rattle.bc_key.specs.KeyData.{KeyData}
-use Rattle.bc_turn.specs.Parts.{Part, Pass, CellData, Changes, IsOf, part, part_key, cell_key, without_turn, TakesLater, GoesOn}
+use Rattle.bc_turn.specs.Parts.{Part, Pass, CellData, Changes, IsOf, part_key, cell_key, without_turn, TakesLater, GoesOn}
 use Rattle.bc_medium.specs.declared.entry.Entry.{Entry}
 use Rattle.bc_medium.specs.Places.{shard_of}
 use Rattle.bc_medium.specs.Entries.{caller_of, Stand}
@@ -24,7 +23,7 @@ pub either_way : {X Y : Type 0} (r : Result X Y) (P : X → Type 0) (Q : Y → T
 either_way (Ok x) P Q R f g p q = f x p
 either_way (Err y) P Q R f g p q = g y q
 
-key_at : {A C D : Type 0} (f : A → D) (g : C → D) (xs : List A) (ys : List C) (k : ℕ) (x : A) → map f xs ≡ map g ys → At xs k x → (y : C) × At ys k y × (f x ≡ g y)
+pub key_at : {A C D : Type 0} (f : A → D) (g : C → D) (xs : List A) (ys : List C) (k : ℕ) (x : A) → map f xs ≡ map g ys → At xs k x → (y : C) × At ys k y × (f x ≡ g y)
 key_at f g [] ys k x e at = absurd (none-some x at)
 key_at f g (a ∷ xs) [] k x e at = let l = ap length e in absurd (omega arith)
 key_at f g (a ∷ xs) (b ∷ ys) zero x e at = (b, refl, ap f (sym (same_Some a x at)) ∙ ap (λ l. get_or l 0 (f a)) e)
@@ -113,7 +112,7 @@ module _ {S : Type 0} (owns : S → ℕ → Bool) (contents : S → Option Secto
       let base : q.base ≡ Some r.cell.base = ap (λ (z : Q). z.base) (sym same_q) ∙ r.based in
       let number : q.caller ≡ p.caller = each_at (λ (z : Q). z.caller ≡ p.caller) p.parts k q of.0.2 at in
       let keeps : kept r.cell.base v' = keeps_more owns contents told faults r.cell.base v v' e r.keeps (subst (λ n. length (own caller_of n v.entries) < quota_of r.cell.base.quotas n) (sym mine) r.less)
-          (subst (λ ks. IsOrder owns contents told faults r.cell.base.store (Some ks) v'.store v'.entries) (sym r.keys) order) more spare in
+      (subst (λ ks. IsOrder owns contents told faults r.cell.base.store (Some ks) v'.store v'.entries) (sym r.keys) order) more spare in
       let one : (z : Q) → At p1.parts k z → q1 ≡ z = λ z here. at_changed p.parts k q q1 z at (subst (λ l. At l k z) sets here) in
       let by_me : caller_of e ≡ q1.caller = mine ∙ sym number ∙ sym (ap (λ (z : Q). z.caller) t.2) in
       let goes : (q1.holds ≡ true) × GoesOn entries kept caller_of q1 v' = (

@@ -2,7 +2,7 @@
 use Rattle.std.proofs.Common.{◌≡◌, ℕ, zero, suc, ◌+◌, ◌<◌, ◌≤◌, List, [], ◌∷◌, ◌++◌, map, length, set, get_or, drop, sym, ap, ap₂, ◌∙◌, subst, arith, append_assoc, length-append, refl, ◌≢◌}
 use Rattle.std.proofs.lemmas.List.{reverse-append, drop_more}
 use Rattle.std.specs.Prelude.{◌↔◌, IfSome, Contains, Option}
-use Rattle.std.proofs.lemmas.Option.{none-some, same_Some, get_or_from_slice_get}
+use Rattle.std.proofs.lemmas.Option.{none-some, get_or_from_slice_get}
 use mathlib.Core.List.{reverse}
 use Rattle.bc_base.specs.declared.place.Place.{Place}
 use Rattle.bc_base.specs.Lists.{At, ChangesAt, list_at}

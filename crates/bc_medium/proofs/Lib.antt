@@ -3,3 +3,5 @@ pub mod Chosen
 pub mod Told
 pub mod Quotas
 pub mod Access
+pub mod Openings
+pub mod Ends

@@ -160,3 +160,21 @@ module _ {S : Type 0} (owns : S → ℕ → Bool) (contents : S → Option Secto
 pub on_ok : {X Y : Type 0} (r : Result X Y) (P Q : Type 0) → (P → Q) → OnOk r P → OnOk r Q
 on_ok (Ok x) P Q f p = f p
 on_ok (Err y) P Q f p = p
+
+leaves_none : (keys : List KeyData) (o : Option Sectors) → Leaves keys o [] o
+leaves_none keys None = refl
+leaves_none keys (Some disk) = λ s. refl
+
+calls_none : (o : Option ToldCalls) → IfSome o (λ t. t.calls ≡ 0) → CallsAre o [] o
+calls_none None none = refl
+calls_none (Some t) none = (tt, (refl, none))
+
+-- a store at opening
+pub order_new : {S : Type 0} (owns : S → ℕ → Bool) (contents : S → Option Sectors) (told : S → Option ToldCalls) (faults : S → ℕ) (store : S) (given : Option (List KeyData)) → IfSome (told store) (λ t. t.calls ≡ 0) → IsOrder owns contents told faults store given store []
+order_new owns contents told faults store given none = record {
+  owned = λ s. refl;
+  leaves = leaves_none (keys_or_none given) (contents store);
+  calls = calls_none (told store) none;
+  counted = λ small. omega arith;
+  quiet = λ e. tt;
+}

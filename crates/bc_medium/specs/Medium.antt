@@ -8,7 +8,7 @@ use Rattle.bc_base.specs.Story.{own, IsFront}
 use Rattle.bc_base.specs.Stores.{ToldCalls, IsPiece}
 use Rattle.bc_key.specs.KeyData.{KeyData}
 use Rattle.bc_key.specs.KeyList.{KeyList}
-use Rattle.bc_turn.specs.Parts.{Part, Pass, CellData, TurnsData, IsOf}
+use Rattle.bc_turn.specs.Parts.{Part, Pass, TurnsData, IsOf}
 use Rattle.bc_medium.specs.declared.entry.Entry.{Entry}
 use Rattle.bc_medium.specs.declared.unit_name.UnitName.{UnitName}
 use Rattle.bc_medium.specs.Places.{shard_of}

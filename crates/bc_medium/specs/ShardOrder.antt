@@ -1,5 +1,5 @@
 -- The order of one shard: its entries, and what the keyed disk leaves along them on the shard's store.
-use Rattle.std.specs.Prelude.{◌≡◌, ◌↔◌, ◌⊎◌, ℕ, ◌+◌, ◌-◌, ◌/◌, ◌^◌, ◌<◌, ◌≤◌, Bool, true, if◌then◌else◌, List, [], ◌∷◌, ◌++◌, length, Option, Some, None, IfSome, IsSomeAnd, Contains, ⊤}
+use Rattle.std.specs.Prelude.{◌≡◌, ◌↔◌, ◌⊎◌, ℕ, ◌+◌, ◌-◌, ◌^◌, ◌<◌, ◌≤◌, Bool, true, if◌then◌else◌, List, [], ◌∷◌, ◌++◌, length, Option, Some, None, IfSome, IsSomeAnd, Contains, ⊤}
 use Rattle.std.specs.Option.{unwrap_or}
 use Rattle.bc_base.specs.Lists.{Each}
 use Rattle.bc_base.specs.Stores.{ToldCalls}

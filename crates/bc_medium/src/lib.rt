@@ -9,8 +9,8 @@ mod unit_name;
 mod via;
 
 // shards
-mod shard;
 mod opened_shard;
+mod shard;
 mod shards;
 
 // shards behind turns

@@ -1,4 +1,4 @@
-use Rattle.std.proofs.Common.{rules, ◌≡◌, ◌↔◌, length, true, false, take, Some, refl, ap, sym, ◌∙◌, subst}
+use Rattle.std.proofs.Common.{rules, ◌≡◌, ◌↔◌, true, false, take, Some, refl, ap, sym, subst}
 use Rattle.std.specs.Prelude.{IfSome, Contains}
 use Rattle.bc_base.specs.Lists.{Each, AllAt, list_at}
 use Rattle.bc_bio.specs.declared.access.Access.TheVariants.{Read}
@@ -29,8 +29,8 @@ give-requires-clause-held g c =
     let same = subst (λ m. Each (λ d. d.base.keys ≡ m.keys.keys) m.turns.cells) c.self.view_is c.self.invariant.same_keys in
     let r = ready g.S.Store.owns g.S.Store.contents g.S.Store.told g.S.Store.faults c.args.self.now c.args.pass.now c.take-value.new.pass c.shard_of-shard.result c.args.at.sector (unit_sectors c.args.self.now.keys.keys c.args.at.context) c.take-value.result c.requires.pass same c.shard_of-shard.ensures.shard c.requires.spare c.requires.sectors c.take-value.ensures.took in
     either_way c.read-outcome.result _ _ (AllAt c.take-value.new.pass.parts c.shard_of-shard.result (λ q. (q.holds ≡ true) × GoesOn (λ v. v.entries) (Keeps g.S.Store.owns g.S.Store.contents g.S.Store.told g.S.Store.faults) caller_of q c.read-outcome.new.self))
-        (λ x e. (visit g.S.Store.owns g.S.Store.contents g.S.Store.told g.S.Store.faults c.args.self.now c.args.pass.now c.take-value.new.pass c.shard_of-shard.result c.args.at.sector (unit_sectors c.args.self.now.keys.keys c.args.at.context) c.take-value.result c.read-outcome.new.self (read_entry c.args.at c.args.via) r c.requires.pass c.requires.caller c.take-value.ensures.took (subst (λ ks. IsOrder g.S.Store.owns g.S.Store.contents g.S.Store.told g.S.Store.faults r.cell.base.store (Some ks) c.read-outcome.new.self.store c.read-outcome.new.self.entries) r.keys (c.read-outcome.ensures.order r.cell.base.store (Some r.cell.base.keys) r.keeps.order)) e.1 e.2 c.read-outcome.ensures.small).may_give)
-        (λ x e. (visit g.S.Store.owns g.S.Store.contents g.S.Store.told g.S.Store.faults c.args.self.now c.args.pass.now c.take-value.new.pass c.shard_of-shard.result c.args.at.sector (unit_sectors c.args.self.now.keys.keys c.args.at.context) c.take-value.result c.read-outcome.new.self (failed_entry Read c.args.at c.args.via) r c.requires.pass c.requires.caller c.take-value.ensures.took (subst (λ ks. IsOrder g.S.Store.owns g.S.Store.contents g.S.Store.told g.S.Store.faults r.cell.base.store (Some ks) c.read-outcome.new.self.store c.read-outcome.new.self.entries) r.keys (c.read-outcome.ensures.order r.cell.base.store (Some r.cell.base.keys) r.keeps.order)) e.1 e.2 c.read-outcome.ensures.small).may_give) c.read-outcome.ensures.ok c.read-outcome.ensures.fault
+    (λ x e. (visit g.S.Store.owns g.S.Store.contents g.S.Store.told g.S.Store.faults c.args.self.now c.args.pass.now c.take-value.new.pass c.shard_of-shard.result c.args.at.sector (unit_sectors c.args.self.now.keys.keys c.args.at.context) c.take-value.result c.read-outcome.new.self (read_entry c.args.at c.args.via) r c.requires.pass c.requires.caller c.take-value.ensures.took (subst (λ ks. IsOrder g.S.Store.owns g.S.Store.contents g.S.Store.told g.S.Store.faults r.cell.base.store (Some ks) c.read-outcome.new.self.store c.read-outcome.new.self.entries) r.keys (c.read-outcome.ensures.order r.cell.base.store (Some r.cell.base.keys) r.keeps.order)) e.1 e.2 c.read-outcome.ensures.small).may_give)
+    (λ x e. (visit g.S.Store.owns g.S.Store.contents g.S.Store.told g.S.Store.faults c.args.self.now c.args.pass.now c.take-value.new.pass c.shard_of-shard.result c.args.at.sector (unit_sectors c.args.self.now.keys.keys c.args.at.context) c.take-value.result c.read-outcome.new.self (failed_entry Read c.args.at c.args.via) r c.requires.pass c.requires.caller c.take-value.ensures.took (subst (λ ks. IsOrder g.S.Store.owns g.S.Store.contents g.S.Store.told g.S.Store.faults r.cell.base.store (Some ks) c.read-outcome.new.self.store c.read-outcome.new.self.entries) r.keys (c.read-outcome.ensures.order r.cell.base.store (Some r.cell.base.keys) r.keeps.order)) e.1 e.2 c.read-outcome.ensures.small).may_give) c.read-outcome.ensures.ok c.read-outcome.ensures.fault
 
 pub returns-in-Ok-clause-pass : goal.returns-in-Ok-clause-pass
 returns-in-Ok-clause-pass g c =
@@ -60,7 +60,7 @@ returns-in-Ok-clause-stood g c =
     let s = (visit g.S.Store.owns g.S.Store.contents g.S.Store.told g.S.Store.faults c.args.self.now c.args.pass.now c.take-value.new.pass c.shard_of-shard.result c.args.at.sector (unit_sectors c.args.self.now.keys.keys c.args.at.context) c.take-value.result c.read-outcome.new.self (read_entry c.args.at c.args.via) r c.requires.pass c.requires.caller c.take-value.ensures.took (subst (λ ks. IsOrder g.S.Store.owns g.S.Store.contents g.S.Store.told g.S.Store.faults r.cell.base.store (Some ks) c.read-outcome.new.self.store c.read-outcome.new.self.entries) r.keys (c.in-Ok.ensures.order r.cell.base.store (Some r.cell.base.keys) r.keeps.order)) c.in-Ok.ensures.ok.1 c.in-Ok.ensures.ok.2 c.in-Ok.ensures.small).after c.give.new.pass (subst (λ t. IsOf t c.give.new.pass) (ap (λ m. m.turns) c.self.view_is) c.give.ensures.pass) c.give.ensures.gave in
     let stand : Stand c.args.self.now.keys.keys (g.S.Store.contents r.cell.base.store) c.take-value.result.entries c.args.at.sector c.read-outcome.new.raw = c.in-Ok.ensures.stands r.cell.base.store (Some r.cell.base.keys) c.args.self.now.keys.keys r.keys r.keeps.order in
     at_cell c.args.self.now.turns.cells c.shard_of-shard.result r.cell (λ b. Stand c.args.self.now.keys.keys (g.S.Store.contents b.store) (take c.in-Ok.index (list_at (seen_by c.give.new.pass) c.shard_of-shard.result)) c.args.at.sector c.read-outcome.new.raw) r.cell_at
-        (stood_before c.args.self.now.keys.keys (g.S.Store.contents r.cell.base.store) c.take-value.result.entries (list_at (seen_by c.give.new.pass) c.shard_of-shard.result) (read_entry c.args.at c.args.via) c.in-Ok.index c.args.at.sector c.read-outcome.new.raw s.appended.ends c.in-Ok.ensures.ok.0 stand)
+    (stood_before c.args.self.now.keys.keys (g.S.Store.contents r.cell.base.store) c.take-value.result.entries (list_at (seen_by c.give.new.pass) c.shard_of-shard.result) (read_entry c.args.at c.args.via) c.in-Ok.index c.args.at.sector c.read-outcome.new.raw s.appended.ends c.in-Ok.ensures.ok.0 stand)
 
 pub returns-in-Ok-clause-answer : goal.returns-in-Ok-clause-answer
 returns-in-Ok-clause-answer g c =
@@ -69,15 +69,15 @@ returns-in-Ok-clause-answer g c =
     let s = (visit g.S.Store.owns g.S.Store.contents g.S.Store.told g.S.Store.faults c.args.self.now c.args.pass.now c.take-value.new.pass c.shard_of-shard.result c.args.at.sector (unit_sectors c.args.self.now.keys.keys c.args.at.context) c.take-value.result c.read-outcome.new.self (read_entry c.args.at c.args.via) r c.requires.pass c.requires.caller c.take-value.ensures.took (subst (λ ks. IsOrder g.S.Store.owns g.S.Store.contents g.S.Store.told g.S.Store.faults r.cell.base.store (Some ks) c.read-outcome.new.self.store c.read-outcome.new.self.entries) r.keys (c.in-Ok.ensures.order r.cell.base.store (Some r.cell.base.keys) r.keeps.order)) c.in-Ok.ensures.ok.1 c.in-Ok.ensures.ok.2 c.in-Ok.ensures.small).after c.give.new.pass (subst (λ t. IsOf t c.give.new.pass) (ap (λ m. m.turns) c.self.view_is) c.give.ensures.pass) c.give.ensures.gave in
     let stand : Stand c.args.self.now.keys.keys (g.S.Store.contents r.cell.base.store) c.take-value.result.entries c.args.at.sector c.read-outcome.new.raw = c.in-Ok.ensures.stands r.cell.base.store (Some r.cell.base.keys) c.args.self.now.keys.keys r.keys r.keeps.order in
     at_cell c.args.self.now.turns.cells c.shard_of-shard.result r.cell (λ b. IsToldAt c.args.self.now.keys.keys (g.S.Store.contents b.store) (list_at (seen_by c.give.new.pass) c.shard_of-shard.result) c.in-Ok.index (unit_name c.args.at) (Text (deciphered c.args.self.now.keys.keys c.args.at.context c.read-outcome.new.raw))) r.cell_at
-        (told_one c.args.self.now.keys.keys (g.S.Store.contents r.cell.base.store) c.take-value.result.entries (list_at (seen_by c.give.new.pass) c.shard_of-shard.result) (read_entry c.args.at c.args.via) c.in-Ok.index (Text (deciphered c.args.self.now.keys.keys c.args.at.context c.read-outcome.new.raw)) s.appended.ends c.in-Ok.ensures.ok.0
-        (read_answer c.args.self.now.keys.keys (g.S.Store.contents r.cell.base.store) c.take-value.result.entries c.args.at c.args.via c.read-outcome.new.raw stand (search rules)))
+    (told_one c.args.self.now.keys.keys (g.S.Store.contents r.cell.base.store) c.take-value.result.entries (list_at (seen_by c.give.new.pass) c.shard_of-shard.result) (read_entry c.args.at c.args.via) c.in-Ok.index (Text (deciphered c.args.self.now.keys.keys c.args.at.context c.read-outcome.new.raw)) s.appended.ends c.in-Ok.ensures.ok.0
+    (read_answer c.args.self.now.keys.keys (g.S.Store.contents r.cell.base.store) c.take-value.result.entries c.args.at c.args.via c.read-outcome.new.raw stand (search rules)))
 
 pub returns-in-Ok-clause-planned : goal.returns-in-Ok-clause-planned
 returns-in-Ok-clause-planned g c =
     let same = subst (λ m. Each (λ d. d.base.keys ≡ m.keys.keys) m.turns.cells) c.self.view_is c.self.invariant.same_keys in
     let r = ready g.S.Store.owns g.S.Store.contents g.S.Store.told g.S.Store.faults c.args.self.now c.args.pass.now c.take-value.new.pass c.shard_of-shard.result c.args.at.sector (unit_sectors c.args.self.now.keys.keys c.args.at.context) c.take-value.result c.requires.pass same c.shard_of-shard.ensures.shard c.requires.spare c.requires.sectors c.take-value.ensures.took in
     at_cell c.args.self.now.turns.cells c.shard_of-shard.result r.cell (λ b. IfSome (g.S.Store.told b.store) (λ t. (false ≡ true) ↔ Contains t.plan c.in-Ok.index)) r.cell_at
-        (subst (λ n. IfSome (g.S.Store.told r.cell.base.store) (λ t. (false ≡ true) ↔ Contains t.plan n)) (sym c.in-Ok.ensures.ok.0) (c.in-Ok.ensures.planned r.cell.base.store (Some r.cell.base.keys) r.keeps.order))
+    (subst (λ n. IfSome (g.S.Store.told r.cell.base.store) (λ t. (false ≡ true) ↔ Contains t.plan n)) (sym c.in-Ok.ensures.ok.0) (c.in-Ok.ensures.planned r.cell.base.store (Some r.cell.base.keys) r.keeps.order))
 
 pub returns-in-Err-clause-pass : goal.returns-in-Err-clause-pass
 returns-in-Err-clause-pass g c =
@@ -112,4 +112,4 @@ returns-in-Err-clause-planned_fault g c =
     let same = subst (λ m. Each (λ d. d.base.keys ≡ m.keys.keys) m.turns.cells) c.self.view_is c.self.invariant.same_keys in
     let r = ready g.S.Store.owns g.S.Store.contents g.S.Store.told g.S.Store.faults c.args.self.now c.args.pass.now c.take-value.new.pass c.shard_of-shard.result c.args.at.sector (unit_sectors c.args.self.now.keys.keys c.args.at.context) c.take-value.result c.requires.pass same c.shard_of-shard.ensures.shard c.requires.spare c.requires.sectors c.take-value.ensures.took in
     at_cell c.args.self.now.turns.cells c.shard_of-shard.result r.cell (λ b. IfSome (g.S.Store.told b.store) (λ t. (true ≡ true) ↔ Contains t.plan c.in-Err.index)) r.cell_at
-        (subst (λ n. IfSome (g.S.Store.told r.cell.base.store) (λ t. (true ≡ true) ↔ Contains t.plan n)) (sym c.in-Err.ensures.fault.0) (c.in-Err.ensures.planned r.cell.base.store (Some r.cell.base.keys) r.keeps.order))
+    (subst (λ n. IfSome (g.S.Store.told r.cell.base.store) (λ t. (true ≡ true) ↔ Contains t.plan n)) (sym c.in-Err.ensures.fault.0) (c.in-Err.ensures.planned r.cell.base.store (Some r.cell.base.keys) r.keeps.order))

@@ -1,4 +1,4 @@
-use Rattle.std.proofs.Common.{rules, ◌≡◌, ◌↔◌, length, true, false, take, Some, refl, ap, sym, ◌∙◌, subst}
+use Rattle.std.proofs.Common.{◌≡◌, ◌↔◌, true, false, Some, refl, ap, sym, subst}
 use Rattle.std.specs.Prelude.{IfSome, Contains}
 use Rattle.bc_base.specs.Lists.{Each, AllAt, list_at}
 use Rattle.bc_bio.specs.declared.access.Access.TheVariants.{Write}
@@ -28,8 +28,8 @@ give-requires-clause-held g c =
     let same = subst (λ m. Each (λ d. d.base.keys ≡ m.keys.keys) m.turns.cells) c.self.view_is c.self.invariant.same_keys in
     let r = ready g.S.Store.owns g.S.Store.contents g.S.Store.told g.S.Store.faults c.args.self.now c.args.pass.now c.take-value.new.pass c.shard_of-shard.result c.args.at.sector (unit_sectors c.args.self.now.keys.keys c.args.at.context) c.take-value.result c.requires.pass same c.shard_of-shard.ensures.shard c.requires.spare c.requires.sectors c.take-value.ensures.took in
     either_way c.write-outcome.result _ _ (AllAt c.take-value.new.pass.parts c.shard_of-shard.result (λ q. (q.holds ≡ true) × GoesOn (λ v. v.entries) (Keeps g.S.Store.owns g.S.Store.contents g.S.Store.told g.S.Store.faults) caller_of q c.write-outcome.new.self))
-        (λ x e. (visit g.S.Store.owns g.S.Store.contents g.S.Store.told g.S.Store.faults c.args.self.now c.args.pass.now c.take-value.new.pass c.shard_of-shard.result c.args.at.sector (unit_sectors c.args.self.now.keys.keys c.args.at.context) c.take-value.result c.write-outcome.new.self (written_entry c.args.at c.args.via c.args.plain.items) r c.requires.pass c.requires.caller c.take-value.ensures.took (c.write-outcome.ensures.order c.args.self.now.keys.keys c.requires.cipher r.cell.base.store (Some r.cell.base.keys) r.keys r.keeps.order) e.1 e.2 c.write-outcome.ensures.small).may_give)
-        (λ x e. (visit g.S.Store.owns g.S.Store.contents g.S.Store.told g.S.Store.faults c.args.self.now c.args.pass.now c.take-value.new.pass c.shard_of-shard.result c.args.at.sector (unit_sectors c.args.self.now.keys.keys c.args.at.context) c.take-value.result c.write-outcome.new.self (failed_entry Write c.args.at c.args.via) r c.requires.pass c.requires.caller c.take-value.ensures.took (c.write-outcome.ensures.order c.args.self.now.keys.keys c.requires.cipher r.cell.base.store (Some r.cell.base.keys) r.keys r.keeps.order) e.1 e.2 c.write-outcome.ensures.small).may_give) c.write-outcome.ensures.ok c.write-outcome.ensures.fault
+    (λ x e. (visit g.S.Store.owns g.S.Store.contents g.S.Store.told g.S.Store.faults c.args.self.now c.args.pass.now c.take-value.new.pass c.shard_of-shard.result c.args.at.sector (unit_sectors c.args.self.now.keys.keys c.args.at.context) c.take-value.result c.write-outcome.new.self (written_entry c.args.at c.args.via c.args.plain.items) r c.requires.pass c.requires.caller c.take-value.ensures.took (c.write-outcome.ensures.order c.args.self.now.keys.keys c.requires.cipher r.cell.base.store (Some r.cell.base.keys) r.keys r.keeps.order) e.1 e.2 c.write-outcome.ensures.small).may_give)
+    (λ x e. (visit g.S.Store.owns g.S.Store.contents g.S.Store.told g.S.Store.faults c.args.self.now c.args.pass.now c.take-value.new.pass c.shard_of-shard.result c.args.at.sector (unit_sectors c.args.self.now.keys.keys c.args.at.context) c.take-value.result c.write-outcome.new.self (failed_entry Write c.args.at c.args.via) r c.requires.pass c.requires.caller c.take-value.ensures.took (c.write-outcome.ensures.order c.args.self.now.keys.keys c.requires.cipher r.cell.base.store (Some r.cell.base.keys) r.keys r.keeps.order) e.1 e.2 c.write-outcome.ensures.small).may_give) c.write-outcome.ensures.ok c.write-outcome.ensures.fault
 
 pub returns-in-Ok-clause-pass : goal.returns-in-Ok-clause-pass
 returns-in-Ok-clause-pass g c =
@@ -64,7 +64,7 @@ returns-in-Ok-clause-planned g c =
     let same = subst (λ m. Each (λ d. d.base.keys ≡ m.keys.keys) m.turns.cells) c.self.view_is c.self.invariant.same_keys in
     let r = ready g.S.Store.owns g.S.Store.contents g.S.Store.told g.S.Store.faults c.args.self.now c.args.pass.now c.take-value.new.pass c.shard_of-shard.result c.args.at.sector (unit_sectors c.args.self.now.keys.keys c.args.at.context) c.take-value.result c.requires.pass same c.shard_of-shard.ensures.shard c.requires.spare c.requires.sectors c.take-value.ensures.took in
     at_cell c.args.self.now.turns.cells c.shard_of-shard.result r.cell (λ b. IfSome (g.S.Store.told b.store) (λ t. (false ≡ true) ↔ Contains t.plan c.in-Ok.index)) r.cell_at
-        (subst (λ n. IfSome (g.S.Store.told r.cell.base.store) (λ t. (false ≡ true) ↔ Contains t.plan n)) (sym c.in-Ok.ensures.ok.0) (c.in-Ok.ensures.planned r.cell.base.store (Some r.cell.base.keys) r.keeps.order))
+    (subst (λ n. IfSome (g.S.Store.told r.cell.base.store) (λ t. (false ≡ true) ↔ Contains t.plan n)) (sym c.in-Ok.ensures.ok.0) (c.in-Ok.ensures.planned r.cell.base.store (Some r.cell.base.keys) r.keeps.order))
 
 pub returns-in-Err-clause-pass : goal.returns-in-Err-clause-pass
 returns-in-Err-clause-pass g c =
@@ -99,4 +99,4 @@ returns-in-Err-clause-planned_fault g c =
     let same = subst (λ m. Each (λ d. d.base.keys ≡ m.keys.keys) m.turns.cells) c.self.view_is c.self.invariant.same_keys in
     let r = ready g.S.Store.owns g.S.Store.contents g.S.Store.told g.S.Store.faults c.args.self.now c.args.pass.now c.take-value.new.pass c.shard_of-shard.result c.args.at.sector (unit_sectors c.args.self.now.keys.keys c.args.at.context) c.take-value.result c.requires.pass same c.shard_of-shard.ensures.shard c.requires.spare c.requires.sectors c.take-value.ensures.took in
     at_cell c.args.self.now.turns.cells c.shard_of-shard.result r.cell (λ b. IfSome (g.S.Store.told b.store) (λ t. (true ≡ true) ↔ Contains t.plan c.in-Err.index)) r.cell_at
-        (subst (λ n. IfSome (g.S.Store.told r.cell.base.store) (λ t. (true ≡ true) ↔ Contains t.plan n)) (sym c.in-Err.ensures.fault.0) (c.in-Err.ensures.planned r.cell.base.store (Some r.cell.base.keys) r.keeps.order))
+    (subst (λ n. IfSome (g.S.Store.told r.cell.base.store) (λ t. (true ≡ true) ↔ Contains t.plan n)) (sym c.in-Err.ensures.fault.0) (c.in-Err.ensures.planned r.cell.base.store (Some r.cell.base.keys) r.keeps.order))
