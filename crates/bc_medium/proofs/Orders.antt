@@ -1,6 +1,6 @@
 -- One entry more at the end of a shard's order.
 use Rattle.std.proofs.Common.{◌≡◌, ◌↔◌, inl, inr, ℕ, ◌+◌, ◌-◌, ◌/◌, ◌^◌, ◌<◌, ◌≤◌, Bool, true, false, List, [], ◌∷◌, ◌++◌, length, Option, Some, None, refl, sym, ap, ◌∙◌, subst, arith, length-append}
-use Rattle.std.specs.Prelude.{IfSome, Contains, cond}
+use Rattle.std.specs.Prelude.{IfSome, Contains, cond, OnOk, Result, Ok, Err}
 use Rattle.bc_key.specs.KeyData.{KeyData}
 use Rattle.bc_bio.specs.declared.access.Access.{Access}
 use Rattle.bc_bio.specs.declared.access.Access.TheVariants.{Read, Write}
@@ -146,7 +146,35 @@ stands keys None now es first raw l r = tt
 stands keys (Some disk) None es first raw l r = absurd l
 stands keys (Some disk) (Some held) es first raw l r = r ∙ ap (λ (d : Sectors). bytes_at d first (length raw / 512)) (λ i s. l s i)
 
--- with whatever keys the writes were given
-pub stand_with : (start now : Option Sectors) (es : List Entry) (given : Option (List KeyData)) (first : ℕ) (raw : List ℕ) → Leaves (keys_or_none given) start es now → (given ≡ None → Each IsQuiet es) → Reads now first raw
-    → (keys : List KeyData) → IfSome given (λ k. k ≡ keys) → Stand keys start es first raw
-stand_with start now es given first raw l q r keys same = stands keys start now es first raw (known_leaves keys start now es given same l q) r
+module _ {S : Type 0} (owns : S → ℕ → Bool) (contents : S → Option Sectors) (told : S → Option ToldCalls) (faults : S → ℕ) where
+  -- whatever the store was at opening, and with whatever keys the writes were given
+  pub stands_in_order : (store : S) (es : List Entry) (first : ℕ) (raw : List ℕ) → Reads (contents store) first raw
+      → (start : S) (given : Option (List KeyData)) (keys : List KeyData) → IfSome given (λ k. k ≡ keys) → IsOrder owns contents told faults start given store es → Stand keys (contents start) es first raw
+  stands_in_order store es first raw r start given keys same o = stands keys (contents start) (contents store) es first raw (known_leaves keys (contents start) (contents store) es given same o.leaves o.quiet) r
+
+  -- with no keys given, none will do
+  pub any_keys : (given : Option (List KeyData)) → IfSome given (λ k. k ≡ keys_or_none given)
+  any_keys None = tt
+  any_keys (Some k) = refl
+
+pub on_ok : {X Y : Type 0} (r : Result X Y) (P Q : Type 0) → (P → Q) → OnOk r P → OnOk r Q
+on_ok (Ok x) P Q f p = f p
+on_ok (Err y) P Q f p = p
+
+leaves_none : (keys : List KeyData) (o : Option Sectors) → Leaves keys o [] o
+leaves_none keys None = refl
+leaves_none keys (Some disk) = λ s. refl
+
+calls_none : (o : Option ToldCalls) → IfSome o (λ t. t.calls ≡ 0) → CallsAre o [] o
+calls_none None none = refl
+calls_none (Some t) none = (tt, (refl, none))
+
+-- a store at opening
+pub order_new : {S : Type 0} (owns : S → ℕ → Bool) (contents : S → Option Sectors) (told : S → Option ToldCalls) (faults : S → ℕ) (store : S) (given : Option (List KeyData)) → IfSome (told store) (λ t. t.calls ≡ 0) → IsOrder owns contents told faults store given store []
+order_new owns contents told faults store given none = record {
+  owned = λ s. refl;
+  leaves = leaves_none (keys_or_none given) (contents store);
+  calls = calls_none (told store) none;
+  counted = λ small. omega arith;
+  quiet = λ e. tt;
+}

@@ -1,24 +1,22 @@
 -- What is told along an order, and that it stays.
-use Rattle.std.proofs.Common.{◌≡◌, ℕ, ◌+◌, ◌/◌, ◌*◌, ◌<◌, zero, suc, List, [], ◌∷◌, ◌++◌, length, map, set, Option, Some, None, true, false, refl, sym, ap, ◌∙◌, subst, arith, append_assoc}
+use Rattle.std.proofs.Common.{◌≡◌, ℕ, ◌/◌, ◌*◌, zero, suc, List, [], ◌∷◌, ◌++◌, length, set, Option, Some, None, refl, sym, ap, ◌∙◌, subst, arith}
 use Rattle.std.specs.Prelude.{IfSome, slice_get}
 use Rattle.std.proofs.lemmas.Option.{none-some}
 use Rattle.bc_base.specs.declared.place.Place.{Place}
-use Rattle.bc_base.specs.Lists.{Each, At, AllAt, list_at}
+use Rattle.bc_base.specs.Lists.{Each, At, list_at}
 use Rattle.bc_base.specs.Story.{StartsWith}
 use Rattle.bc_base.proofs.Lists.{each_at, all_at, each_both}
 use Rattle.bc_key.specs.KeyData.{KeyData}
 use Rattle.bc_bio.specs.Extent.{unit_sectors}
 use Rattle.bc_bio.specs.PlannedUnit.{PlannedUnit}
-use Rattle.bc_bio.specs.declared.access.Access.{Access}
-use Rattle.bc_bio.specs.declared.access.Access.TheVariants.{Read, Write}
 use Rattle.bc_medium.specs.declared.via.Via.{Via}
 use Rattle.bc_medium.specs.declared.entry.Entry.{Entry}
 use Rattle.bc_medium.specs.declared.unit_at.UnitAt.{UnitAt}
 use Rattle.bc_medium.specs.declared.unit_name.UnitName.{UnitName}
 use Rattle.bc_medium.specs.Places.{shard_of}
-use Rattle.bc_medium.specs.KeyedDisk.{Sectors, UnitAnswer, Faulted, Written, Text, deciphered, bytes_at}
+use Rattle.bc_medium.specs.KeyedDisk.{Sectors, UnitAnswer, Text, deciphered, bytes_at}
 use Rattle.bc_medium.specs.LawfulOrders.{name_of}
-use Rattle.bc_medium.specs.Entries.{name_of_entry, unit_name, read_entry, performed_by, left_by, told_by, IsToldAt, Stand}
+use Rattle.bc_medium.specs.Entries.{name_of_entry, read_entry, performed_by, left_by, told_by, IsToldAt, Stand}
 use Rattle.bc_medium.specs.Growth.{Knows}
 use Rattle.bc_medium.specs.ShardOrder.{ShardData, Appends, HasKeys, Leaves, IsOrder}
 use Rattle.bc_medium.specs.Shards.{HaveKeys, Answers, AllLeft}

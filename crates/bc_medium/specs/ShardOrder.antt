@@ -1,5 +1,5 @@
 -- The order of one shard: its entries, and what the keyed disk leaves along them on the shard's store.
-use Rattle.std.specs.Prelude.{◌≡◌, ◌↔◌, ◌⊎◌, ℕ, ◌+◌, ◌-◌, ◌/◌, ◌^◌, ◌<◌, ◌≤◌, Bool, true, if◌then◌else◌, List, [], ◌∷◌, ◌++◌, length, Option, Some, None, IfSome, IsSomeAnd, Contains, ⊤}
+use Rattle.std.specs.Prelude.{◌≡◌, ◌↔◌, ◌⊎◌, ℕ, ◌+◌, ◌-◌, ◌^◌, ◌<◌, ◌≤◌, Bool, true, if◌then◌else◌, List, [], ◌∷◌, ◌++◌, length, Option, Some, None, IfSome, IsSomeAnd, Contains, ⊤}
 use Rattle.std.specs.Option.{unwrap_or}
 use Rattle.bc_base.specs.Lists.{Each}
 use Rattle.bc_base.specs.Stores.{ToldCalls}
@@ -47,6 +47,17 @@ pub record ShardData (S : Type 0) : Type 0 where
 abbrev pub keys_or_none : Option (List KeyData) → List KeyData
 keys_or_none keys = unwrap_or keys []
 
+-- a store, the entries of the accesses to it, and how many more fit
+pub record StoreOrder (S : Type 0) : Type 0 where
+  pub store : S
+  pub entries : List Entry
+  pub spare : ℕ
+
+-- one entry more, which has this place
+abbrev pub EntersNext : {S : Type 0} → StoreOrder S → StoreOrder S → Entry → ℕ → Type 0
+EntersNext old new e index =
+    (index ≡ length old.entries) × (new.entries ≡ old.entries ++ e ∷ []) × (new.spare + 1 ≡ old.spare)
+
 -- one entry more
 abbrev pub Appends : {S : Type 0} → Option (List KeyData) → ShardData S → ShardData S → Entry → Type 0
 Appends keys old new e =
@@ -79,10 +90,29 @@ module _ {S : Type 0} (owns : S → ℕ → Bool) (contents : S → Option Secto
     pub counted : faults store < 2 ^ 64 - 1 → faults start + failures entries ≤ faults store
     pub quiet : keys ≡ None → Each IsQuiet entries
 
-  -- the same, with room for so many entries in all
-  abbrev pub IsShard : S → Option (List KeyData) → S → List Entry → ℕ → Type 0
-  IsShard start keys store entries capacity =
-      IsOrder start keys store entries × (length entries ≤ capacity) × (capacity < 2 ^ 32)
+  -- whatever the store was at opening: what its entries were before, with no other keys than these, they are now
+  abbrev pub KeepsOrder : List KeyData → StoreOrder S → StoreOrder S → Type 0
+  KeepsOrder keys old new =
+      (start : S) (given : Option (List KeyData)) → IfSome given (λ k. k ≡ keys)
+      → IsOrder start given old.store old.entries → IsOrder start (Some keys) new.store new.entries
+
+  -- the same, whatever the keys
+  abbrev pub KeepsAnyOrder : StoreOrder S → StoreOrder S → Type 0
+  KeepsAnyOrder old new =
+      (start : S) (given : Option (List KeyData)) → IsOrder start given old.store old.entries
+      → IsOrder start given new.store new.entries
+
+  -- whatever the store was at opening, these raw bytes stand there now
+  abbrev pub StandsInOrder : StoreOrder S → ℕ → List ℕ → Type 0
+  StandsInOrder shard first raw =
+      (start : S) (given : Option (List KeyData)) (keys : List KeyData) → IfSome given (λ k. k ≡ keys)
+      → IsOrder start given shard.store shard.entries → Stand keys (contents start) shard.entries first raw
+
+  -- whatever the store was at opening, the next access fails exactly where its plan, where it is told, has its place
+  abbrev pub FailsInOrder : StoreOrder S → Type 0 → Type 0
+  FailsInOrder shard Fails =
+      (start : S) (given : Option (List KeyData)) → IsOrder start given shard.store shard.entries
+      → IfSome (told start) (λ t. Fails ↔ Contains t.plan (length shard.entries))
 
 -- a new shard
 abbrev pub opened : {S : Type 0} → S → ℕ → ShardData S

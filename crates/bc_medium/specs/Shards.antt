@@ -1,6 +1,6 @@
 -- What contracts see of the shards of a disk, for one caller: a store for each shard, and the order of the accesses to
 -- it.
-use Rattle.std.specs.Prelude.{◌≡◌, ◌↔◌, ℕ, ◌*◌, ◌≤◌, Bool, List, [], ◌∷◌, length, map, Option, Some, None, IfSome, Contains}
+use Rattle.std.specs.Prelude.{◌≡◌, ℕ, ◌*◌, ◌≤◌, Bool, List, [], ◌∷◌, length, map, Option}
 use Rattle.bc_base.specs.declared.place.Place.{Place}
 use Rattle.bc_base.specs.Lists.{Each, AllAt, ChangesAt, list_at}
 use Rattle.bc_base.specs.Stores.{ToldCalls, IsPiece}

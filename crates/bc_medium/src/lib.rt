@@ -9,8 +9,13 @@ mod unit_name;
 mod via;
 
 // shards
+mod opened_shard;
 mod shard;
 mod shards;
+
+// shards behind turns
+mod medium;
+mod opening;
 
 // laws of orders
 mod laws;
@@ -18,6 +23,7 @@ mod laws;
 pub use entry::Entry;
 pub use fault::Fault;
 pub use laws::order_laws;
+pub use medium::{Medium, MediumPass};
 pub use shards::Shards;
 pub use unit_at::UnitAt;
 pub use unit_name::UnitName;

@@ -1,78 +1,88 @@
-//! One shard: a store, and the order of the accesses to it.
+//! One shard: a store, and the order of the accesses to it. Both forms of the medium keep their shards so.
 
-ghost use Rattle.std.specs.Prelude.{◌≡◌, ℕ, ◌*◌, ◌/◌, ◌^◌, ◌<◌, ◌≤◌, List, length, Some, IfSome, IsErr, IfOk, IfErr, OnOk};
-ghost use Rattle.bc_bio.specs.Extent.{unit_sectors};
+ghost use Rattle.std.specs.Prelude.{◌≡◌, ℕ, ◌^◌, ◌<◌, ◌≤◌, [], List, length, IsErr, IfOk, IfErr, OnOk};
+ghost use Rattle.bc_base.specs.Stores.{IsPieceOf};
 ghost use Rattle.bc_bio.specs.declared.access.Access.{Access};
-ghost use Rattle.bc_medium.specs.KeyedDisk.{enciphered};
-ghost use Rattle.bc_base.specs.Stores.{IsPiece, Reads};
-ghost use Rattle.bc_medium.specs.Entries.{written_entry, read_entry, failed_entry, Stand};
 ghost use Rattle.bc_key.specs.KeyData.{KeyData};
-ghost use Rattle.bc_medium.specs.ShardOrder.{AppendsNext, HasKeys, StandsNow, FailsByPlan, IsOrder, opened};
+ghost use Rattle.bc_medium.specs.KeyedDisk.{enciphered};
+ghost use Rattle.bc_medium.specs.Entries.{written_entry, read_entry, failed_entry};
+ghost use Rattle.bc_medium.specs.ShardOrder.{EntersNext, KeepsOrder, KeepsAnyOrder, StandsInOrder, FailsInOrder};
 
 use crate::entry::Entry;
+use crate::opening::Opening;
 use crate::unit_at::UnitAt;
 use crate::via::Via;
 use bc_base::{Items, Store};
 use bc_bio::Access;
-use bc_key::Keys;
+use bc_turn::Story;
 use std::alloc::{AllocError, Global};
 use std::marker::Model;
-use std::snapshot::Snapshot;
 
 /// A store, and the order of the accesses to it.
 #[derive(Drop)]
-pub(crate) struct Shard<S: Store> {
-    /// The store at opening.
-    start: Snapshot<S>,
-    /// The keys that writes were given.
-    keys: Option<Snapshot<Keys>>,
+pub struct Shard<S: Store> {
     store: S,
     entries: Vec<Entry>,
 }
 
 impl<S: Store> Model for Shard<S> {
-    ghost use Rattle.std.specs.Prelude.{◌-◌, option_map, vec_len, vec_capacity};
-    ghost use Rattle.bc_medium.specs.ShardOrder.{ShardData, IsShard};
+    ghost use Rattle.std.specs.Prelude.{◌-◌, ◌<◌, ◌≤◌, ◌^◌, length, vec_len, vec_capacity};
+    ghost use Rattle.bc_medium.specs.ShardOrder.{StoreOrder};
 
-    ghost Value = { ShardData S };
+    ghost Value = { StoreOrder S };
 
     ghost view = { λ s. record {
-      start = s.start.value;
-      keys = option_map (λ k. k.value.keys) s.keys;
       store = s.store;
       entries = s.entries.items;
       spare = vec_capacity s.entries - vec_len s.entries;
     } };
 
-    ghost invariant = { λ s. IsShard S.owns S.contents S.told S.faults s.start.value
-        (option_map (λ k. k.value.keys) s.keys) s.store s.entries.items (vec_capacity s.entries) };
+    ghost invariant = { λ s. (length s.entries.items ≤ vec_capacity s.entries) × (vec_capacity s.entries < 2 ^ 32) };
+}
+
+impl<S: Store> Story for Shard<S> {
+    ghost use Rattle.bc_turn.specs.Note as notes;
+    ghost use Rattle.bc_medium.specs.Entries.{caller_of};
+    ghost use Rattle.bc_medium.specs.Medium.{Keeps};
+
+    type Base = Opening<S>;
+
+    type Item = Entry;
+
+    ghost entries_of = { λ s. s.entries };
+
+    ghost keeps = { Keeps S.owns S.contents S.told S.faults };
+
+    ghost by = { caller_of };
+
+    ghost note = { λ e. notes.none };
+
+    fn entries(&self) -> u64 {
+        self.entries.len() as u64
+    }
 }
 
 impl<S: Store> Shard<S> {
     /// Writes a data unit: `cipher` is `plain`, enciphered. The entry's place, and after a fault `plain` too.
     pub(crate) fn write(
         &mut self,
-        keys: &Keys,
         at: UnitAt,
         via: Via,
         plain: Vec<u8>,
         cipher: &[u8],
     ) -> Result<u32, (u32, Vec<u8>)>
-        requires keys { HasKeys keys.now.keys self.old }
         requires spare { 1 ≤ self.old.spare }
-        requires cipher { cipher.now ≡ enciphered keys.now.keys at.context plain.items }
-        requires piece { IsPiece (S.owns self.old.start) at.sector (unit_sectors keys.now.keys at.context) }
-        requires length { length cipher.now ≡ 512 * unit_sectors keys.now.keys at.context }
-        ensures ok { IfOk result
-            (AppendsNext (Some keys.now.keys) self.old self.new (written_entry at via plain.items)) }
+        requires piece { IsPieceOf (S.owns self.old.store) at.sector cipher.now }
+        ensures ok { IfOk result (EntersNext self.old self.new (written_entry at via plain.items)) }
         ensures fault { IfErr result (λ fault.
-            AppendsNext (Some keys.now.keys) self.old self.new (failed_entry Access.Write at via) fault.0) }
+            EntersNext self.old self.new (failed_entry Access.Write at via) fault.0) }
         ensures back { IfErr result (λ fault. fault.1.items ≡ plain.items) }
-        ensures planned { FailsByPlan S.told self.old (IsErr result) }
+        ensures order { (keys : List KeyData) → cipher.now ≡ enciphered keys at.context plain.items
+            → KeepsOrder S.owns S.contents S.told S.faults keys self.old self.new }
+        ensures planned { FailsInOrder S.owns S.contents S.told S.faults self.old (IsErr result) }
         ensures small { length self.new.entries < 2 ^ 32 }
     {
         let place = self.entries.len() as u32;
-        self.keys = Some(Snapshot::of(keys));
         match self.store.write(at.sector, cipher) {
             Ok(()) => {
                 self.entries.push_reserved(Entry {
@@ -98,17 +108,14 @@ impl<S: Store> Shard<S> {
     }
 
     /// Reads a data unit as it stands. The entry's place; after a fault `raw` is unspecified.
-    #[tactic(auto, using(crate::proofs::Orders::stand_with))]
     pub(crate) fn read(&mut self, at: UnitAt, via: Via, raw: &mut [u8]) -> Result<u32, u32>
         requires spare { 1 ≤ self.old.spare }
-        requires piece { IsPiece (S.owns self.old.start) at.sector (length raw.old / 512) }
-        requires whole { length raw.old ≡ 512 * (length raw.old / 512) }
-        ensures ok { IfOk result (AppendsNext self.old.keys self.old self.new (read_entry at via)) }
-        ensures stands { OnOk result (StandsNow S.contents self.old at.sector raw.new) }
-        ensures stand { OnOk result ((keys : List KeyData) → HasKeys keys self.old
-            → Stand keys (S.contents self.old.start) self.old.entries at.sector raw.new) }
-        ensures fault { IfErr result (AppendsNext self.old.keys self.old self.new (failed_entry Access.Read at via)) }
-        ensures planned { FailsByPlan S.told self.old (IsErr result) }
+        requires piece { IsPieceOf (S.owns self.old.store) at.sector raw.old }
+        ensures ok { IfOk result (EntersNext self.old self.new (read_entry at via)) }
+        ensures fault { IfErr result (EntersNext self.old self.new (failed_entry Access.Read at via)) }
+        ensures stands { OnOk result (StandsInOrder S.owns S.contents S.told S.faults self.old at.sector raw.new) }
+        ensures order { KeepsAnyOrder S.owns S.contents S.told S.faults self.old self.new }
+        ensures planned { FailsInOrder S.owns S.contents S.told S.faults self.old (IsErr result) }
         ensures small { length self.new.entries < 2 ^ 32 }
     {
         let place = self.entries.len() as u32;
@@ -125,15 +132,9 @@ impl<S: Store> Shard<S> {
 
     /// The store and the entries at the end.
     pub(crate) fn close(self) -> (S, Vec<Entry>)
-        ensures parts { (result.0 ≡ self.store) × (result.1.items ≡ self.entries) }
-        ensures order { IsOrder S.owns S.contents S.told S.faults self.start self.keys self.store self.entries }
+        ensures { (result.0 ≡ self.store) × (result.1.items ≡ self.entries) }
     {
-        let Shard {
-            start: _,
-            keys: _,
-            store,
-            entries,
-        } = self;
+        let Shard { store, entries } = self;
         (store, entries)
     }
 }
@@ -141,15 +142,9 @@ impl<S: Store> Shard<S> {
 impl<S: Store + Drop> Shard<S> {
     /// A store with room for so many entries.
     pub(crate) fn open(alloc: Global, store: S, room: u32) -> Result<Shard<S>, AllocError>
-        requires calls { IfSome (S.told store) (λ told. told.calls ≡ 0) }
-        ensures { IfOk result (λ shard. shard ≡ opened store room) }
+        ensures { IfOk result (λ shard. shard ≡ record { store = store; entries = []; spare = room }) }
     {
         let entries = Vec::with_capacity(alloc, room as usize)?;
-        Ok(Shard {
-            start: Snapshot::of(&store),
-            keys: None,
-            store,
-            entries,
-        })
+        Ok(Shard { store, entries })
     }
 }

@@ -14,7 +14,7 @@ ghost use Rattle.bc_medium.specs.Shards.{AnswersText, FailsAsPlanned, AllLeft, o
 
 use crate::entry::Entry;
 use crate::fault::Fault;
-use crate::shard::Shard;
+use crate::opened_shard::OpenedShard;
 use crate::unit_at::UnitAt;
 use crate::via::Via;
 use bc_base::{BLOCK_SECTORS, Place, Store};
@@ -25,7 +25,7 @@ use std::marker::Model;
 /// The stores of a disk by shard, each with the order of the accesses to it.
 #[derive(Drop)]
 pub struct Shards<S: Store> {
-    shards: Vec<Shard<S>>,
+    shards: Vec<OpenedShard<S>>,
     /// Room for the stores and the orders at the end.
     stores: Vec<S>,
     orders: Vec<Vec<Entry>>,
@@ -171,7 +171,7 @@ impl<S: Store + Drop> Shards<S> {
         turn_round(&mut stores);
         while let Some(store) = stores.pop() {
             let quota = quotas[shards.len()];
-            shards.push_reserved(Shard::open(alloc, store, quota)?);
+            shards.push_reserved(OpenedShard::open(alloc, store, quota)?);
         }
         Ok(Shards {
             shards,
@@ -182,7 +182,7 @@ impl<S: Store + Drop> Shards<S> {
 }
 
 /// The last first.
-fn turn_round<T>(items: &mut Vec<T>)
+pub(crate) fn turn_round<T>(items: &mut Vec<T>)
     ensures items { items.new.items ≡ reverse items.old.items }
     ensures length { vec_len items.new ≡ vec_len items.old }
 {
