@@ -4,3 +4,9 @@ pub mod StampLemmas
 pub mod SoloLemmas
 pub mod OpeningLemmas
 pub mod RowLemmas
+pub mod MemberLemmas
+pub mod SkipLemmas
+pub mod TableLemmas
+pub mod SearchLemmas
+pub mod TableOpening
+pub mod BookLemmas
