@@ -42,7 +42,7 @@ in_no_slot key keys none k d inside is =
     ∙ fails_before_first (is_key key) keys k d (omega (arith, inside, past))))
     (cases_lt (position_or_len (is_key key) keys) (length keys))
 
-key_gone : (keys : List (Option ℕ)) (slot key : ℕ) → All (λ other. other ≢ Some key) keys → get_or keys slot None ≡ Some key → ⊥
+pub key_gone : (keys : List (Option ℕ)) (slot key : ℕ) → All (λ other. other ≢ Some key) keys → get_or keys slot None ≡ Some key → ⊥
 key_gone keys slot key gone is =
     ⊎_elim
     (λ (inside : slot < length keys). gone slot None inside is)
@@ -58,11 +58,11 @@ key_inside keys slot key is =
 
 -- ---- the journal with one event more
 
-last_append : {X : Type 0} (o : Option X) (xs ys : List X) → last_or o (xs ++ ys) ≡ last_or (last_or o xs) ys
+pub last_append : {X : Type 0} (o : Option X) (xs ys : List X) → last_or o (xs ++ ys) ≡ last_or (last_or o xs) ys
 last_append o [] ys = refl
 last_append o (x ∷ xs) ys = last_append (Some x) xs ys
 
-enumerate-append : {X : Type 0} (first n : ℕ) (xs ys : List X) → first + length xs ≡ n → enumerate_from first (xs ++ ys) ≡ enumerate_from first xs ++ enumerate_from n ys
+pub enumerate-append : {X : Type 0} (first n : ℕ) (xs ys : List X) → first + length xs ≡ n → enumerate_from first (xs ++ ys) ≡ enumerate_from first xs ++ enumerate_from n ys
 enumerate-append first n [] ys is = let e : first ≡ n = omega arith in ap (λ k. enumerate_from k ys) e
 enumerate-append first n (x ∷ xs) ys is = ap (λ l. (first, x) ∷ l) (enumerate-append (first + 1) n xs ys (omega arith))
 

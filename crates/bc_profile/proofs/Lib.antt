@@ -10,3 +10,7 @@ pub mod TableLemmas
 pub mod SearchLemmas
 pub mod TableOpening
 pub mod BookLemmas
+pub mod StoryLemmas
+pub mod Visits
+pub mod Calls
+pub mod Epochs

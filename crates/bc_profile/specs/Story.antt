@@ -1,5 +1,7 @@
 -- The story of a device that has many callers: its events, each with the caller that made it.
 use Rattle.std.specs.Prelude.{◌≡◌, ℕ, ◌+◌, List, map, Some, slice_get}
+use Rattle.bc_turn.specs.Note as told
+use Rattle.bc_turn.specs.Note.{Note}
 use Rattle.bc_profile.specs.declared.event.Event.{Event}
 use Rattle.bc_profile.specs.declared.event.Event.TheVariants as events
 use Rattle.bc_profile.specs.declared.noted.Noted.{Noted}
@@ -14,6 +16,18 @@ author_of noted = noted.caller
 -- the event of an entry
 abbrev pub event_in : Noted → Event
 event_in noted = noted.event
+
+-- what an event says of a slot: that it was programmed, emptied or is idle
+abbrev pub note_in : Event → Note
+note_in (events.Program slot key skipped) = told.programming slot key
+note_in (events.Idle slot) = told.idle slot
+note_in (events.Evict slot key) = told.emptying slot
+note_in (events.Busy slot key refs) = told.none
+note_in events.Reset = told.none
+
+-- what an entry says of a slot
+abbrev pub note_of : Noted → Note
+note_of noted = note_in noted.event
 
 -- the caller made this event
 abbrev pub note : ℕ → Event → Noted

@@ -10,7 +10,8 @@ ghost use Rattle.bc_profile.specs.Book.{HasRoom, TakesHold, NoneFree, AllHeld, I
 
 use crate::lists::copies;
 use crate::table::{Emptied, SlotTable, Took};
-use crate::{Event, Noted, SlotState, SlotWord, Words};
+use crate::{BookBase, Event, Noted, SlotState, SlotWord, Words};
+use bc_turn::Story;
 use std::alloc::{AllocError, Global};
 use std::marker::Model;
 
@@ -41,6 +42,27 @@ impl Model for Book {
     ghost view = { λ b. record { count = length b.table.slots.keys; story = b.story.items; refs = b.table.refs; limit = b.limit } };
 
     ghost invariant = { λ b. IsBook b.table b.epochs.items b.story.items b.limit (vec_capacity b.story) };
+}
+
+impl Story for Book {
+    ghost use Rattle.bc_profile.specs.Story.{author_of, note_of};
+    ghost use Rattle.bc_profile.specs.Passes.{KeepsTo};
+
+    type Base = BookBase;
+
+    type Item = Noted;
+
+    ghost entries_of = { λ book. book.story };
+
+    ghost keeps = { KeepsTo };
+
+    ghost by = { author_of };
+
+    ghost note = { note_of };
+
+    fn entries(&self) -> u64 {
+        self.events() as u64
+    }
 }
 
 impl Book {
