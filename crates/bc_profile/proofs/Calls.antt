@@ -14,7 +14,7 @@ use Rattle.bc_profile.specs.Story.{Holds, IsGone, author_of, slots_told}
 use Rattle.bc_profile.specs.Book.{BookData, HasRoom, Hits, ProgramsOne, TakesHold, AllHeld, IsHeldBy, Empties, TakesOut, IsBusy, NoneFree, recorded, events_of_put, slots_of}
 use Rattle.bc_profile.specs.SlotTable.{refs_of}
 use Rattle.bc_profile.specs.Passes.{KeepsTo, HoldFacts, SlotFacts, ProfileData, IsOf, IsHold, HasSpare, Noticed, OneAtRest, Gets, ProgramsSlot, Puts, Evicts, TakesOutOf, Refuses, FoundHeld, AllFoundHeld, facts_of, seen_of, slots_in}
-use Rattle.bc_profile.proofs.Visits.{P, Adds, story_of, has_room, may_give, still_one, still_of, of_front, noticed, keeps, adds_none}
+use Rattle.bc_profile.proofs.Visits.{P, Adds, story_of, has_room, may_give, still_one, still_of, of_front, noticed, noticed_more, keeps, adds_none}
 
 module _ (t now : ProfileData) (p : P) (h : Option HoldFacts) (pass : SlotFacts) (view : t ≡ now) (pass_view : facts_of p h ≡ pass) (one : OneAtRest p.caller p.parts) (of : IsOf now pass) where
   pub its : IsOf t (facts_of p h)
@@ -183,3 +183,20 @@ found_held v words held each many = from 0 words each (omega (arith, many))
 pub all_found : (v v' : BookData) (key : ℕ) (words : List SlotWord) → v' ≡ v → NoneFree v key → EachFrom (IsHeldBy v') 0 words → length words ≡ v'.count → AllFoundHeld v'.count v'.story key words
 all_found v v' key words same none each many =
     let here = subst (λ z. NoneFree z key) (sym same) none in record { gone = here.0; count = many; words = found_held v' words here.1 each many }
+
+-- a call that added nothing, and then one that took a hold
+pub gets_more : (slots : ℕ) (a b d : SlotFacts) (key slot : ℕ) → Noticed a b [] → Gets slots b d key slot → Gets slots a d key slot
+gets_more slots a b d key slot one gets =
+    ⊎_elim
+    (λ (two : Noticed b d []). inl (noticed_more a b d [] one two).0)
+    (λ (made : ProgramsSlot slots b d key slot).
+    let n = noticed_more a b d (events.Program slot key made.skipped ∷ []) one made.noticed in
+    inr (record {
+      skipped = made.skipped;
+      noticed = n.0;
+      may = subst (λ l. MayProgram (slots_told slots l) slot key made.skipped) (sym n.1) made.may;
+    }))
+    gets
+
+pub then_these : (a b d : SlotFacts) (es : List Event) → Noticed a b [] → Noticed b d es → Noticed a d es
+then_these a b d es one two = (noticed_more a b d es one two).0

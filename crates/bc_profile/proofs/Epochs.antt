@@ -162,3 +162,10 @@ inside_of (y ∷ xs) (suc n) x at = let l = inside_of xs n x at in omega (arith,
 
 pub programs_inside : (front : List Noted) (epoch slot key : ℕ) → Programs front epoch slot key → epoch < length front
 programs_inside front epoch slot key programs = let l = inside_of (events_of front) epoch (events.Program slot key programs.0) programs.1 in let m = length-map front event_in in omega (arith, l, m)
+
+pub stays : (before front : List Noted) (epoch slot key : ℕ) → StartsWith front before → Programs before epoch slot key → Programs front epoch slot key × (epoch < length before)
+stays before front epoch slot key begins programs = (programs_more before front epoch slot key begins programs, programs_inside before epoch slot key programs)
+
+pub never_before : (count : ℕ) (before front : List Noted) (key slot epoch other earlier : ℕ) → StartsWith front before → Programs before earlier other key → Holds count front key slot epoch → earlier ≤ epoch
+never_before count before front key slot epoch other earlier begins programs holds =
+    never_earlier count front key slot epoch earlier other holds (programs_more before front earlier other key begins programs)

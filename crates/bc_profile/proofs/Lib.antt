@@ -14,3 +14,5 @@ pub mod StoryLemmas
 pub mod Visits
 pub mod Calls
 pub mod Epochs
+pub mod SeatLemmas
+pub mod ProfileLemmas

@@ -205,10 +205,9 @@ module _ (t : ProfileData) (p : P) (h : Option HoldFacts) (one : OneAtRest p.cal
         }, refl)
 
 -- a call that added nothing, and one after it
-pub noticed_more : (a b d : SlotFacts) (es : List Event) → Noticed a b [] → Noticed b d es → Noticed a d es
+pub noticed_more : (a b d : SlotFacts) (es : List Event) → Noticed a b [] → (two : Noticed b d es) → (n : Noticed a d es) × (n.front ≡ two.front)
 noticed_more a b d es one two =
-    let same : own author_of a.caller b.seen ≡ own author_of a.caller a.seen = ap (λ c. own author_of c b.seen) (sym one.caller) ∙ one.own_events ∙ append-nil (made_by a) in
-    let seen : b.seen ≡ one.front = one.ends ∙ append-nil one.front in record {
+    let seen : b.seen ≡ one.front = one.ends ∙ append-nil one.front in (record {
       front = two.front;
       begins = begins_trans a.seen one.front two.front one.begins (subst (StartsWith two.front) seen two.begins);
       own_front = ap (λ c. own author_of c two.front) (sym one.caller) ∙ two.own_front ∙ one.own_events ∙ append-nil (made_by a);
@@ -216,7 +215,7 @@ noticed_more a b d es one two =
       own_events = two.own_events ∙ ap (λ l. l ++ notes b.caller es) (one.own_events ∙ append-nil (made_by a)) ∙ ap (λ k. made_by a ++ notes k es) one.caller;
       caller = two.caller ∙ one.caller;
       cell = two.cell ∙ one.cell;
-    }
+    }, refl)
 
 pub noticed_none : (a : SlotFacts) → Noticed a a []
 noticed_none a = record { front = a.seen; begins = begins_itself a.seen; own_front = refl; ends = sym (append-nil a.seen); own_events = sym (append-nil (made_by a)); caller = refl; cell = refl }

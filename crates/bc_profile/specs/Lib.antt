@@ -8,3 +8,4 @@ pub mod SlotTable
 pub mod Story
 pub mod Book
 pub mod Passes
+pub mod Laws

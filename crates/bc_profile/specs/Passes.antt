@@ -1,9 +1,10 @@
 -- What contracts see of a profile and of its callers' passes, and what its calls tell: the front of the story that the call
 -- saw, and the events that it added.
-use Rattle.std.specs.Prelude.{◌≡◌, ◌⊎◌, ℕ, ◌+◌, ◌<◌, ◌≤◌, false, List, [], ◌∷◌, ◌++◌, map, length, sum, Option, Some, None, IfSome, slice_index_or}
+use Rattle.std.specs.Prelude.{◌≡◌, ◌⊎◌, ℕ, ◌+◌, ◌<◌, ◌≤◌, ◌==◌, true, false, List, [], ◌∷◌, ◌++◌, map, length, sum, Option, Some, None, IfSome, slice_index_or}
 use Rattle.atomic_table.specs.Seated.{TableId}
-use Rattle.bc_base.specs.Lists.{EachFrom}
-use Rattle.bc_base.specs.Story.{own, StartsWith}
+use Rattle.std.specs.List.{list_any}
+use Rattle.bc_base.specs.Lists.{Each, EachFrom}
+use Rattle.bc_base.specs.Story.{own, StartsWith, IsFront}
 use Rattle.bc_turn.specs.Parts.{Part, Pass, TurnsData, CellData, part_key, cell_key}
 use Rattle.bc_profile.specs.declared.event.Event.{Event}
 use Rattle.bc_profile.specs.declared.event.Event.TheVariants as events
@@ -12,9 +13,9 @@ use Rattle.bc_profile.specs.declared.noted.Noted.{Noted}
 use Rattle.bc_profile.specs.declared.skips.Skip.{Skip}
 use Rattle.bc_profile.specs.declared.slot_word.SlotState.TheVariants as states
 use Rattle.bc_profile.specs.declared.slot_word.SlotWord.{SlotWord}
-use Rattle.bc_profile.specs.SlotJournal.{MayProgram, key_of}
+use Rattle.bc_profile.specs.SlotJournal.{IsLawful, MayProgram, key_of}
 use Rattle.bc_profile.specs.Rows.{cleared}
-use Rattle.bc_profile.specs.Story.{Holds, IsGone, Programs, author_of, notes, slots_told}
+use Rattle.bc_profile.specs.Story.{Holds, IsGone, Programs, author_of, events_of, notes, slots_told}
 use Rattle.bc_profile.specs.Book.{BookData}
 
 -- what no call changes: how many slots there are, and how many events each caller may make
@@ -155,3 +156,33 @@ OneAtRest caller (part ∷ other ∷ parts) = ⊥
 -- what contracts see of a pass
 abbrev pub facts_of : Pass Noted BaseData → Option HoldFacts → SlotFacts
 facts_of pass hold = record { caller = pass.caller; cell = map part_key pass.parts; seen = seen_of pass.parts; hold = hold }
+
+-- the pass of turns has one cell, which it doesn't hold
+abbrev pub HasOneAtRest : Pass Noted BaseData → Type 0
+HasOneAtRest pass = OneAtRest pass.caller pass.parts
+
+-- a pass without a hold
+abbrev pub pass_of : Pass Noted BaseData → SlotFacts
+pass_of pass = facts_of pass None
+
+-- the pass of a caller that has seen nothing
+abbrev pub new_pass : ProfileData → ℕ → SlotFacts
+new_pass profile caller = record { caller = caller; cell = map cell_key profile.turns.cells; seen = []; hold = None }
+
+-- each caller has a pass among these
+abbrev pub AreAllHere : ProfileData → List SlotFacts → Type 0
+AreAllHere profile passes = (caller : ℕ) → caller < profile.turns.callers → list_any (λ pass. pass.caller == caller) passes ≡ true
+
+-- what a closed story is: its events are a lawful journal; each pass's front begins it and has all entries of its caller; and
+-- nobody else made one
+pub record IsClosed (profile : ProfileData) (passes : List SlotFacts) (story : List Noted) : Type 0 where
+  pub lawful : IsLawful (slots_in profile) (events_of story)
+  pub fronts : Each (λ pass. IsFront author_of pass.caller pass.seen story) passes
+  pub strangers : (caller : ℕ) → profile.turns.callers ≤ caller → own author_of caller story ≡ []
+
+-- what the parts of a profile keep: the quotas by caller are those of its one cell
+pub record IsProfile (turns : TurnsData BaseData) (kept : List ℕ) : Type 0 where
+  pub one : length turns.cells ≡ 1
+  pub quotas : (base_of turns.cells).quotas ≡ kept
+  pub callers : turns.callers ≡ length kept
+  pub small : sum kept < MAX_EVENTS

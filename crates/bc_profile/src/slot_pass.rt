@@ -1,5 +1,6 @@
 //! What a caller takes along.
-ghost use Rattle.std.specs.Prelude.{◌≡◌};
+ghost use Rattle.std.specs.Prelude.{◌≡◌, length};
+ghost use Rattle.bc_profile.specs.Passes.{made_by};
 
 use crate::{Book, Hold};
 use bc_turn::TurnPass;
@@ -28,5 +29,12 @@ impl SlotPass {
         ensures { result ≡ self.now.caller }
     {
         self.turn.number()
+    }
+
+    /// How many events its caller made.
+    pub(crate) fn made(&self) -> u64
+        ensures { result ≡ length (made_by self.now) }
+    {
+        self.turn.made(0)
     }
 }

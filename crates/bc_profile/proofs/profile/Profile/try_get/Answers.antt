@@ -38,7 +38,6 @@ returns-clause-pass g c =
     c.take_hold-taken.new.self few.events few.adds fit c.give-2.new.pass c.give-2.ensures.gave (λ n l. Holds n l c.args.key.0 c.in-Some.slot c.in-Some.epoch) c.in-Some.ensures.holds in
     let inside = subst (λ z. c.args.key.0 < length z.rows) (sym c.self.view_is) c.requires.key in
     let row = c.index.ensures ∙ get_or_default c.self.inside.rows.items c.args.key.0 c.index.result.now cleared inside ∙ ap (λ z. row_at z c.args.key.0) c.self.view_is in
-    let hold = record { slot = c.in-Some.slot; key = c.args.key.0; epoch = c.in-Some.epoch; row = c.index.result.now } in
     is_of _ c.args.self.now c.pass.inside.turn c.pass.inside.hold c.args.pass.now c.self.view_is c.pass.view_is c.pass.invariant c.requires.pass c.take-book.new.pass c.take-book.result c.take-book.ensures.took
     c.take_hold-taken.new.self few.events few.adds fit c.give-2.new.pass c.give-2.ensures.gave (Some c.again.result)
     (subst (IsHold c.args.self.now (seen_of c.give-2.new.pass.parts)) (sym (c.again.ensures ∙ c.new-hold.ensures))
