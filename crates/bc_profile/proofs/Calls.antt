@@ -147,11 +147,14 @@ module _ (t now : ProfileData) (p : P) (h : Option HoldFacts) (pass : SlotFacts)
         (λ (none : InNoSlot (slots_of v) key × (v' ≡ v)). inl (these [] (adds_nothing c v v' none.1) (omega arith)).0)
         (λ (some : (slot : ℕ) × TakesOut v v' c key slot).
         let n = these (events.Evict some.0 key ∷ []) (adds_these c c v v' (events.Evict some.0 key ∷ []) _ some.1.made refl) (omega arith) in
-        inr (some.0, record {
-          noticed = n.0;
-          has_key = subst (λ l. key_of (slots_told (slots_in now) l) some.0 ≡ Some key) (sym n.1)
-              (before t now p h pass view pass_view one of p1 v took (λ k. key_of (slots_told k v.story) some.0 ≡ Some key) some.1.has_key);
-        }))
+        inr (
+          some.0,
+          record {
+            noticed = n.0;
+            has_key = subst (λ l. key_of (slots_told (slots_in now) l) some.0 ≡ Some key) (sym n.1)
+                (before t now p h pass view pass_view one of p1 v took (λ k. key_of (slots_told k v.story) some.0 ≡ Some key) some.1.has_key);
+          },
+        ))
         empties;
     gone = gone;
   }

@@ -41,8 +41,12 @@ last_there key first slot epoch o (events.Program s k skipped ∷ journal) is =
     ⊎_elim
     (λ (e : Some (s, first) ≡ Some (slot, epoch)).
     let pair = same_Some (s, first) (slot, epoch) e in
-    inr (zero, (let f = ap (λ (y : ℕ × ℕ). y.1) pair in omega (arith, f)), skipped,
-    ap (λ (z : ℕ). Some (events.Program z k skipped)) (ap (λ (y : ℕ × ℕ). y.0) pair) ∙ ap (λ (z : ℕ). Some (events.Program slot z skipped)) same))
+    inr (
+      zero,
+      (let f = ap (λ (y : ℕ × ℕ). y.1) pair in omega (arith, f)),
+      skipped,
+      ap (λ (z : ℕ). Some (events.Program z k skipped)) (ap (λ (y : ℕ × ℕ). y.0) pair) ∙ ap (λ (z : ℕ). Some (events.Program slot z skipped)) same,
+    ))
     (λ (more : IsThere key (first + 1) slot epoch journal). inr (later_there key first slot epoch (events.Program s k skipped) journal more))
     (last_there key (first + 1) slot epoch (Some (s, first)) journal (sym (ap (λ (b : Bool). last_or o (cons_option (cond b (Some (s, first)) None) (from_place key (first + 1) journal))) (eq-eqb k key same)) ∙ is)))
     (λ (apart : k ≢ key).

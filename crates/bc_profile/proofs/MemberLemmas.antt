@@ -74,10 +74,11 @@ gone_without slot (y ∷ ys) =
 
 pub distinct_push : (slot : ℕ) (xs : List ℕ) → Distinct xs → list_any (λ o. o == slot) xs ≡ false → Distinct (xs ++ slot ∷ [])
 distinct_push slot [] d none = (refl, tt)
-distinct_push slot (y ∷ ys) d none =
-    (list_any-append (λ o. o == y) ys (slot ∷ []) ∙ or_both (list_any (λ o. o == y) ys) ((slot == y) || false) d.0
-    (or_both (slot == y) false (ne_eqb slot y (λ same. absurd (true≢false (sym (eq-eqb y slot (sym same)) ∙ or_left (y == slot) (list_any (λ o. o == slot) ys) none)))) refl),
-    distinct_push slot ys d.1 (or_right (y == slot) (list_any (λ o. o == slot) ys) none))
+distinct_push slot (y ∷ ys) d none = (
+  list_any-append (λ o. o == y) ys (slot ∷ []) ∙ or_both (list_any (λ o. o == y) ys) ((slot == y) || false) d.0
+      (or_both (slot == y) false (ne_eqb slot y (λ same. absurd (true≢false (sym (eq-eqb y slot (sym same)) ∙ or_left (y == slot) (list_any (λ o. o == slot) ys) none)))) refl),
+  distinct_push slot ys d.1 (or_right (y == slot) (list_any (λ o. o == slot) ys) none),
+)
 
 -- taking a number out of a distinct list makes it shorter by at most one
 same_without : (n : ℕ) (xs : List ℕ) → list_any (λ o. o == n) xs ≡ false → without n xs ≡ xs

@@ -22,9 +22,10 @@ stopped held (x ∷ xs) zero slot less is all free =
     let x_free = ap held (sym is) ∙ free in
     (ap (λ (b : Bool). cond (not b) (Some x) (find (λ o. not (held o)) xs)) x_free ∙ ap (λ (z : ℕ). Some z) (sym is), take_while-cons held x xs ∙ ap (λ (b : Bool). cond b (x ∷ take_while held xs) []) x_free)
 stopped held (x ∷ xs) (suc i) slot less is all free =
-    let rest = stopped held xs i slot (omega (arith, less)) is all.1 free in
-    (ap (λ (b : Bool). cond (not b) (Some x) (find (λ o. not (held o)) xs)) all.0 ∙ rest.0,
-    take_while-cons held x xs ∙ ap (λ (b : Bool). cond b (x ∷ take_while held xs) []) all.0 ∙ ap (λ (l : List ℕ). x ∷ l) rest.1)
+    let rest = stopped held xs i slot (omega (arith, less)) is all.1 free in (
+      ap (λ (b : Bool). cond (not b) (Some x) (find (λ o. not (held o)) xs)) all.0 ∙ rest.0,
+      take_while-cons held x xs ∙ ap (λ (b : Bool). cond b (x ∷ take_while held xs) []) all.0 ∙ ap (λ (l : List ℕ). x ∷ l) rest.1,
+    )
 
 pub none_free : (held : ℕ → Bool) (list : List ℕ) → AllByRecursion (λ o. held o ≡ true) list → find (λ o. not (held o)) list ≡ None
 none_free held [] all = refl

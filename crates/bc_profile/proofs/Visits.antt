@@ -192,30 +192,36 @@ module _ (t : ProfileData) (p : P) (h : Option HoldFacts) (one : OneAtRest p.cal
         was_seen = ap (λ (z : Q). z.seen) (sym same_part) ∙ ap seen_of (sym o.parts)
 
         pub noticed : (h' : Option HoldFacts) → (n : Noticed (facts_of p h) (facts_of p2 h') es) × (n.front ≡ v.story)
-        noticed h' = (record {
-          front = v.story;
-          begins = subst (StartsWith v.story) was_seen took.1.4.0.0;
-          own_front = own_seen;
-          ends = seen2 ∙ mine.story;
-          own_events = ap (λ c. own author_of c (seen_of p2.parts)) same_caller ∙ ap (own author_of p.caller) (seen2 ∙ mine.story) ∙ own-append author_of p.caller v.story (notes p.caller es)
-              ∙ ap (λ l. l ++ own author_of p.caller (notes p.caller es)) own_seen
-              ∙ ap (λ l. own author_of p.caller (seen_of p.parts) ++ l) (own-each author_of p.caller (notes p.caller es) (each_note p.caller p.caller es refl));
-          caller = same_caller;
-          cell = same_keys;
-        }, refl)
+        noticed h' = (
+          record {
+            front = v.story;
+            begins = subst (StartsWith v.story) was_seen took.1.4.0.0;
+            own_front = own_seen;
+            ends = seen2 ∙ mine.story;
+            own_events = ap (λ c. own author_of c (seen_of p2.parts)) same_caller ∙ ap (own author_of p.caller) (seen2 ∙ mine.story) ∙ own-append author_of p.caller v.story (notes p.caller es)
+                ∙ ap (λ l. l ++ own author_of p.caller (notes p.caller es)) own_seen
+                ∙ ap (λ l. own author_of p.caller (seen_of p.parts) ++ l) (own-each author_of p.caller (notes p.caller es) (each_note p.caller p.caller es refl));
+            caller = same_caller;
+            cell = same_keys;
+          },
+          refl,
+        )
 
 -- a call that added nothing, and one after it
 pub noticed_more : (a b d : SlotFacts) (es : List Event) → Noticed a b [] → (two : Noticed b d es) → (n : Noticed a d es) × (n.front ≡ two.front)
 noticed_more a b d es one two =
-    let seen : b.seen ≡ one.front = one.ends ∙ append-nil one.front in (record {
-      front = two.front;
-      begins = begins_trans a.seen one.front two.front one.begins (subst (StartsWith two.front) seen two.begins);
-      own_front = ap (λ c. own author_of c two.front) (sym one.caller) ∙ two.own_front ∙ one.own_events ∙ append-nil (made_by a);
-      ends = two.ends ∙ ap (λ k. two.front ++ notes k es) one.caller;
-      own_events = two.own_events ∙ ap (λ l. l ++ notes b.caller es) (one.own_events ∙ append-nil (made_by a)) ∙ ap (λ k. made_by a ++ notes k es) one.caller;
-      caller = two.caller ∙ one.caller;
-      cell = two.cell ∙ one.cell;
-    }, refl)
+    let seen : b.seen ≡ one.front = one.ends ∙ append-nil one.front in (
+      record {
+        front = two.front;
+        begins = begins_trans a.seen one.front two.front one.begins (subst (StartsWith two.front) seen two.begins);
+        own_front = ap (λ c. own author_of c two.front) (sym one.caller) ∙ two.own_front ∙ one.own_events ∙ append-nil (made_by a);
+        ends = two.ends ∙ ap (λ k. two.front ++ notes k es) one.caller;
+        own_events = two.own_events ∙ ap (λ l. l ++ notes b.caller es) (one.own_events ∙ append-nil (made_by a)) ∙ ap (λ k. made_by a ++ notes k es) one.caller;
+        caller = two.caller ∙ one.caller;
+        cell = two.cell ∙ one.cell;
+      },
+      refl,
+    )
 
 pub noticed_none : (a : SlotFacts) → Noticed a a []
 noticed_none a = record { front = a.seen; begins = begins_itself a.seen; own_front = refl; ends = sym (append-nil a.seen); own_events = sym (append-nil (made_by a)); caller = refl; cell = refl }

@@ -6,7 +6,6 @@ ghost use Rattle.bc_profile.specs.Laws.{HoldsNameProgrammings, ProgrammingsStay,
 /// an eviction of the key that answered `Ok` it names none of the events that the pass had seen by then. A caller's proof
 /// cites it from this call, with what [`Profile::get`](crate::Profile::get) and [`Profile::evict`](crate::Profile::evict)
 /// tell.
-#[tactic(auto, using(crate::proofs::Epochs::held_programmed, crate::proofs::Epochs::stays, crate::proofs::Epochs::never_before, crate::proofs::Epochs::later_after_gone))]
 pub fn hold_laws()
     ensures names { HoldsNameProgrammings }
     ensures stays { ProgrammingsStay }

@@ -155,12 +155,7 @@ impl Profile {
     /// # Errors
     ///
     /// What each slot was found to be, where none has the key and all are held.
-    pub fn try_get<R: Wait>(
-        &self,
-        rt: &R,
-        pass: &mut SlotPass,
-        key: KeyNo,
-    ) -> Result<Hold, AllHeld>
+    pub fn try_get<R: Wait>(&self, rt: &R, pass: &mut SlotPass, key: KeyNo) -> Result<Hold, AllHeld>
         requires pass { IsOf self.now pass.old }
         requires free { pass.old.hold ≡ None }
         requires key { key.0 < length self.now.rows }

@@ -33,8 +33,9 @@ returns-in-Some-clause-closed c =
     let values = c.in-Ok-close.ensures.values in
     let one = values.0 ∙ c.self.invariant.one in
     let book = c.in-Some.book in
-    let closed = one_book (parts.IsClosed story_of KeepsTo author_of c.self.inside.turns seats) c.in-Ok-close.books.items c.pop.new.self.items book one values.1 c.in-Some.ensures.items in
-    (book.story,
-    c.take_events.ensures ∙ ap events_of c.close-in-Ok-close.ensures.story,
-    subst (λ t. IsClosed t c.args.passes.items book.story) c.self.view_is
-    (is_closed _ book c.self.inside.quotas.items seats c.args.passes.items c.self.invariant c.unseat.ensures.rest c.unseat.ensures.same closed c.close-in-Ok-close.ensures.lawful))
+    let closed = one_book (parts.IsClosed story_of KeepsTo author_of c.self.inside.turns seats) c.in-Ok-close.books.items c.pop.new.self.items book one values.1 c.in-Some.ensures.items in (
+      book.story,
+      c.take_events.ensures ∙ ap events_of c.close-in-Ok-close.ensures.story,
+      subst (λ t. IsClosed t c.args.passes.items book.story) c.self.view_is
+          (is_closed _ book c.self.inside.quotas.items seats c.args.passes.items c.self.invariant c.unseat.ensures.rest c.unseat.ensures.same closed c.close-in-Ok-close.ensures.lawful),
+    )

@@ -16,13 +16,14 @@ pub returns-in_default-clause-none : goal.returns-in_default-clause-none
 returns-in_default-clause-none g c =
     let same = c.in_default.ensures.none.1 in
     let fit = less_spare c.args.self.now c.args.pass.now 0 2 (omega arith) c.requires.spare in
-    let adds = adds_nothing c.take-book.new.pass.caller c.take-book.result c.take_hold-taken.new.self same in
-    (ap (λ f. f.hold) c.pass.view_is ∙ c.requires.free,
-    told _ c.args.self.now c.pass.inside.turn c.pass.inside.hold c.args.pass.now c.self.view_is c.pass.view_is c.pass.invariant c.requires.pass c.take-book.new.pass c.take-book.result c.take-book.ensures.took
-    c.take_hold-taken.new.self [] adds fit c.give.new.pass c.give.ensures.gave c.pass.inside.hold,
-    front _ c.args.self.now c.pass.inside.turn c.pass.inside.hold c.args.pass.now c.self.view_is c.pass.view_is c.pass.invariant c.requires.pass c.take-book.new.pass c.take-book.result c.take-book.ensures.took
-    c.take_hold-taken.new.self [] adds fit c.give.new.pass c.give.ensures.gave (λ n l. AllFoundHeld n l c.args.key.0 c.words-words.result)
-    (all_found c.take-book.result c.take_hold-taken.new.self c.args.key.0 c.words-words.result same c.in_default.ensures.none.0 c.words-words.ensures.words c.words-words.ensures.count))
+    let adds = adds_nothing c.take-book.new.pass.caller c.take-book.result c.take_hold-taken.new.self same in (
+      ap (λ f. f.hold) c.pass.view_is ∙ c.requires.free,
+      told _ c.args.self.now c.pass.inside.turn c.pass.inside.hold c.args.pass.now c.self.view_is c.pass.view_is c.pass.invariant c.requires.pass c.take-book.new.pass c.take-book.result c.take-book.ensures.took
+          c.take_hold-taken.new.self [] adds fit c.give.new.pass c.give.ensures.gave c.pass.inside.hold,
+      front _ c.args.self.now c.pass.inside.turn c.pass.inside.hold c.args.pass.now c.self.view_is c.pass.view_is c.pass.invariant c.requires.pass c.take-book.new.pass c.take-book.result c.take-book.ensures.took
+          c.take_hold-taken.new.self [] adds fit c.give.new.pass c.give.ensures.gave (λ n l. AllFoundHeld n l c.args.key.0 c.words-words.result)
+          (all_found c.take-book.result c.take_hold-taken.new.self c.args.key.0 c.words-words.result same c.in_default.ensures.none.0 c.words-words.ensures.words c.words-words.ensures.count),
+    )
 
 pub give-requires-2-clause-held : goal.give-requires-2-clause-held
 give-requires-2-clause-held g c =

@@ -22,10 +22,11 @@ pub returns-in-Some : goal.returns-in-Some
 returns-in-Some c =
     let found = ap (position (is_key c.args.key)) (sym c.as_slice.ensures.value) ∙ sym c.slot_with.ensures ∙ c.in-Some.is in
     let has = slot_has c.args.key c.self.inside.keys.items c.in-Some.slot found in
-    let at = c.index.ensures ∙ get_or_default c.self.inside.refs.items c.in-Some.slot c.index.result.now 0 (omega (arith, has.0, c.self.invariant.as_many)) in
-    (ap (λ t. key_of t.slots c.in-Some.slot) (sym c.self.view_is) ∙ has.1,
-    ap (λ n. record { slots = record { keys = c.self.inside.keys.items; list = c.self.inside.list.items }; refs = slice_set c.self.inside.refs.items c.in-Some.slot n }) (c.counted.ensures ∙ ap one_more at)
-    ∙ ap (λ t. with_refs t c.in-Some.slot (one_more (refs_of t.refs c.in-Some.slot))) c.self.view_is)
+    let at = c.index.ensures ∙ get_or_default c.self.inside.refs.items c.in-Some.slot c.index.result.now 0 (omega (arith, has.0, c.self.invariant.as_many)) in (
+      ap (λ t. key_of t.slots c.in-Some.slot) (sym c.self.view_is) ∙ has.1,
+      ap (λ n. record { slots = record { keys = c.self.inside.keys.items; list = c.self.inside.list.items }; refs = slice_set c.self.inside.refs.items c.in-Some.slot n }) (c.counted.ensures ∙ ap one_more at)
+          ∙ ap (λ t. with_refs t c.in-Some.slot (one_more (refs_of t.refs c.in-Some.slot))) c.self.view_is,
+    )
 
 pub first_free-requires-clause-slots : goal.first_free-requires-clause-slots
 first_free-requires-clause-slots c =
@@ -35,10 +36,11 @@ first_free-requires-clause-slots c =
 pub returns-in_default-first_free : goal.returns-in_default-first_free
 returns-in_default-first_free c =
     let nowhere = in_no_slot c.args.key c.self.inside.keys.items (ap (position (is_key c.args.key)) (sym c.as_slice.ensures.value) ∙ sym c.slot_with.ensures ∙ c.in_default.is) in
-    let none = none_free_at c.self.inside.refs.items c.self.inside.list.items c.as_slice-3.result.now c.as_slice-2.result.now c.as_slice-3.ensures.value c.as_slice-2.ensures.value c.in_default-first_free.ensures in
-    (subst (λ t. InNoSlot t.slots c.args.key) c.self.view_is nowhere,
-    subst AllHeld c.self.view_is (all_held c.self.inside.keys.items c.self.inside.list.items c.self.inside.refs.items c.self.invariant none),
-    refl)
+    let none = none_free_at c.self.inside.refs.items c.self.inside.list.items c.as_slice-3.result.now c.as_slice-2.result.now c.as_slice-3.ensures.value c.as_slice-2.ensures.value c.in_default-first_free.ensures in (
+      subst (λ t. InNoSlot t.slots c.args.key) c.self.view_is nowhere,
+      subst AllHeld c.self.view_is (all_held c.self.inside.keys.items c.self.inside.list.items c.self.inside.refs.items c.self.invariant none),
+      refl,
+    )
 
 pub index_mut-requires-2 : goal.index_mut-requires-2
 index_mut-requires-2 c =
@@ -63,11 +65,12 @@ invariant_of-self-2 c =
 pub returns : goal.returns
 returns c =
     let free = first_free_at c.self.inside.refs.items c.self.inside.list.items c.as_slice-3.result.now c.as_slice-2.result.now c.first_free.result c.in-Some-first_free.slot c.in-Some-first_free.skipped c.as_slice-3.ensures.value c.as_slice-2.ensures.value c.in-Some-first_free.is c.first_free.ensures in
-    let nowhere = in_no_slot c.args.key c.self.inside.keys.items (ap (position (is_key c.args.key)) (sym c.as_slice.ensures.value) ∙ sym c.slot_with.ensures ∙ c.in_default.is) in
-    (subst (λ t. MayProgram t.slots c.in-Some-first_free.slot c.args.key c.in-Some-first_free.skipped) c.self.view_is
-    (programs c.self.inside.keys.items c.self.inside.list.items c.self.inside.refs.items c.in-Some-first_free.slot c.args.key c.in-Some-first_free.skipped c.self.invariant free nowhere),
-    subst (λ t. AllByRecursion (WasFound t.refs) c.in-Some-first_free.skipped) c.self.view_is free.found,
-    ap (λ t. refs_of t.refs c.in-Some-first_free.slot) (sym c.self.view_is)
-    ∙ no_refs c.self.inside.keys.items c.self.inside.list.items c.self.inside.refs.items c.in-Some-first_free.slot c.args.key c.in-Some-first_free.skipped c.self.invariant free nowhere,
-    ap (λ l. record { slots = record { keys = slice_set c.self.inside.keys.items c.in-Some-first_free.slot (Some c.args.key); list = l }; refs = slice_set c.self.inside.refs.items c.in-Some-first_free.slot 1 }) c.take_off.ensures
-    ∙ ap (λ t. record { slots = record { keys = slice_set t.slots.keys c.in-Some-first_free.slot (Some c.args.key); list = without c.in-Some-first_free.slot t.slots.list }; refs = slice_set t.refs c.in-Some-first_free.slot 1 }) c.self.view_is)
+    let nowhere = in_no_slot c.args.key c.self.inside.keys.items (ap (position (is_key c.args.key)) (sym c.as_slice.ensures.value) ∙ sym c.slot_with.ensures ∙ c.in_default.is) in (
+      subst (λ t. MayProgram t.slots c.in-Some-first_free.slot c.args.key c.in-Some-first_free.skipped) c.self.view_is
+          (programs c.self.inside.keys.items c.self.inside.list.items c.self.inside.refs.items c.in-Some-first_free.slot c.args.key c.in-Some-first_free.skipped c.self.invariant free nowhere),
+      subst (λ t. AllByRecursion (WasFound t.refs) c.in-Some-first_free.skipped) c.self.view_is free.found,
+      ap (λ t. refs_of t.refs c.in-Some-first_free.slot) (sym c.self.view_is)
+          ∙ no_refs c.self.inside.keys.items c.self.inside.list.items c.self.inside.refs.items c.in-Some-first_free.slot c.args.key c.in-Some-first_free.skipped c.self.invariant free nowhere,
+      ap (λ l. record { slots = record { keys = slice_set c.self.inside.keys.items c.in-Some-first_free.slot (Some c.args.key); list = l }; refs = slice_set c.self.inside.refs.items c.in-Some-first_free.slot 1 }) c.take_off.ensures
+          ∙ ap (λ t. record { slots = record { keys = slice_set t.slots.keys c.in-Some-first_free.slot (Some c.args.key); list = without c.in-Some-first_free.slot t.slots.list }; refs = slice_set t.refs c.in-Some-first_free.slot 1 }) c.self.view_is,
+    )

@@ -16,11 +16,12 @@ returns-in_default c =
 pub returns-then-refs-gt0 : goal.returns-then-refs-gt0
 returns-then-refs-gt0 c =
     let has = slot_has c.args.key c.self.inside.keys.items c.in-Some.slot (ap (position (is_key c.args.key)) (sym c.as_slice.ensures.value) ∙ sym c.slot_with.ensures ∙ c.in-Some.is) in
-    let at = c.index-refs.ensures ∙ get_or_default c.self.inside.refs.items c.in-Some.slot c.index-refs.result.now 0 (omega (arith, has.0, c.self.invariant.as_many)) in
-    (ap (λ t. key_of t.slots c.in-Some.slot) (sym c.self.view_is) ∙ has.1,
-    (let some = c.if-refs-gt0.true in omega arith),
-    at ∙ ap (λ t. refs_of t.refs c.in-Some.slot) c.self.view_is,
-    refl)
+    let at = c.index-refs.ensures ∙ get_or_default c.self.inside.refs.items c.in-Some.slot c.index-refs.result.now 0 (omega (arith, has.0, c.self.invariant.as_many)) in (
+      ap (λ t. key_of t.slots c.in-Some.slot) (sym c.self.view_is) ∙ has.1,
+      (let some = c.if-refs-gt0.true in omega arith),
+      at ∙ ap (λ t. refs_of t.refs c.in-Some.slot) c.self.view_is,
+      refl,
+    )
 
 pub invariant_of-self : goal.invariant_of-self
 invariant_of-self c =
@@ -32,7 +33,8 @@ invariant_of-self c =
 pub returns : goal.returns
 returns c =
     let has = slot_has c.args.key c.self.inside.keys.items c.in-Some.slot (ap (position (is_key c.args.key)) (sym c.as_slice.ensures.value) ∙ sym c.slot_with.ensures ∙ c.in-Some.is) in
-    let at = c.index-refs.ensures ∙ get_or_default c.self.inside.refs.items c.in-Some.slot c.index-refs.result.now 0 (omega (arith, has.0, c.self.invariant.as_many)) in
-    (ap (λ t. key_of t.slots c.in-Some.slot) (sym c.self.view_is) ∙ has.1,
-    ap (λ t. refs_of t.refs c.in-Some.slot) (sym c.self.view_is) ∙ (let none = c.if-refs-gt0.false in omega (arith, at, none)),
-    ap (λ t. record { slots = record { keys = slice_set t.slots.keys c.in-Some.slot None; list = t.slots.list }; refs = t.refs }) c.self.view_is)
+    let at = c.index-refs.ensures ∙ get_or_default c.self.inside.refs.items c.in-Some.slot c.index-refs.result.now 0 (omega (arith, has.0, c.self.invariant.as_many)) in (
+      ap (λ t. key_of t.slots c.in-Some.slot) (sym c.self.view_is) ∙ has.1,
+      ap (λ t. refs_of t.refs c.in-Some.slot) (sym c.self.view_is) ∙ (let none = c.if-refs-gt0.false in omega (arith, at, none)),
+      ap (λ t. record { slots = record { keys = slice_set t.slots.keys c.in-Some.slot None; list = t.slots.list }; refs = t.refs }) c.self.view_is,
+    )
