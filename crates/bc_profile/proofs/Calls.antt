@@ -1,7 +1,6 @@
 -- The same of the profile and the pass as contracts see them, and what each kind of call adds.
-use Rattle.std.proofs.Common.{◌≡◌, ◌⊎◌, inl, inr, ℕ, ◌+◌, ◌-◌, ◌<◌, ◌≤◌, Bool, true, false, cond, List, [], ◌∷◌, ◌++◌, length, map, refl, sym, ap, ◌∙◌, subst, arith, Some, None, Option, append-nil}
+use Rattle.std.proofs.Common.{◌≡◌, inl, inr, ℕ, ◌+◌, ◌≤◌, Bool, true, false, cond, List, [], ◌∷◌, length, refl, sym, ap, subst, arith, Some, None, Option}
 use Rattle.std.specs.Prelude.{IfSome, ◌==◌, Result, Ok, Err, MatchResult, OnOk}
-use Rattle.std.specs.List.{AllByRecursion}
 use Rattle.std.proofs.Math.Logic.{⊎_elim}
 use Rattle.bc_base.specs.Lists.{AllAt, EachFrom}
 use Rattle.bc_turn.specs.Parts.{Changes, without_turn, TakesLater, GoesOn}
@@ -10,10 +9,9 @@ use Rattle.bc_profile.specs.declared.event.Event.TheVariants as events
 use Rattle.bc_profile.specs.declared.noted.Noted.{Noted}
 use Rattle.bc_profile.specs.declared.slot_word.SlotWord.{SlotWord}
 use Rattle.bc_profile.specs.SlotJournal.{InNoSlot, MayProgram, key_of}
-use Rattle.bc_profile.specs.Story.{Holds, IsGone, author_of, slots_told}
+use Rattle.bc_profile.specs.Story.{IsGone, author_of, slots_told}
 use Rattle.bc_profile.specs.Book.{BookData, HasRoom, Hits, ProgramsOne, TakesHold, AllHeld, IsHeldBy, Empties, TakesOut, IsBusy, NoneFree, recorded, events_of_put, slots_of}
-use Rattle.bc_profile.specs.SlotTable.{refs_of}
-use Rattle.bc_profile.specs.Passes.{KeepsTo, HoldFacts, SlotFacts, ProfileData, IsOf, IsHold, HasSpare, Noticed, OneAtRest, Gets, ProgramsSlot, Puts, Evicts, TakesOutOf, Refuses, FoundHeld, AllFoundHeld, facts_of, seen_of, slots_in}
+use Rattle.bc_profile.specs.Passes.{KeepsTo, HoldFacts, SlotFacts, ProfileData, IsOf, IsHold, HasSpare, Noticed, OneAtRest, Gets, ProgramsSlot, Puts, Evicts, Refuses, FoundHeld, AllFoundHeld, facts_of, seen_of, slots_in}
 use Rattle.bc_profile.proofs.Visits.{P, Adds, story_of, has_room, may_give, still_one, still_of, of_front, noticed, noticed_more, keeps, adds_none}
 
 module _ (t now : ProfileData) (p : P) (h : Option HoldFacts) (pass : SlotFacts) (view : t ≡ now) (pass_view : facts_of p h ≡ pass) (one : OneAtRest p.caller p.parts) (of : IsOf now pass) where

@@ -1,12 +1,12 @@
 -- What a hold tells by the front of the story that was seen: it names its programming, later holds of a key name no earlier
 -- one, and a hold behind an eviction a later one.
-use Rattle.std.proofs.Common.{◌≡◌, ℕ, zero, suc, ◌+◌, ◌<◌, ◌≤◌, ◌⊎◌, inl, inr, Bool, true, false, cond, List, [], ◌∷◌, ◌++◌, length, map, get_or, refl, sym, ap, subst, ◌∙◌, arith, Option, Some, None}
-use Rattle.std.specs.Prelude.{◌≢◌, ◌==◌, filter_map, slice_get, All, fold}
+use Rattle.std.proofs.Common.{◌≡◌, ℕ, zero, suc, ◌+◌, ◌<◌, ◌≤◌, ◌⊎◌, inl, inr, Bool, cond, List, [], ◌∷◌, ◌++◌, length, refl, sym, ap, subst, ◌∙◌, arith, Option, Some, None}
+use Rattle.std.specs.Prelude.{◌≢◌, filter_map, slice_get, All}
 use Rattle.std.specs.List.{enumerate_from, last_or, cons_option}
 use Rattle.std.proofs.Math.Logic.{⊎_elim}
 use Rattle.std.proofs.lemmas.Bool.{eq-eqb, ne_eqb, cases_eq}
 use Rattle.std.proofs.lemmas.Option.{none-some, same_Some}
-use Rattle.std.proofs.lemmas.List.{map-append, length-append, length-map, length-replicate}
+use Rattle.std.proofs.lemmas.List.{map-append, length-map, length-replicate}
 use Rattle.std.proofs.lemmas.List.Sums.{fold-append}
 use Rattle.std.proofs.lemmas.List.Elements.{filter_map-append, All-set}
 use Rattle.bc_base.specs.Story.{StartsWith}
@@ -15,7 +15,7 @@ use Rattle.bc_profile.specs.declared.event.Event.TheVariants as events
 use Rattle.bc_profile.specs.declared.noted.Noted.{Noted}
 use Rattle.bc_profile.specs.declared.skips.Skip.{Skip}
 use Rattle.bc_profile.specs.SlotJournal.{Slots, opening, after_event, after_events, key_of}
-use Rattle.bc_profile.specs.Programmings.{programming_at, last_programming}
+use Rattle.bc_profile.specs.Programmings.{programming_at}
 use Rattle.bc_profile.specs.Story.{Holds, IsGone, Programs, event_in, events_of}
 use Rattle.bc_profile.proofs.KeyLemmas.{last_append, enumerate-append, key_gone, key_inside, same_count}
 

@@ -1,11 +1,10 @@
 -- A profile that is opened, and one that is closed.
-use Rattle.std.proofs.Common.{◌≡◌, ◌⊎◌, inl, inr, ℕ, zero, suc, ◌+◌, ◌<◌, ◌≤◌, Bool, true, false, List, [], ◌∷◌, ◌++◌, length, map, refl, sym, ap, ◌∙◌, subst, arith, Option, Some, None}
+use Rattle.std.proofs.Common.{◌≡◌, ℕ, ◌+◌, ◌<◌, Bool, true, false, List, [], ◌∷◌, ◌++◌, length, map, refl, sym, ap, ◌∙◌, subst, arith, None}
 use Rattle.std.specs.Prelude.{◌==◌, ◌||◌, sum}
 use Rattle.std.specs.List.{list_any, range_with_len}
 use Rattle.std.proofs.lemmas.Bool.{true≢false}
-use Rattle.std.proofs.lemmas.Option.{none-some, same_Some}
 use Rattle.std.proofs.lemmas.List.{length-append, length-map}
-use Rattle.bc_base.specs.Lists.{Each, EachFrom, At, AllAt}
+use Rattle.bc_base.specs.Lists.{Each, EachFrom, AllAt}
 use Rattle.bc_base.specs.Story.{own, StartsWith, IsFront}
 use Rattle.bc_turn.specs.Turning.{one_if, sum_of}
 use Rattle.bc_turn.specs.Parts as parts
@@ -14,8 +13,8 @@ use Rattle.bc_profile.specs.declared.noted.Noted.{Noted}
 use Rattle.bc_profile.specs.SlotJournal.{IsLawful}
 use Rattle.bc_profile.specs.Story.{author_of, events_of}
 use Rattle.bc_profile.specs.Book.{BookData}
-use Rattle.bc_profile.specs.Passes.{BaseData, KeepsTo, SlotFacts, ProfileData, IsOf, HasOneAtRest, OneAtRest, AreAllHere, IsClosed, IsProfile, base_of, facts_of, new_pass, pass_of, seen_of, slots_in}
-use Rattle.bc_profile.proofs.Visits.{Only, only, is_of, story_of}
+use Rattle.bc_profile.specs.Passes.{BaseData, KeepsTo, SlotFacts, ProfileData, IsOf, HasOneAtRest, IsClosed, IsProfile, base_of, new_pass, pass_of, seen_of}
+use Rattle.bc_profile.proofs.Visits.{only, is_of, story_of}
 
 -- ---- opening
 

@@ -1,19 +1,16 @@
 -- The search of the list for the first slot that isn't held.
-use Rattle.std.proofs.Common.{◌≡◌, ℕ, zero, suc, ◌+◌, ◌<◌, ◌≤◌, Bool, true, false, cond, List, [], ◌∷◌, ◌++◌, length, map, take, get_or, refl, sym, ap, subst, ◌∙◌, Some, None, arith}
-use Rattle.std.specs.Prelude.{find, take_while, not, ◌==◌, ◌≢◌, MatchOption, Option, All, slice_set, slice_get}
+use Rattle.std.proofs.Common.{◌≡◌, ℕ, zero, suc, ◌<◌, Bool, true, false, cond, List, [], ◌∷◌, ◌++◌, length, map, take, get_or, refl, sym, ap, subst, ◌∙◌, Some, None, arith}
+use Rattle.std.specs.Prelude.{find, take_while, not, ◌==◌, ◌≢◌, MatchOption, Option, All, slice_set}
 use Rattle.std.specs.Prelude.{◌||◌}
 use Rattle.std.specs.List.{AllByRecursion, list_any}
 use Rattle.std.proofs.lemmas.Bool.{true≢false}
 use Rattle.std.proofs.lemmas.Option.{none-some}
-use Rattle.std.proofs.lemmas.List.{take_more, take_all, map_push}
 use Rattle.std.proofs.lemmas.List.Sums.{take_while-cons}
 use Rattle.bc_profile.specs.declared.skips.Skip.{Skip}
-use Rattle.bc_profile.specs.SlotJournal.{Slots, MayProgram, without, after_event}
-use Rattle.bc_profile.specs.declared.event.Event.TheVariants as events
-use Rattle.bc_profile.specs.SlotTable.{TableData, IsTable, WasFound, IsFirstFree, AllHeld, is_held, refs_of}
+use Rattle.bc_profile.specs.SlotJournal.{MayProgram, without}
+use Rattle.bc_profile.specs.SlotTable.{IsTable, WasFound, IsFirstFree, AllHeld, is_held, refs_of}
 use Rattle.bc_profile.proofs.TableLemmas.{found_is_held, may_program, programmed, held_many, held_not, equal}
 use Rattle.bc_profile.proofs.SkipLemmas.{first_free}
-use Rattle.bc_profile.proofs.MemberLemmas.{all_at}
 
 pub stopped : (held : ℕ → Bool) (list : List ℕ) (i slot : ℕ) → i < length list → slot ≡ get_or list i 0 → AllByRecursion (λ o. held o ≡ true) (take i list) → held slot ≡ false
     → (find (λ o. not (held o)) list ≡ Some slot) × (take_while held list ≡ take i list)

@@ -1,9 +1,9 @@
 -- What a table of slots keeps, and that each thing that it does keeps it.
-use Rattle.std.proofs.Common.{◌≡◌, ◌≢◌, ℕ, zero, suc, ◌<◌, ◌≤◌, ◌+◌, ◌⊎◌, inl, inr, Bool, true, false, cond, List, [], ◌∷◌, ◌++◌, length, map, get_or, refl, sym, ap, subst, ◌∙◌, Option, Some, None, arith}
-use Rattle.std.specs.Prelude.{◌==◌, ◌&&◌, ◌||◌, not, find, take_while, filter, slice_index_or, slice_set, All, IsSome}
+use Rattle.std.proofs.Common.{◌≡◌, ◌≢◌, ℕ, zero, suc, ◌<◌, ◌≤◌, ◌+◌, inl, inr, Bool, true, false, cond, List, [], ◌∷◌, ◌++◌, length, map, get_or, refl, sym, ap, subst, ◌∙◌, Option, Some, None, arith}
+use Rattle.std.specs.Prelude.{◌==◌, ◌||◌, not, find, take_while, filter, slice_set, All, IsSome}
 use Rattle.std.specs.List.{AllByRecursion, list_any, range_with_len}
 use Rattle.std.proofs.Math.Logic.{⊎_elim}
-use Rattle.std.proofs.lemmas.Bool.{true≢false, eq-eqb, ne_eqb, cases_Bool, cases_eq}
+use Rattle.std.proofs.lemmas.Bool.{true≢false, eq-eqb, ne_eqb, cases_eq}
 use Rattle.std.proofs.lemmas.Option.{none-some, same_Some}
 use Rattle.std.proofs.lemmas.List.{length-set, get_or-set_same, get_or-set_other}
 use Rattle.std.proofs.lemmas.List.Elements.{All-from_recursion}
@@ -12,10 +12,10 @@ use Rattle.std.proofs.lemmas.List.Folds.{list_any-append}
 use Rattle.std.proofs.lemmas.Map.Views.{any-filter_same}
 use Rattle.bc_profile.specs.declared.limits.TheConstants.{MAX_SLOTS}
 use Rattle.bc_profile.specs.declared.skips.Skip.{Skip}
-use Rattle.bc_profile.specs.SlotJournal.{Slots, without, is_listed, idle_order, key_of, IsHeld, MayProgram}
-use Rattle.bc_profile.proofs.MemberLemmas.{In, all_at, all_from_in, in_append_left, in_of_filter, distinct_without, distinct_push, gone_without, pigeons}
+use Rattle.bc_profile.specs.SlotJournal.{Slots, without, is_listed, key_of, IsHeld, MayProgram}
+use Rattle.bc_profile.proofs.MemberLemmas.{In, all_at, all_from_in, in_of_filter, distinct_without, distinct_push, gone_without, pigeons}
 use Rattle.bc_profile.proofs.SkipLemmas.{skipped}
-use Rattle.bc_profile.specs.SlotTable.{IsTable, Distinct, WasFound, refs_of, is_held, one_more}
+use Rattle.bc_profile.specs.SlotTable.{IsTable, WasFound, refs_of, is_held, one_more}
 
 pub many_held : (n : ℕ) → 1 ≤ n → not (n == 0) ≡ true
 many_held n some = ap not (ne_eqb n 0 (λ none. absurd (omega (arith, some, none))))

@@ -1,5 +1,5 @@
 -- A table of slots that was just opened.
-use Rattle.std.proofs.Common.{◌≡◌, ◌≢◌, ℕ, zero, suc, ◌<◌, ◌≤◌, ◌+◌, Bool, true, false, List, [], ◌∷◌, length, get_or, refl, sym, ap, subst, ◌∙◌, Option, None, arith, replicate}
+use Rattle.std.proofs.Common.{◌≡◌, ℕ, zero, suc, ◌<◌, ◌≤◌, ◌+◌, Bool, false, List, length, refl, sym, ap, subst, ◌∙◌, Option, None, arith, replicate}
 use Rattle.std.specs.Prelude.{◌==◌, ◌||◌, not}
 use Rattle.std.specs.List.{AllByRecursion, list_any, range_with_len}
 use Rattle.std.proofs.Math.Logic.{⊎_elim}
@@ -7,8 +7,8 @@ use Rattle.std.proofs.lemmas.Bool.{true≢false, ne_eqb, cases_lt}
 use Rattle.std.proofs.lemmas.Option.{none-some}
 use Rattle.std.proofs.lemmas.List.{length-replicate, get_or-replicate, get_or_past}
 use Rattle.bc_profile.specs.declared.limits.TheConstants.{MAX_SLOTS}
-use Rattle.bc_profile.specs.SlotJournal.{Slots, opening}
-use Rattle.bc_profile.specs.SlotTable.{Distinct, IsTable, is_held, refs_of}
+use Rattle.bc_profile.specs.SlotJournal.{opening}
+use Rattle.bc_profile.specs.SlotTable.{Distinct, IsTable, is_held}
 use Rattle.bc_profile.proofs.OpeningLemmas.{new_slots}
 
 apart : (x first n : ℕ) → x < first → list_any (λ other. other == x) (range_with_len first n) ≡ false

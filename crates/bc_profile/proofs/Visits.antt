@@ -1,6 +1,6 @@
 -- The book that a caller takes, changes and gives back: what it may give, and what its pass has noticed then.
-use Rattle.std.proofs.Common.{◌≡◌, ◌≢◌, ◌⊎◌, ℕ, zero, suc, ◌+◌, ◌<◌, ◌≤◌, ◌^◌, List, [], ◌∷◌, ◌++◌, length, map, set, true, false, refl, sym, ap, ◌∙◌, subst, arith, length-append, append-nil, Some, None, Option}
-use Rattle.std.specs.Prelude.{IfSome, sum}
+use Rattle.std.proofs.Common.{◌≡◌, ◌≢◌, ℕ, ◌+◌, ◌<◌, ◌≤◌, ◌^◌, List, [], ◌∷◌, ◌++◌, length, map, set, true, false, refl, sym, ap, ◌∙◌, subst, arith, length-append, append-nil, Some, Option}
+use Rattle.std.specs.Prelude.{IfSome}
 use Rattle.std.proofs.Math.Logic.{⊎_elim}
 use Rattle.std.proofs.lemmas.Bool.{cases_eq}
 use Rattle.std.proofs.lemmas.List.{length-map}

@@ -1,5 +1,5 @@
 -- The story of a device that has many callers: its events, each with the caller that made it.
-use Rattle.std.specs.Prelude.{◌≡◌, ℕ, ◌+◌, List, map, Some, slice_get}
+use Rattle.std.specs.Prelude.{◌≡◌, ℕ, List, map, Some, slice_get}
 use Rattle.bc_turn.specs.Note as told
 use Rattle.bc_turn.specs.Note.{Note}
 use Rattle.bc_profile.specs.declared.event.Event.{Event}

@@ -1,4 +1,4 @@
-use Rattle.std.proofs.Common.{length, ◌<◌, sym, ap, subst}
+use Rattle.std.proofs.Common.{◌<◌, sym, ap, subst}
 use Rattle.std.specs.Prelude.{vec_capacity}
 use Rattle.bc_profile.specs.Book.{HasRoom}
 use Rattle.bc_profile.proofs.BookLemmas.{idles}

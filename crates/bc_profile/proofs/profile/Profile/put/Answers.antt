@@ -1,8 +1,8 @@
-use Rattle.std.proofs.Common.{◌-◌, length, None, ap, arith}
+use Rattle.std.proofs.Common.{◌-◌, length, None, arith}
 use Rattle.std.specs.Prelude.{slice_set}
 use Rattle.bc_profile.specs.Book.{events_of_put}
 use Rattle.bc_profile.specs.SlotTable.{refs_of}
-use Rattle.bc_profile.proofs.Calls.{room, may, told, rests, is_of, adds_these, less_spare, put_fits, puts}
+use Rattle.bc_profile.proofs.Calls.{room, may, told, adds_these, less_spare, put_fits, puts}
 use Rattle.bc_profile.proofs.profile.Profile.put.Goals as goal
 
 pub give_back-requires-clause-room : goal.give_back-requires-clause-room

@@ -1,7 +1,7 @@
-use Rattle.std.proofs.Common.{◌≡◌, ◌<◌, ◌∙◌, length, [], refl, Some, ap, sym, subst, arith}
+use Rattle.std.proofs.Common.{◌<◌, ◌∙◌, length, [], Some, ap, sym, subst, arith}
 use Rattle.std.proofs.lemmas.List.{get_or_default}
 use Rattle.bc_profile.specs.Rows.{cleared}
-use Rattle.bc_profile.specs.Story.{Holds, IsGone}
+use Rattle.bc_profile.specs.Story.{Holds}
 use Rattle.bc_profile.specs.Passes.{IsHold, AllFoundHeld, Gets, facts_of, row_at, seen_of, slots_in}
 use Rattle.bc_profile.proofs.Epochs.{held_programmed, held_inside}
 use Rattle.bc_profile.proofs.Calls.{room, may, told, front, is_of, takes_few, few_by, adds_nothing, less_spare, gets, all_found}

@@ -1,4 +1,4 @@
-use Rattle.std.proofs.Common.{◌≡◌, ◌<◌, ◌∙◌, ◌-◌, ◌++◌, ◌∷◌, [], length, slice_set, sym, subst, ap, arith}
+use Rattle.std.proofs.Common.{◌<◌, ◌∙◌, ◌++◌, ◌∷◌, [], length, slice_set, sym, subst, ap, arith}
 use Rattle.bc_profile.specs.SlotTable.{IsTable}
 use Rattle.bc_profile.proofs.TableLemmas.{idled, list_room}
 use Rattle.bc_profile.proofs.table.SlotTable.give_back.Goals as goal

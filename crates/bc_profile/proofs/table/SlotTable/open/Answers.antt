@@ -1,4 +1,4 @@
-use Rattle.std.proofs.Common.{◌≡◌, ◌∙◌, ◌++◌, ◌∷◌, [], length, sym, ap, subst, arith}
+use Rattle.std.proofs.Common.{◌≡◌, ◌∙◌, ◌++◌, ◌∷◌, [], length, sym, ap, arith}
 use Rattle.std.specs.List.{range_with_len}
 use Rattle.bc_profile.proofs.OpeningLemmas.{range_push}
 use Rattle.bc_profile.proofs.TableOpening.{new_parts, range_length}

@@ -1,7 +1,7 @@
-use Rattle.std.proofs.Common.{◌≡◌, ◌∙◌, ℕ, Some, None, slice_set, length, ◌<◌, ◌≤◌, sym, subst, ap, refl, arith}
-use Rattle.std.specs.Prelude.{◌≢◌, All, position}
+use Rattle.std.proofs.Common.{◌∙◌, Some, slice_set, length, ◌<◌, ◌≤◌, sym, subst, ap, refl, arith}
+use Rattle.std.specs.Prelude.{position}
 use Rattle.std.specs.List.{AllByRecursion}
-use Rattle.std.proofs.lemmas.List.{length-set, get_or_default}
+use Rattle.std.proofs.lemmas.List.{get_or_default}
 use Rattle.bc_profile.specs.SlotJournal.{without, key_of, MayProgram, InNoSlot}
 use Rattle.bc_profile.specs.OneCaller.{is_key}
 use Rattle.bc_profile.specs.SlotTable.{AllHeld, WasFound, with_refs, refs_of, one_more}

@@ -1,6 +1,6 @@
-use Rattle.std.proofs.Common.{◌≡◌, ◌∙◌, ℕ, Some, None, slice_set, length, ◌<◌, ◌≤◌, sym, subst, ap, refl, arith}
-use Rattle.std.specs.Prelude.{position, ◌==◌, not}
-use Rattle.std.proofs.lemmas.List.{length-set, get_or_default}
+use Rattle.std.proofs.Common.{◌∙◌, None, slice_set, sym, subst, ap, refl, arith}
+use Rattle.std.specs.Prelude.{position}
+use Rattle.std.proofs.lemmas.List.{get_or_default}
 use Rattle.bc_profile.specs.SlotJournal.{key_of, InNoSlot}
 use Rattle.bc_profile.specs.OneCaller.{is_key}
 use Rattle.bc_profile.specs.SlotTable.{refs_of}
