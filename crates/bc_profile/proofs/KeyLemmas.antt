@@ -11,6 +11,7 @@ use Rattle.std.proofs.lemmas.List.Quantifiers.{position-Some}
 use Rattle.std.proofs.lemmas.List.Elements.{filter_map-append}
 use Rattle.bc_profile.specs.declared.event.Event.{Event}
 use Rattle.bc_profile.specs.declared.event.Event.TheVariants as events
+use Rattle.bc_profile.specs.declared.skips.Skip.{Skip}
 use Rattle.bc_profile.specs.SlotJournal.{Slots, Allowed, EachEvent, after_event, after_events, opening, slots_after}
 use Rattle.bc_profile.specs.Programmings.{programming_at, last_programming}
 use Rattle.bc_profile.specs.OneCaller.{is_key}
@@ -41,7 +42,7 @@ in_no_slot key keys none k d inside is =
     ∙ fails_before_first (is_key key) keys k d (omega (arith, inside, past))))
     (cases_lt (position_or_len (is_key key) keys) (length keys))
 
-key_gone : (keys : List (Option ℕ)) (slot key : ℕ) → All (λ other. other ≢ Some key) keys → get_or keys slot None ≡ Some key → ⊥
+pub key_gone : (keys : List (Option ℕ)) (slot key : ℕ) → All (λ other. other ≢ Some key) keys → get_or keys slot None ≡ Some key → ⊥
 key_gone keys slot key gone is =
     ⊎_elim
     (λ (inside : slot < length keys). gone slot None inside is)
@@ -57,15 +58,15 @@ key_inside keys slot key is =
 
 -- ---- the journal with one event more
 
-last_append : {X : Type 0} (o : Option X) (xs ys : List X) → last_or o (xs ++ ys) ≡ last_or (last_or o xs) ys
+pub last_append : {X : Type 0} (o : Option X) (xs ys : List X) → last_or o (xs ++ ys) ≡ last_or (last_or o xs) ys
 last_append o [] ys = refl
 last_append o (x ∷ xs) ys = last_append (Some x) xs ys
 
-enumerate-append : {X : Type 0} (first n : ℕ) (xs ys : List X) → first + length xs ≡ n → enumerate_from first (xs ++ ys) ≡ enumerate_from first xs ++ enumerate_from n ys
+pub enumerate-append : {X : Type 0} (first n : ℕ) (xs ys : List X) → first + length xs ≡ n → enumerate_from first (xs ++ ys) ≡ enumerate_from first xs ++ enumerate_from n ys
 enumerate-append first n [] ys is = let e : first ≡ n = omega arith in ap (λ k. enumerate_from k ys) e
 enumerate-append first n (x ∷ xs) ys is = ap (λ l. (first, x) ∷ l) (enumerate-append (first + 1) n xs ys (omega arith))
 
-last_push : (key : ℕ) (journal : List Event) (e : Event)
+pub last_push : (key : ℕ) (journal : List Event) (e : Event)
     → last_programming key (journal ++ e ∷ []) ≡ last_or (last_programming key journal) (filter_map (programming_at key) (enumerate_from (length journal) (e ∷ [])))
 last_push key journal e =
     ap (λ l. last_or None (filter_map (programming_at key) l)) (enumerate-append 0 (length journal) journal (e ∷ []) (omega arith))
@@ -75,7 +76,7 @@ last_push key journal e =
 pub slots_push : (count : ℕ) (journal : List Event) (e : Event) → slots_after count (journal ++ e ∷ []) ≡ after_event (slots_after count journal) e
 slots_push count journal e = fold-append after_event (opening count) journal (e ∷ [])
 
-each_push : (s : Slots) (journal : List Event) (e : Event) → EachEvent Allowed s journal → Allowed (after_events s journal) e → EachEvent Allowed s (journal ++ e ∷ [])
+pub each_push : (s : Slots) (journal : List Event) (e : Event) → EachEvent Allowed s journal → Allowed (after_events s journal) e → EachEvent Allowed s (journal ++ e ∷ [])
 each_push s [] e all is = (is, tt)
 each_push s (x ∷ xs) e all is = (all.0, each_push (after_event s x) xs e all.1 is)
 
@@ -88,10 +89,10 @@ same_count s events.Reset = refl
 
 -- ---- the events that are kept for the slots
 
-pub named_program : (keys : List (Option ℕ)) (epochs : List ℕ) (journal : List Event) (slot key : ℕ) → Named keys epochs journal → All (λ other. other ≢ Some key) keys → slot < length keys → length epochs ≡ length keys
-    → Named (slice_set keys slot (Some key)) (slice_set epochs slot (length journal)) (journal ++ events.Program slot key [] ∷ [])
-named_program keys epochs journal slot key named nowhere inside many slot' key' has =
-    let pushed = last_push key' journal (events.Program slot key []) in
+pub named_program : (keys : List (Option ℕ)) (epochs : List ℕ) (journal : List Event) (slot key : ℕ) (skipped : List Skip) → Named keys epochs journal → All (λ other. other ≢ Some key) keys → slot < length keys → length epochs ≡ length keys
+    → Named (slice_set keys slot (Some key)) (slice_set epochs slot (length journal)) (journal ++ events.Program slot key skipped ∷ [])
+named_program keys epochs journal slot key skipped named nowhere inside many slot' key' has =
+    let pushed = last_push key' journal (events.Program slot key skipped) in
     ⊎_elim
     (λ (same : slot' ≡ slot).
     let k : key ≡ key' = same_Some key key' (sym (get_or-set_same keys slot (Some key) None inside) ∙ subst (λ z. get_or (slice_set keys slot (Some key)) z None ≡ Some key') same has) in
@@ -111,6 +112,9 @@ named_idle keys epochs journal slot named slot' key' has = last_push key' journa
 
 pub named_reset : (keys : List (Option ℕ)) (epochs : List ℕ) (journal : List Event) → Named keys epochs journal → Named keys epochs (journal ++ events.Reset ∷ [])
 named_reset keys epochs journal named slot' key' has = last_push key' journal events.Reset ∙ named slot' key' has
+
+pub named_busy : (keys : List (Option ℕ)) (epochs : List ℕ) (journal : List Event) (slot key refs : ℕ) → Named keys epochs journal → Named keys epochs (journal ++ events.Busy slot key refs ∷ [])
+named_busy keys epochs journal slot key refs named slot' key' has = last_push key' journal (events.Busy slot key refs) ∙ named slot' key' has
 
 evicted_key : (keys : List (Option ℕ)) (slot slot' key' : ℕ) → slot < length keys → get_or (slice_set keys slot None) slot' None ≡ Some key' → get_or keys slot' None ≡ Some key'
 evicted_key keys slot slot' key' inside has =

@@ -37,7 +37,7 @@ all_cleared : (rows : List (List ℕ)) (n : ℕ) → map (row_of rows) (replicat
 all_cleared rows zero = refl
 all_cleared rows (suc n) = ap (λ l. cleared ∷ l) (all_cleared rows n)
 
-new_slots : (n : ℕ) → AreStamped (opening n) None (range_with_len 0 n) n
+pub new_slots : (n : ℕ) → AreStamped (opening n) None (range_with_len 0 n) n
 new_slots n =
     let keys = length-replicate {A = Option ℕ} n None in
     let many = length-range_with_len 0 n in record {

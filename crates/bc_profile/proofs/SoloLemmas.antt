@@ -85,7 +85,7 @@ module _ (keys : List (Option ℕ)) (epochs stamps : List ℕ) (rows registers :
           let left = ap (λ k. slice_set k least (Some key)) is.told.keys_left in record {
             told = subst (IsTold (slice_set keys least (Some key)) (slice_set epochs least (length journal))) (sym more)
                 (told_more keys (slice_set keys least (Some key)) epochs (slice_set epochs least (length journal)) journal (events.Program least key []) is.told (may_program key nowhere) left
-                (length-set epochs least (length journal)) (named_program keys epochs journal least key is.told.named nowhere inside is.told.as_many));
+                (length-set epochs least (length journal)) (named_program keys epochs journal least key [] is.told.named nowhere inside is.told.as_many));
             stamped = stamped_more (length keys) (length (slice_set keys least (Some key))) journal journal' (events.Program least key []) (Some least) stamps many more
                 (stamped_program (slots_after (length keys) journal) stamps (next_stamp (length keys) journal) least key is.stamped);
             written = ap (λ r. slice_set r least row) is.written ∙ ap (slice_set (map (row_of rows) keys) least) is_row ∙ sym (map-set (row_of rows) keys least (Some key));

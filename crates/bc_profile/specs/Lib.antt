@@ -4,3 +4,8 @@ pub mod OneCaller
 pub mod Rows
 pub mod Solo
 pub mod Stamps
+pub mod SlotTable
+pub mod Story
+pub mod Book
+pub mod Passes
+pub mod Laws

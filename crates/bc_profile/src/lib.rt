@@ -25,10 +25,32 @@ mod search;
 mod solo;
 mod uses;
 
+// the manager for many callers
+mod book;
+mod book_base;
+mod hold;
+mod noted;
+mod profile;
+mod seats;
+mod slot_pass;
+mod slot_word;
+mod table;
+
+// what holds of all holds
+mod laws;
+
+pub use book::{Book, Busy};
+pub use book_base::BookBase;
 pub use event::Event;
+pub use hold::Hold;
+pub use laws::hold_laws;
 pub use limits::{MAX_EVENTS, MAX_SLOTS, ROW_WORDS};
+pub use noted::Noted;
+pub use profile::{AllHeld, Profile};
 pub use registers::Row;
 pub use skips::{Skip, Skips};
+pub use slot_pass::SlotPass;
+pub use slot_word::{SlotState, SlotWord, Words};
 pub use solo::Solo;
 pub use uses::Use;
 
