@@ -4,6 +4,12 @@
 //! by the definitions of `specs/`: `UnitCipher` goes by the mode to `Xts`, whose tweaks are polynomials (`Tweak`), and to
 //! `CbcEssiv`.
 //!
+//! A key's data units, the second under the number that follows (`encipher_two` of the crate `uses`):
+//!
+//!     let cipher = UnitCipher::of_key(key);
+//!     cipher.encrypt(number, first);
+//!     cipher.encrypt(&number.plus(1), second);
+//!
 //! A controller with inline encryption holds keys in its registers, as crypto configuration entries: [`entry_words`] makes a
 //! key's entry, and [`cipher_of_words`] reads one as the unit cipher that it means, or says why it means none (`Entries`). What
 //! a controller can do is its [`UfsCaps`] (`Capabilities`).

@@ -4,6 +4,14 @@
 //! one operation after the other. What both promise is a lawful run: the report and the image are those of a keyed
 //! disk that performs single data units in the orders that the report lists. [`serial_runs_agree`] is the law that
 //! there is one such report and one such image.
+//!
+//! A run over memory, whose sink then holds the report (`report_of` of the crate `uses`):
+//!
+//!     let mut script = MemSource::new(text, 4096, Vec::new(alloc));
+//!     match run(rt, alloc, &words, &mut script, &mut out, &mut folder, &()) {
+//!         Status::Ok => Ok(out),
+//!         status => Err(status),
+//!     }
 #![tactic(auto)]
 
 // a run of the program, stage by stage

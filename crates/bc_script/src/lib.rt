@@ -1,4 +1,14 @@
-//! The script language: what a script says, its text, and why a text is none.
+//! The script language: what a script says, its text, and why a text is none. Whether a text is a script's, or the first line
+//! that fails a test and which, as `script line 4: key` (`is_script` of the crate `uses`):
+//!
+//!     match parse(alloc, text) {
+//!         Ok(_script) => Ok(true),
+//!         Err(ParseError::Bad(error)) => {
+//!             println!(rt; "{error}")?;
+//!             Ok(false)
+//!         }
+//!         Err(ParseError::Memory) => anyhow::bail!("out of memory"),
+//!     }
 #![tactic(auto)]
 
 // what a script says, and within which limits
