@@ -72,7 +72,8 @@ events_of_put slot left = if left == 0 then events.Idle slot ∷ [] else []
 -- one reference of the slot less, by this caller
 abbrev pub given_back : BookData → ℕ → ℕ → BookData
 given_back book caller slot =
-    let left = refs_of book.refs slot - 1 in recorded book caller (events_of_put slot left) (slice_set book.refs slot left)
+    let left = refs_of book.refs slot - 1 in
+    recorded book caller (events_of_put slot left) (slice_set book.refs slot left)
 
 -- the slot has the key and isn't held, and the key was taken out of it
 pub record TakesOut (old new : BookData) (caller key slot : ℕ) : Type 0 where
@@ -82,7 +83,8 @@ pub record TakesOut (old new : BookData) (caller key slot : ℕ) : Type 0 where
 
 -- the key is in no slot now: it was in none, or was taken out of one that isn't held
 abbrev pub Empties : BookData → BookData → ℕ → ℕ → Type 0
-Empties old new caller key = (InNoSlot (slots_of old) key × (new ≡ old)) ⊎ ((slot : ℕ) × TakesOut old new caller key slot)
+Empties old new caller key =
+    (InNoSlot (slots_of old) key × (new ≡ old)) ⊎ ((slot : ℕ) × TakesOut old new caller key slot)
 
 -- the slot has the key and is held by so many, and that is recorded
 pub record IsBusy (old new : BookData) (caller key slot refs : ℕ) : Type 0 where

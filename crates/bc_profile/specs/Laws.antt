@@ -8,7 +8,8 @@ use Rattle.bc_profile.specs.Story.{Holds, IsGone, Programs}
 -- a hold names an event that programmed its slot with its key
 abbrev pub HoldsNameProgrammings : Type 0
 HoldsNameProgrammings =
-    (count : ℕ) (front : List Noted) (key slot epoch : ℕ) → Holds count front key slot epoch → Programs front epoch slot key
+    (count : ℕ) (front : List Noted) (key slot epoch : ℕ) → Holds count front key slot epoch
+    → Programs front epoch slot key
 
 -- what an event of a front programmed, it programmed in each later front; and it is one of the events of the front
 abbrev pub ProgrammingsStay : Type 0

@@ -155,7 +155,12 @@ OneAtRest caller (part ∷ other ∷ parts) = ⊥
 
 -- what contracts see of a pass
 abbrev pub facts_of : Pass Noted BaseData → Option HoldFacts → SlotFacts
-facts_of pass hold = record { caller = pass.caller; cell = map part_key pass.parts; seen = seen_of pass.parts; hold = hold }
+facts_of pass hold = record {
+  caller = pass.caller;
+  cell = map part_key pass.parts;
+  seen = seen_of pass.parts;
+  hold = hold;
+}
 
 -- the pass of turns has one cell, which it doesn't hold
 abbrev pub HasOneAtRest : Pass Noted BaseData → Type 0
@@ -171,7 +176,8 @@ new_pass profile caller = record { caller = caller; cell = map cell_key profile.
 
 -- each caller has a pass among these
 abbrev pub AreAllHere : ProfileData → List SlotFacts → Type 0
-AreAllHere profile passes = (caller : ℕ) → caller < profile.turns.callers → list_any (λ pass. pass.caller == caller) passes ≡ true
+AreAllHere profile passes =
+    (caller : ℕ) → caller < profile.turns.callers → list_any (λ pass. pass.caller == caller) passes ≡ true
 
 -- what a closed story is: its events are a lawful journal; each pass's front begins it and has all entries of its caller; and
 -- nobody else made one

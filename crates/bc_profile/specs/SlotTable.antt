@@ -57,7 +57,10 @@ Takes old new key (took.Found slot) =
     (key_of old.slots slot ≡ Some key) × (new ≡ with_refs old slot (one_more (refs_of old.refs slot)))
 Takes old new key (took.Programmed slot skipped) =
     MayProgram old.slots slot key skipped × AllByRecursion (WasFound old.refs) skipped × (refs_of old.refs slot ≡ 0)
-    × (new ≡ record { slots = after_event old.slots (events.Program slot key skipped); refs = slice_set old.refs slot 1 })
+    × (new ≡ record {
+      slots = after_event old.slots (events.Program slot key skipped);
+      refs = slice_set old.refs slot 1;
+    })
 Takes old new key took.None = InNoSlot old.slots key × AllHeld old × (new ≡ old)
 
 -- a hold was given back: where it was the last one, the slot is idle

@@ -39,7 +39,8 @@ impl Model for Book {
 
     ghost Value = { BookData };
 
-    ghost view = { λ b. record { count = length b.table.slots.keys; story = b.story.items; refs = b.table.refs; limit = b.limit } };
+    ghost view = { λ b. record
+        { count = length b.table.slots.keys; story = b.story.items; refs = b.table.refs; limit = b.limit } };
 
     ghost invariant = { λ b. IsBook b.table b.epochs.items b.story.items b.limit (vec_capacity b.story) };
 }
@@ -182,7 +183,8 @@ impl Book {
     pub(crate) fn reset(&mut self, caller: u16) -> bool
         requires room { HasRoom self.old }
         ensures idle { result ≡ list_all (λ refs. refs == 0) self.old.refs }
-        ensures made { self.new ≡ if result then recorded self.old caller (events.Reset ∷ []) self.old.refs else self.old }
+        ensures made { self.new ≡
+            if result then recorded self.old caller (events.Reset ∷ []) self.old.refs else self.old }
     {
         let idle = self.table.is_idle();
         if idle {

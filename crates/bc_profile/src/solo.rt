@@ -44,9 +44,16 @@ impl Model for Solo {
 
     ghost Value = { SoloData };
 
-    ghost view = { λ s. record { count = length s.keys.items; rows = s.rows.items; journal = s.journal.items; held = s.held; quota = s.quota } };
+    ghost view = { λ s. record {
+      count = length s.keys.items;
+      rows = s.rows.items;
+      journal = s.journal.items;
+      held = s.held;
+      quota = s.quota;
+    } };
 
-    ghost invariant = { λ s. IsSolo s.keys.items s.epochs.items s.stamps.items s.rows.items s.registers.items s.journal.items s.held s.quota (vec_capacity s.journal) };
+    ghost invariant = { λ s. IsSolo s.keys.items s.epochs.items s.stamps.items s.rows.items s.registers.items
+        s.journal.items s.held s.quota (vec_capacity s.journal) };
 }
 
 impl Solo {
