@@ -4,7 +4,7 @@
 mod disk;
 mod tally;
 
-pub use disk::{Done, Finished, Shape, Step, Told, carry_out_all};
+pub use disk::{Done, Finished, Shape, Step, Told, carry_out_all, run_callers, run_in_memory};
 pub use tally::{Tally, add_up, count, count_both, marks_of_two};
 
 #[cfg(test)]
