@@ -47,10 +47,12 @@ fn at_once<R: Threads + Wait + Sync>(
     let end = run_in_memory(rt, alloc, &image, shards, &PLAN, STEPS, &scripts)?;
     let mut disk = vec![in alloc; 0; 8 * usize::from(blocks)]?;
     let mut made: u64 = 0;
-    for (shard, order) in end.orders.iter().enumerate() {
-        if !replays(&end, shard as u16, order, &mut disk) || !is_in_order(order, callers) {
+    let mut shard: u16 = 0;
+    for order in &end.orders {
+        if !replays(&end, shard, order, &mut disk) || !is_in_order(order, callers) {
             return Ok(false);
         }
+        shard = shard.saturating_add(1);
         made = made.saturating_add(order.len() as u64);
     }
     Ok(made == u64::from(callers) * u64::from(STEPS))
