@@ -32,6 +32,11 @@ def many_names(count):
     return [H512.replace(" a ", f" k{place} ") for place in range(count)]
 
 
+def many_faults(count):
+    """Faults at the places 64 to 127 of each shard, so that 1024 of them are on the shards 0 to 15."""
+    return [f"fault {place // 64} {64 + place % 64}" for place in range(count)]
+
+
 # name, text, line and kind
 REFUSED = [
     # where the text ends
@@ -72,9 +77,6 @@ REFUSED = [
     ("a device behind a key", headed(H512, "device 0 1 1 1 0 8"), 5, "word"),
     ("a device in a section", ended("device 0 1 1 1 0 8"), 6, "word"),
     ("a device before the fallback line", text_of(["blkcrypt 1", "disk 1", "device 0 1 1 1 0 8"]), 3, "word"),
-    ("a planned fault", headed("fault 0 0"), 4, "not built"),
-    ("a planned fault behind a key", headed(H512, "fault 0 0"), 5, "not built"),
-    ("a planned fault in a section", ended("fault 0 0"), 6, "word"),
     ("words that only begin so", headed("devices 0"), 4, "word"),
     ("lines of other versions", ended("mmc 0 1 1 1 0 4"), 6, "word"),
     ("a seq line", ended("seq"), 6, "word"),
@@ -102,6 +104,46 @@ REFUSED = [
     ("key 4097", headed(*many_names(4096), B512), 4100, "limit"),
     ("key 4097 with a name of before", headed(*many_names(4096), H512.replace(" a ", " k7 ")), 4100, "name"),
     ("key 4097 with equal halves", headed(*many_names(4096), "key b aes-256-xts 512 8 " + "11" * 64), 4100, "key"),
+    # fault lines
+    ("a fault on shard 64", headed("fault 64 0"), 4, "number"),
+    ("a fault at the place 65536", headed("fault 0 65536"), 4, "number"),
+    ("a fault at the place 4294967295", headed("fault 0 4294967295"), 4, "number"),
+    ("a fault on shard 2^16 that isn't shard 0", headed("fault 65536 0"), 4, "number"),
+    ("a fault at the place 2^32 that isn't the place 0", headed("fault 0 4294967296"), 4, "number"),
+    ("a fault on a shard with a leading zero", headed("fault 00 0"), 4, "number"),
+    ("a fault at a place with a leading zero", headed("fault 0 01"), 4, "number"),
+    ("a fault on a shard in hexadecimal digits", headed("fault a 0"), 4, "number"),
+    ("a fault on an empty shard", headed("fault  0"), 4, "number"),
+    ("a fault at an empty place", headed("fault 0 "), 4, "number"),
+    ("a fault without fields", headed("fault"), 4, "word"),
+    ("a fault without a place", headed("fault 0"), 4, "word"),
+    ("a fault with a field too many", headed("fault 0 0 0"), 4, "word"),
+    ("a blank behind a fault", headed("fault 0 0 "), 4, "word"),
+    ("faults, in a word", headed("faults 0 0"), 4, "word"),
+    ("a fault in a section", ended("fault 0 0"), 6, "word"),
+    ("a fault behind a section's operation", ended("evict a", "fault 0 0"), 7, "word"),
+    ("a fault that isn't one in a section", ended("fault x"), 6, "word"),
+    ("a fault before the fallback line", text_of(["blkcrypt 1", "disk 1", "fault 0 0"]), 3, "word"),
+    ("a fault before the disk line", text_of(["blkcrypt 1", "fault 0 0"]), 2, "word"),
+    ("a fault as the first line", b"fault 0 0\n", 1, "word"),
+    ("a fault behind the end", headed() + b"fault 0 0\n", 5, "end"),
+    ("a key behind a fault", headed("fault 0 0", H512), 5, "word"),
+    ("a device behind a fault", headed("fault 0 0", "device 0 1 1 1 0 8"), 5, "word"),
+    ("fallback off behind a fault", headed("fault 0 0", "fallback off"), 5, "word"),
+    ("an operation behind a fault", headed(H512, "fault 0 0", "evict a"), 6, "word"),
+    ("a fault twice", headed("fault 0 0", "fault 0 0"), 5, "order"),
+    ("a fault at an earlier place", headed("fault 0 7", "fault 0 6"), 5, "order"),
+    ("a fault on an earlier shard, at a later place", headed("fault 1 0", "fault 0 65535"), 5, "order"),
+    ("places that ascend as words and not as numbers", headed("fault 0 10", "fault 0 9"), 5, "order"),
+    ("a fault out of order behind one in order", headed("fault 0 0", "fault 0 2", "fault 0 1"), 6, "order"),
+    ("the first fault once more behind others", headed("fault 0 0", "fault 0 1", "fault 1 0", "fault 0 0"), 7, "order"),
+    ("fault 1025", headed(*many_faults(1025)), 1028, "limit"),
+    ("fault 1025 behind a key", headed(H512, *many_faults(1025)), 1029, "limit"),
+    ("fault 1025 out of order", headed(*many_faults(1024), "fault 0 64"), 1028, "order"),
+    ("fault 1025 on shard 64", headed(*many_faults(1024), "fault 64 0"), 1028, "number"),
+    ("fault 1025 with a field too few", headed(*many_faults(1024), "fault 63"), 1028, "word"),
+    ("a shard too great, out of order", headed("fault 63 65535", "fault 64 0"), 5, "number"),
+    ("a place that isn't a number, out of order", headed("fault 1 0", "fault 0 x"), 5, "number"),
     # operations
     ("half a byte", ended("write a 0 1 0 fill 0"), 6, "hex"),
     ("a number with a leading zero", ended("write a 0 1 00 fill 00"), 6, "number"),
@@ -154,6 +196,11 @@ REFUSED = [
     ("the first of two wrong lines", ended("reset 0", "unplug"), 6, "number"),
 ]
 
+IN_A_PLUG = ["thread", "plug", "write a 0 2 0 fill 11", "write a 2 2 2 fill 22", "write a 4 1 4 fill 33", "unplug", "read - 2 1 -",
+             "read a 4 1 4"]
+WRITE_AND_READ = ["thread", "write - 0 3 - fill 11", "read - 0 1 -", "read - 1 1 -", "read - 2 1 -"]
+READS = ["thread", "write a 0 3 0 fill 5a", *["read a 0 3 0"] * 4]
+
 # name, text, the report's lines
 REPORTED = [
     ("nothing", headed(), ["report 1", "shard 0 0", "end"]),
@@ -180,8 +227,103 @@ REPORTED = [
          "shard 0 4", "0 2 0 soft", "0 2 1 soft", "1 0 0 soft", "1 1 0 plain", "end"]),
     ("sections without operations", headed("thread", "thread"),
         ["report 1", "thread 0", "thread 1", "shard 0 0", "end"]),
+    # An access that fails ends its bio, is an entry all the same, and leaves the disk as it was. A fault on a shard that the
+    # run doesn't have, or at a place that it doesn't reach, is without effect.
+    ("a fault in a plug", headed(H512, "fault 0 2", *IN_A_PLUG),
+        ["report 1", "thread 0", "plug", "done", "fault 0", "done", "unplug", "done fill 00", "done fill 33", "shard 0 6",
+         "0 1 0 soft", "0 1 1 soft", "0 2 0 soft", "0 3 0 soft", "0 5 0 plain", "0 6 0 soft", "end"]),
+    ("a fault behind a plug", headed(H512, "fault 0 5", *IN_A_PLUG),
+        ["report 1", "thread 0", "plug", "done", "done", "done", "unplug", "fault 0", "done fill 33", "shard 0 7",
+         "0 1 0 soft", "0 1 1 soft", "0 2 0 soft", "0 2 1 soft", "0 3 0 soft", "0 5 0 plain", "0 6 0 soft", "end"]),
+    ("a fault on the first unit of a write", headed("fault 0 0", *WRITE_AND_READ),
+        ["report 1", "thread 0", "fault 0", "done fill 00", "done fill 00", "done fill 00", "shard 0 4", "0 0 0 plain",
+         "0 1 0 plain", "0 2 0 plain", "0 3 0 plain", "end"]),
+    ("a fault on the middle unit of a write", headed("fault 0 1", *WRITE_AND_READ),
+        ["report 1", "thread 0", "fault 1", "done fill 11", "done fill 00", "done fill 00", "shard 0 5", "0 0 0 plain",
+         "0 0 1 plain", "0 1 0 plain", "0 2 0 plain", "0 3 0 plain", "end"]),
+    ("a fault on the last unit of a write", headed("fault 0 2", *WRITE_AND_READ),
+        ["report 1", "thread 0", "fault 2", "done fill 11", "done fill 11", "done fill 00", "shard 0 6", "0 0 0 plain",
+         "0 0 1 plain", "0 0 2 plain", "0 1 0 plain", "0 2 0 plain", "0 3 0 plain", "end"]),
+    ("faults on the first, the last and the middle unit of reads", headed(H512, "fault 0 3", "fault 0 6", "fault 0 8", *READS),
+        ["report 1", "thread 0", "done", "fault 0", "fault 2", "fault 1", "done fill 5a", "shard 0 12", "0 0 0 soft", "0 0 1 soft",
+         "0 0 2 soft", "0 1 0 soft", "0 2 0 soft", "0 2 1 soft", "0 2 2 soft", "0 3 0 soft", "0 3 1 soft", "0 4 0 soft",
+         "0 4 1 soft", "0 4 2 soft", "end"]),
+    ("a write that fails over another's",
+        headed(H512, "fault 0 1", "thread", "write a 0 1 0 fill 11", "write a 0 1 0 fill 22", "read a 0 1 0"),
+        ["report 1", "thread 0", "done", "fault 0", "done fill 11", "shard 0 3", "0 0 0 soft", "0 1 0 soft", "0 2 0 soft", "end"]),
+    ("a write that is tried three times",
+        headed(H512, "fault 0 0", "fault 0 1", "thread", *["write a 0 1 0 fill 11"] * 3, "read a 0 1 0"),
+        ["report 1", "thread 0", "fault 0", "fault 0", "done", "done fill 11", "shard 0 4", "0 0 0 soft", "0 1 0 soft",
+         "0 2 0 soft", "0 3 0 soft", "end"]),
+    ("a fault on a unit that isn't tried any more, which the next bio meets", headed(H512, "fault 0 1", "fault 0 2", *READS),
+        ["report 1", "thread 0", "fault 1", "fault 0", None, None, None, "shard 0 12", "0 0 0 soft", "0 0 1 soft",
+         "0 1 0 soft", *(f"0 {op} {unit} soft" for op in [2, 3, 4] for unit in range(3)), "end"]),
+    ("a fault of a later section",
+        headed("fault 0 1", "thread", "write - 0 1 - fill 41", "thread", "write - 0 2 - fill 42", "thread", "read - 0 1 -"),
+        ["report 1", "thread 0", "done", "thread 1", "fault 0", "thread 2", "done fill 41", "shard 0 3", "0 0 0 plain",
+         "1 0 0 plain", "2 0 0 plain", "end"]),
+    ("a refused bio, which takes no place", headed(H512, "fault 0 0", "thread", "read a 8 1 0", "read a 0 0 0", "read a 0 1 0"),
+        ["report 1", "thread 0", "refused outside", "refused empty", "fault 0", "shard 0 1", "0 2 0 soft", "end"]),
+    ("1024 faults and one access more", headed(*(f"fault 0 {place}" for place in range(1024)), "thread", *["read - 0 8 -"] * 1025),
+        ["report 1", "thread 0", *["fault 0"] * 1024, "done fill 00", "shard 0 1032", *(f"0 {op} 0 plain" for op in range(1024)),
+         *(f"0 1024 {unit} plain" for unit in range(8)), "end"]),
+    ("the last fault that may be planned", headed("fault 63 65535"), ["report 1", "shard 0 0", "end"]),
+    ("faults that aren't met",
+        headed(H512, "fault 0 2", "fault 0 65535", "fault 1 0", "thread", "write a 0 1 0 fill 00", "read a 0 1 0"),
+        ["report 1", "thread 0", "done", "done fill 00", "shard 0 2", "0 0 0 soft", "0 1 0 soft", "end"]),
+    ("1024 faults that aren't met", headed(*many_faults(1024), "thread", "read - 0 8 -"),
+        ["report 1", "thread 0", "done fill 00", "shard 0 8", *(f"0 0 {unit} plain" for unit in range(8)), "end"]),
+    ("as many faults on the last shard", headed(H512, *(f"fault 63 {64512 + place}" for place in range(1024)), "thread", "evict a"),
+        ["report 1", "thread 0", "evicted", "shard 0 0", "end"]),
+    ("faults that ascend as numbers and not as words", headed("fault 2 9", "fault 2 10", "fault 10 8"),
+        ["report 1", "shard 0 0", "end"]),
     ("bytes as they were written", headed("thread", "write - 7 1 - hex " + "5a" * 512, "read - 7 1 -"),
         ["report 1", "thread 0", "done", "done fill 5a", "shard 0 2", "0 0 0 plain", "0 1 0 plain", "end"]),
+]
+
+BLOCKS = ["thread", "write a 0 1 0 fill 10", "write a 8 1 1 fill 11", "write a 16 1 2 fill 12", "write a 24 1 3 fill 13"]
+
+
+def over_blocks(blocks, *lines):
+    return text_of(["blkcrypt 1", f"disk {blocks}", "fallback on", H4096, *lines, "end"])
+
+
+# name, shards, text, the report's lines; block b is on the shard b mod shards, and each shard counts its own accesses
+SHARDED = [
+    ("four blocks over three shards", 3, over_blocks(4, *BLOCKS),
+        ["report 1", "thread 0", *["done"] * 4, "shard 0 2", "0 0 0 soft", "0 3 0 soft", "shard 1 1", "0 1 0 soft", "shard 2 1",
+         "0 2 0 soft", "end"]),
+    ("a fault on the second access of the first shard", 3, over_blocks(4, "fault 0 1", *BLOCKS, "read - 24 8 -"),
+        ["report 1", "thread 0", "done", "done", "done", "fault 0", "done fill 00", "shard 0 10", "0 0 0 soft", "0 3 0 soft",
+         *(f"0 4 {unit} plain" for unit in range(8)), "shard 1 1", "0 1 0 soft", "shard 2 1", "0 2 0 soft", "end"]),
+    ("faults on two of a bio's shards, of which the next bio meets the second", 3,
+        over_blocks(4, "fault 1 0", "fault 2 0", "thread", *["write a 0 4 0 fill 5a"] * 3, "read a 0 4 0"),
+        ["report 1", "thread 0", "fault 1", "fault 2", "done", "done fill 5a", "shard 0 6", "0 0 0 soft", "0 1 0 soft",
+         "0 2 0 soft", "0 2 3 soft", "0 3 0 soft", "0 3 3 soft", "shard 1 4", "0 0 1 soft", "0 1 1 soft", "0 2 1 soft", "0 3 1 soft",
+         "shard 2 3", "0 1 2 soft", "0 2 2 soft", "0 3 2 soft", "end"]),
+    ("a fault on a unit of the shard that has begun the bio", 3,
+        over_blocks(4, "fault 0 1", "thread", "write a 0 4 0 fill 5a", "read a 0 3 0"),
+        ["report 1", "thread 0", "fault 3", "done fill 5a", "shard 0 3", "0 0 0 soft", "0 0 3 soft", "0 1 0 soft", "shard 1 2",
+         "0 0 1 soft", "0 1 1 soft", "shard 2 2", "0 0 2 soft", "0 1 2 soft", "end"]),
+    ("a bio cut short before a shard that it doesn't come to", 2, text_of([
+        "blkcrypt 1", "disk 2", "fallback on", H512, "fault 0 1", "thread", "write a 6 4 0 fill 07", "end"]),
+        ["report 1", "thread 0", "fault 1", "shard 0 2", "0 0 0 soft", "0 0 1 soft", "shard 1 0", "end"]),
+    ("a bio cut short where its second shard begins", 2, text_of([
+        "blkcrypt 1", "disk 2", "fallback on", H512, "fault 1 0", "thread", "write a 6 4 0 fill 07", "end"]),
+        ["report 1", "thread 0", "fault 2", "shard 0 2", "0 0 0 soft", "0 0 1 soft", "shard 1 1", "0 0 2 soft", "end"]),
+    ("faults on shards that the run doesn't have", 2, over_blocks(4, "fault 2 0", "fault 3 1", "fault 63 0", *BLOCKS),
+        ["report 1", "thread 0", *["done"] * 4, "shard 0 2", "0 0 0 soft", "0 2 0 soft", "shard 1 2", "0 1 0 soft", "0 3 0 soft",
+         "end"]),
+    ("faults at places that the run doesn't reach", 2, over_blocks(4, "fault 0 2", "fault 1 2", "fault 1 65535", *BLOCKS),
+        ["report 1", "thread 0", *["done"] * 4, "shard 0 2", "0 0 0 soft", "0 2 0 soft", "shard 1 2", "0 1 0 soft", "0 3 0 soft",
+         "end"]),
+    ("a fault on the last of 64 shards", 64,
+        over_blocks(64, "fault 63 0", "thread", "read - 504 8 -", "read - 504 1 -", "read - 496 1 -"),
+        ["report 1", "thread 0", "fault 0", "done fill 00", "done fill 00", *(f"shard {shard} 0" for shard in range(62)),
+         "shard 62 1", "0 2 0 plain", "shard 63 2", "0 0 0 plain", "0 1 0 plain", "end"]),
+    ("a disk of fewer blocks than shards", 64, over_blocks(1, "fault 1 0", "thread", "write a 0 1 0 fill 00", "read a 0 1 0"),
+        ["report 1", "thread 0", "done", "done fill 00", "shard 0 2", "0 0 0 soft", "0 1 0 soft",
+         *(f"shard {shard} 0" for shard in range(1, 64)), "end"]),
 ]
 
 
@@ -212,12 +354,14 @@ def wrong(modelled):
     for name, text, line, kind in REFUSED:
         if modelled(text) != (2, b"", f"blkcrypt: script line {line}: {kind}\n".encode()):
             yield name, modelled(text)
-    for name, text, lines in REPORTED:
-        status, output, error = modelled(text)
+    for name, shards, text, lines in [*((name, 1, text, lines) for name, text, lines in REPORTED), *SHARDED]:
+        status, output, error = modelled(text, shards)
         if status or error or not agrees(lines, output):
             yield name, (status, output, error)
 
 
 def texts():
+    """The text of each case. What is worked out for a run over several shards is another report over one."""
     yield from ((name, text) for name, text, *_ in REFUSED)
     yield from ((name, text) for name, text, _ in REPORTED)
+    yield from ((name, text) for name, _, text, _ in SHARDED)

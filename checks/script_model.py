@@ -1,8 +1,9 @@
 """The rules of docs/SCRIPT.md once more: what a script's text says or where it is wrong, and what a run of it prints.
 
-It has nothing of the program in it. As a command it reads a script on standard input and does what the program is to do:
+It has nothing of the program in it. As a command it reads a script on standard input and does what the program is to do, over
+one shard as the program or over as many as are asked for:
 
-    python3 checks/script_model.py < SCRIPT
+    python3 checks/script_model.py [SHARDS] < SCRIPT
 """
 import hashlib
 import re
@@ -20,6 +21,7 @@ UNIT_SIZES = [512, 1024, 2048, 4096]
 
 MOST_TEXT = 16777216
 MOST_KEYS = 4096
+MOST_FAULTS = 1024
 MOST_SECTIONS = 16
 MOST_OPERATIONS = 65536
 MOST_UNITS = 65536
@@ -66,6 +68,7 @@ class Read:
 @dataclass
 class Script:
     blocks: int
+    faults: list  # of pairs of a shard and a place in its order
     sections: list  # of lists of Write, Read and the answers of other operations
 
 
@@ -98,12 +101,13 @@ def hexadecimal(field, least, most):
 
 class Reader:
     """Reads lines one after the other. `place` says what the lines so far are: it is the name of the next line where
-    one line may follow, `devices` directly behind the first three lines, then `keys`, `sections` and `done`."""
+    one line may follow, `devices` directly behind the first three lines, then `keys`, `faults`, `sections` and `done`."""
 
     def __init__(self):
         self.place = "version"
         self.blocks = 0
         self.keys = {}
+        self.faults = []
         self.sections = []
         self.plugged = False
         self.operations = 0
@@ -125,17 +129,18 @@ class Reader:
                 raise Fails("not built")
             case "devices", [b"device", *_]:
                 raise Fails("not built")
-            case "devices" | "keys", [b"fault", *_]:
-                raise Fails("not built")
             case "devices" | "keys", [b"key", name, (b"aes-256-xts" | b"aes-128-cbc-essiv") as mode, unit, size, digits]:
                 self.key(name, mode, unit, size, digits)
                 self.place = "keys"
-            case "devices" | "keys" | "sections", [b"thread"]:
+            case "devices" | "keys" | "faults", [b"fault", shard, access]:
+                self.fault(decimal(shard, 0, 63), decimal(access, 0, 65535))
+                self.place = "faults"
+            case "devices" | "keys" | "faults" | "sections", [b"thread"]:
                 test(not self.plugged, "order")
                 test(len(self.sections) < MOST_SECTIONS, "limit")
                 self.sections.append([])
                 self.place = "sections"
-            case "devices" | "keys" | "sections", [b"end"]:
+            case "devices" | "keys" | "faults" | "sections", [b"end"]:
                 test(not self.plugged, "order")
                 self.place = "done"
             case "sections", [b"write", key, sector, units, number, (b"fill" | b"hex") as how, digits] if (
@@ -173,6 +178,11 @@ class Reader:
         test(mode != XTS or raw[:32] != raw[32:], "key")
         test(len(self.keys) < MOST_KEYS, "limit")
         self.keys[name] = Key(mode, unit, size, raw)
+
+    def fault(self, shard, access):
+        test(not self.faults or self.faults[-1] < (shard, access), "order")
+        test(len(self.faults) < MOST_FAULTS, "limit")
+        self.faults.append((shard, access))
 
     def named(self, name):
         test(name in self.keys, "name")
@@ -212,7 +222,7 @@ def read_script(text):
     # Behind the last line feed stands nothing, and nothing is missing.
     if rest or reader.place != "done":
         return len(lines) + 1, "end"
-    return Script(reader.blocks, reader.sections)
+    return Script(reader.blocks, reader.faults, reader.sections)
 
 
 # ---- carrying a script out
@@ -254,13 +264,20 @@ def answer_of(data):
 
 
 class Run:
-    """A disk of zeros, and the entries of what was done on it."""
+    """A disk of zeros in shards, and the entries of each shard's accesses in their order. The faults say which of them fail."""
 
-    def __init__(self, blocks):
+    def __init__(self, blocks, faults, shards):
         self.disk = bytearray(8 * SECTOR * blocks)
-        self.entries = []
+        self.faults = set(faults)
+        self.shards = [[] for _ in range(shards)]
 
-    def operation(self, thread, place, operation):
+    def access(self, sector, entry):
+        """Notes an access of a data unit at this sector, and tells whether it succeeds."""
+        shard = sector // 8 % len(self.shards)
+        self.shards[shard].append(entry)
+        return (shard, len(self.shards[shard]) - 1) not in self.faults
+
+    def operation(self, thread, number, operation):
         """The answer of an operation."""
         if isinstance(operation, str):
             return operation
@@ -271,39 +288,42 @@ class Run:
         size = bio.unit_bytes
         texts = []
         for unit in range(bio.units):
-            at = SECTOR * bio.sector + unit * size
+            sector = bio.sector + unit * bio.unit_sectors
+            if not self.access(sector, f"{thread} {number} {unit} {'soft' if bio.key else 'plain'}"):
+                return f"fault {unit}"
+            at = SECTOR * sector
             if isinstance(operation, Write):
                 text = operation.data[unit * size:(unit + 1) * size]
                 self.disk[at:at + size] = ciphered(bio.key, bio.number + unit, text, True)
             else:
                 texts.append(ciphered(bio.key, bio.number + unit, bytes(self.disk[at:at + size]), False))
-            self.entries.append(f"{thread} {place} {unit} {'soft' if bio.key else 'plain'}")
         return "done" if isinstance(operation, Write) else answer_of(b"".join(texts))
 
 
-def report_of(script):
-    run = Run(script.blocks)
+def report_of(script, shards):
+    run = Run(script.blocks, script.faults, shards)
     lines = ["report 1"]
     for thread, section in enumerate(script.sections):
         lines.append(f"thread {thread}")
         lines += [run.operation(thread, place, operation) for place, operation in enumerate(section)]
-    lines += [f"shard 0 {len(run.entries)}", *run.entries, "end"]
-    return "".join(line + "\n" for line in lines).encode()
+    for shard, entries in enumerate(run.shards):
+        lines += [f"shard {shard} {len(entries)}", *entries]
+    return "".join(line + "\n" for line in [*lines, "end"]).encode()
 
 
-def modelled(text):
-    """What the program is to do: its status, its standard output and its standard error."""
+def modelled(text, shards=1):
+    """What a run over so many shards, 1 to 64, is to do: its status, its standard output and its standard error."""
     if len(text) > MOST_TEXT:
         return 7, b"", f"blkcrypt: input longer than {MOST_TEXT} bytes\n".encode()
     script = read_script(text)
     if isinstance(script, Script):
-        return 0, report_of(script), b""
+        return 0, report_of(script, shards), b""
     line, kind = script
     return 2, b"", f"blkcrypt: script line {line}: {kind}\n".encode()
 
 
 def main():
-    status, output, error = modelled(sys.stdin.buffer.read())
+    status, output, error = modelled(sys.stdin.buffer.read(), int(sys.argv[1]) if len(sys.argv) > 1 else 1)
     sys.stdout.buffer.write(output)
     sys.stderr.buffer.write(error)
     return status

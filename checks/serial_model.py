@@ -1,22 +1,24 @@
-"""Compares runs of the program with a model of them: serial_model.py PROGRAM [SEED]
+"""Compares runs of the program with a model of them: serial_model.py [PROGRAM [SEED]]
 
 The model (script_model.py) says the rules of docs/SCRIPT.md once more and has nothing of the program in it. It is held
 against cases that are worked out by hand (script_cases.py) first. Then the program gets these cases and generated scripts
 (script_texts.py), valid ones and broken ones, the same for the same seed; status, report and line on standard error must be
-the model's, byte by byte. Without PROGRAM the model alone is held against the cases.
+the model's, byte by byte. The program runs over one shard. The model runs over several too, and these runs are held against
+the cases and against its own ones over one shard. Without PROGRAM all this is done with the model alone.
 """
 import collections
+import dataclasses
 import random
 import subprocess
 import sys
 
 import script_cases
 import script_texts
-from script_model import modelled
+from script_model import Script, modelled, read_script, report_of
 
 KINDS = ["end", "word", "not built", "number", "name", "hex", "key", "order", "limit"]
-ANSWERS = ["done", "done fill", "done sha256", "refused empty", "refused misaligned", "refused outside", "refused dun", "evicted",
-           "plug", "unplug"]
+ANSWERS = ["done", "done fill", "done sha256", "fault 0", "fault 1", "fault 255", "refused empty", "refused misaligned",
+           "refused outside", "refused dun", "evicted", "plug", "unplug"]
 
 
 def texts(dice):
@@ -43,8 +45,30 @@ def note(seen, answer):
         seen[error.decode().rstrip("\n").split(": ")[-1]] += 1
     for line in output.decode().split("\n"):
         words = line.split(" ")
-        if words[0] in ["done", "refused", "evicted", "plug", "unplug"]:
+        if words[0] in ["done", "fault", "refused", "evicted", "plug", "unplug"]:
             seen[" ".join(words[:2])] += 1
+
+
+def parted(report):
+    """The lines of a report before its shards, and the entries of each shard."""
+    head, *shards = report.decode().removesuffix("end\n").split("shard ")
+    return head, [entries.split("\n")[1:-1] for entries in shards]
+
+
+def alike(text, shards):
+    """Whether a run over so many shards is as the run over one in which the same accesses fail: it gives the same answers, and
+    the accesses of all shards, which are in the order of their data units, are those of the one."""
+    script = read_script(text)
+    if not isinstance(script, Script):
+        return True
+    planned = set(script.faults)
+    head, orders = parted(report_of(script, shards))
+    accesses = sorted(
+        (*map(int, entry.split(" ")[:3]), entry, (shard, place) in planned)
+        for shard, order in enumerate(orders) for place, entry in enumerate(order))
+    faults = [(0, place) for place, (*_, failed) in enumerate(accesses) if failed]
+    one = report_of(dataclasses.replace(script, faults=faults), 1)
+    return parted(one) == (head, [[entry for *_, entry, _ in accesses]])
 
 
 def fail(message):
@@ -59,7 +83,10 @@ def compared(program, seed):
         wanted = modelled(text)
         if valid is not None and valid != (wanted[0] == 0):
             return fail(f"seed {seed}: the model or the generator is wrong on {name!r}: {shown(wanted[2])}\nscript: {shown(text)}")
-        found = ran(program, text)
+        shards = 2 + count % 63
+        if len(text) < 65536 and not alike(text, shards):
+            return fail(f"seed {seed}: the model runs {name!r} otherwise over {shards} shards\nscript: {shown(text)}")
+        found = ran(program, text) if program else wanted
         if found != wanted:
             parts = [
                 f"{part} of the model:   {shown(one)}\n{part} of the program: {shown(other)}"
@@ -71,17 +98,15 @@ def compared(program, seed):
     missing = [word for word in KINDS + ANSWERS if not seen[word]]
     if missing:
         return fail(f"seed {seed}: no text is answered {', '.join(missing)}")
-    print(f"serial_model: {count} scripts agree, {accepted} of them accepted (seed {seed})")
+    with_program = "agree" if program else "aren't compared, as there is no program"
+    print(f"serial_model: {count} scripts {with_program}, {accepted} of them accepted (seed {seed})")
     return 0
 
 
 def main():
     for name, answer in script_cases.wrong(modelled):
         return fail(f"the model is wrong on {name!r}: {', '.join(shown(part) for part in answer)}")
-    if len(sys.argv) == 1:
-        print("serial_model: the model agrees with the cases")
-        return 0
-    return compared(sys.argv[1], int(sys.argv[2]) if len(sys.argv) > 2 else 1)
+    return compared(sys.argv[1] if len(sys.argv) > 1 else None, int(sys.argv[2]) if len(sys.argv) > 2 else 1)
 
 
 sys.exit(main())

@@ -44,7 +44,7 @@ pub record Circuit : Type 0 where
 abbrev pub results_of : {A : Type 0} → Logic A → Circuit → List A → List A
 results_of logic circuit inputs =
     map (λ k. slice_index_or (values_after logic circuit.gates (inputs ++ logic.ones ∷ [])) k logic.zeros)
-        circuit.results
+    circuit.results
 
 -- with single bits: their sum modulo 2, and the lesser
 abbrev pub bit_logic : Logic ℕ

@@ -11,13 +11,13 @@ pub record IsBytes (size : ℕ) (bytes : List ℕ) : Type 0 where
 abbrev pub DeciphermentUndoes : Type 0
 DeciphermentUndoes =
     (nk : ℕ) (key block : List ℕ) → IsBytes (4 * nk) key → IsBytes 16 block
-        → decipher nk key (encipher nk key block) ≡ block
+    → decipher nk key (encipher nk key block) ≡ block
 
 -- and encipherment undoes decipherment
 abbrev pub EnciphermentUndoes : Type 0
 EnciphermentUndoes =
     (nk : ℕ) (key block : List ℕ) → IsBytes (4 * nk) key → IsBytes 16 block
-        → encipher nk key (decipher nk key block) ≡ block
+    → encipher nk key (decipher nk key block) ≡ block
 
 -- encipherment makes a block of a block
 abbrev pub EnciphermentMakesBlocks : Type 0

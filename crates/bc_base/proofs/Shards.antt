@@ -12,7 +12,7 @@ use Rattle.bc_base.specs.Sectors.{Sectors, image_sectors, bytes_at, with_bytes}
 use Rattle.bc_base.specs.Memory.{Calls}
 use Rattle.bc_base.specs.Stores.{IsPiece}
 use Rattle.bc_base.specs.Lists.{At, AllAt}
-use Rattle.bc_base.specs.RamStores.{RamData, owns, contents, sector_within, block_at, IsWhole, HasBlocksOf, IsShardOf, AreAllShards}
+use Rattle.bc_base.specs.RamStores.{RamData, owns, contents, sector_within, block_at, IsWhole, HasBlocksOf, IsShardOf, HaveAllSectors}
 use Rattle.bc_base.proofs.Lists.{at_one}
 use Rattle.bc_base.proofs.Image.{image_of-image_sectors}
 
@@ -235,12 +235,12 @@ module _ (store : RamData) (bytes : List ℕ) (calls : Calls) (first : ℕ) (fro
 -- the image that is put together: each sector is that of its own shard's store
 pub record IsJoined (stores : List RamData) (image : List ℕ) (blocks : ℕ) : Type 0 where
   pub long : length image ≡ 4096 * blocks
-  pub same : (b : ℕ) → b < blocks → AllAt stores (b % length stores) (λ store. block_at image b ≡ block_at store.bytes (b / length stores))
+  pub same : (b : ℕ) → b < blocks → AllAt stores (b % length stores) (λ store. block_at image b ≡ block_at store.bytes (b / store.shards))
 
 pub joined_none : (stores : List RamData) → IsJoined stores [] 0
 joined_none stores = record { long = omega arith; same = λ b less. absurd (omega arith) }
 
-pub joined_more : (stores : List RamData) (image more : List ℕ) (blocks : ℕ) (store : RamData) → IsJoined stores image blocks → length more ≡ 4096 → At stores (blocks % length stores) store → more ≡ block_at store.bytes (blocks / length stores)
+pub joined_more : (stores : List RamData) (image more : List ℕ) (blocks : ℕ) (store : RamData) → IsJoined stores image blocks → length more ≡ 4096 → At stores (blocks % length stores) store → more ≡ block_at store.bytes (blocks / store.shards)
     → IsJoined stores (image ++ more) (blocks + 1)
 joined_more stores image more blocks store is long at bytes = record {
   long = let a = is.long in omega (arith, length-append image more);
@@ -250,29 +250,30 @@ joined_more stores image more blocks store is long at bytes = record {
       let now : b ≡ blocks = omega arith in
       let here : At stores (blocks % length stores) x = subst (λ (n : ℕ). At stores (n % length stores) x) now there in
       let one : store ≡ x = at_one stores (blocks % length stores) store x at here in
-      block_push_new image more b (let a = is.long in omega arith) long ∙ bytes ∙ ap₂ (λ (s : RamData) (n : ℕ). block_at s.bytes (n / length stores)) one (sym now))
+      block_push_new image more b (let a = is.long in omega arith) long ∙ bytes ∙ ap₂ (λ (s : RamData) (n : ℕ). block_at s.bytes (n / s.shards)) one (sym now))
       (cases_lt b blocks);
 }
 
-owns_is : (store : RamData) (shards shard blocks s : ℕ) → store.shards ≡ shards → store.shard ≡ shard → store.blocks ≡ blocks → shard_of shards s ≡ shard → block_of s < blocks → owns store s ≡ true
-owns_is store shards shard blocks s a b c here inside =
-    let own : (shard_of store.shards s == store.shard) ≡ true = eq-eqb (shard_of store.shards s) store.shard (ap (λ (n : ℕ). shard_of n s) a ∙ here ∙ sym b) in
-    let less : nat_lt (block_of s) store.blocks ≡ true = let l : block_of s < store.blocks = omega arith in grind (arith, nat_tests) in
-    ap₂ (λ (x y : Bool). x && y) own less
+-- a block whose first sector is the store's is one of its blocks
+pub owns_block : (store : RamData) (block : ℕ) → owns store (8 * block) ≡ true → (block % store.shards ≡ store.shard) × (block < store.blocks)
+owns_block store block is =
+    let both = both_true (shard_of store.shards (8 * block) == store.shard) (nat_lt (block_of (8 * block)) store.blocks) is in
+    let first : block_of (8 * block) ≡ block = omega arith in (
+      ap (λ (b : ℕ). b % store.shards) (sym first) ∙ eqb-true (shard_of store.shards (8 * block)) store.shard both.0,
+      subst (λ (b : ℕ). b < store.blocks) first (ltb-true (block_of (8 * block)) store.blocks both.1),
+    )
 
-pub joined_sectors : (stores : List RamData) (image : List ℕ) (blocks : ℕ) → AreAllShards blocks stores → IsJoined stores image blocks → (s : ℕ) → s < 8 * blocks
+pub joined_sectors : (stores : List RamData) (image : List ℕ) (blocks : ℕ) → HaveAllSectors blocks stores → IsJoined stores image blocks → (s : ℕ) → s < 8 * blocks
     → AllAt stores (shard_of (length stores) s) (λ store. (owns store s ≡ true) × (image_sectors image s ≡ contents store s))
 joined_sectors stores image blocks all is s less store at =
-    let n : ℕ = length stores in let one = all.some in
-    let facts = all.each (shard_of n s) store at in
+    let n : ℕ = store.shards in let one = all.some in
     let inside : block_of s < blocks = omega arith in
-    let mine : owns store s ≡ true = owns_is store n (shard_of n s) blocks s facts.1 facts.0 facts.2 refl inside in
+    let mine : owns store s ≡ true = all.each s less store at in
     let same : block_at image (s / 8) ≡ block_at store.bytes (s / 8 / n) = is.same (block_of s) inside store at in
     let here : sector_within n s / 8 ≡ s / 8 / n = omega arith in
     let place : s % 8 ≡ sector_within n s % 8 = omega arith in (
       mine,
-      same_sectors image store.bytes s (sector_within n s) place (same ∙ ap (block_at store.bytes) (sym here))
-          ∙ ap (λ (m : ℕ). image_sectors store.bytes (sector_within m s)) (sym facts.1) ∙ sym (contents_at store s mine),
+      same_sectors image store.bytes s (sector_within n s) place (same ∙ ap (block_at store.bytes) (sym here)) ∙ sym (contents_at store s mine),
     )
 
 there_is : {A : Type 0} (xs : List A) (place : ℕ) → place < length xs → (x : A) × At xs place x
@@ -281,7 +282,7 @@ there_is (x ∷ xs) zero less = (x, refl)
 there_is (x ∷ xs) (suc place) less = there_is xs place (omega arith)
 
 -- what was taken apart is put together
-pub joined_back : (stores : List RamData) (image whole : List ℕ) (blocks : ℕ) → AreAllShards blocks stores → IsJoined stores image blocks → length whole ≡ 4096 * blocks
+pub joined_back : (stores : List RamData) (image whole : List ℕ) (blocks : ℕ) → HaveAllSectors blocks stores → IsJoined stores image blocks → length whole ≡ 4096 * blocks
     → ((shard : ℕ) → AllAt stores shard (IsShardOf whole shard (length stores))) → image ≡ whole
 joined_back stores image whole blocks all is long parts =
     let n : ℕ = length stores in let one = all.some in

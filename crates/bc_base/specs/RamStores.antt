@@ -51,8 +51,7 @@ pub record HasBlocksOf (image : List ℕ) (first step : ℕ) (bytes : List ℕ) 
   pub long : (i : ℕ) → first + step * i < length image / 4096 → 4096 * i + 4096 ≤ length bytes
   pub same : (i : ℕ) → first + step * i < length image / 4096 → block_at bytes i ≡ block_at image (first + step * i)
 
--- the stores are those of all shards of an image of so many blocks, in order
-pub record AreAllShards (blocks : ℕ) (stores : List RamData) : Type 0 where
+-- each sector of a disk of so many blocks belongs to the store of its shard, of as many shards as there are stores
+pub record HaveAllSectors (blocks : ℕ) (stores : List RamData) : Type 0 where
   pub some : 1 ≤ length stores
-  pub each : (shard : ℕ) → AllAt stores shard (λ store. (store.shard ≡ shard) × (store.shards ≡ length stores)
-      × (store.blocks ≡ blocks))
+  pub each : (s : ℕ) → s < 8 * blocks → AllAt stores (shard_of (length stores) s) (λ store. owns store s ≡ true)

@@ -37,4 +37,4 @@ abbrev pub MakesCall : Option ToldCalls → Option ToldCalls → Type 0 → Type
 MakesCall None now Fails = now ≡ None
 MakesCall (Some before) now Fails =
     IsSomeAnd now (λ after. (after.plan ≡ before.plan) × (after.calls ≡ counted before.calls)
-        × (Fails ↔ Contains before.plan before.calls))
+    × (Fails ↔ Contains before.plan before.calls))

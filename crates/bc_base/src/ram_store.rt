@@ -5,7 +5,7 @@ ghost use Rattle.bc_base.specs.Lists.{AllAt};
 ghost use Rattle.bc_base.specs.Places.{shard_of};
 ghost use Rattle.bc_base.specs.Sectors.{image_sectors, bytes_at, with_bytes};
 ghost use Rattle.bc_base.specs.Stores.{IsPieceOf};
-ghost use Rattle.bc_base.specs.RamStores.{IsShardOf, AreAllShards, HasBlocksOf, owns, contents, sector_within, block_at};
+ghost use Rattle.bc_base.specs.RamStores.{IsShardOf, HaveAllSectors, HasBlocksOf, owns, contents, sector_within, block_at};
 
 use crate::error::Failed;
 use crate::geometry::{BLOCK_BYTES, BLOCK_SECTORS, SECTOR_BYTES};
@@ -64,20 +64,20 @@ impl RamStore {
         })
     }
 
-    /// The image of so many blocks whose sectors the stores of all its shards hold, in order. What `of_image` took apart
-    /// it puts together.
+    /// The image of so many blocks whose sectors the stores of all its shards hold, in order: each sector belongs to the
+    /// store of its shard. What `of_image` took apart it puts together.
     ///
     /// # Errors
     /// Out of memory.
     pub fn join(alloc: Global, stores: &[RamStore], blocks: u32) -> Result<Vec<u8>, AllocError>
-        requires { AreAllShards blocks stores.now }
+        requires { HaveAllSectors blocks stores.now }
         ensures length { IfOk result (λ image. length image.items ≡ 4096 * blocks) }
         ensures sectors { IfOk result (λ image. (s : ℕ) → s < 8 * blocks
             → AllAt stores.now (shard_of (length stores.now) s)
-                (λ store. image_sectors image.items s ≡ contents store s)) }
+            (λ store. image_sectors image.items s ≡ contents store s)) }
         ensures gives_back { IfOk result (λ image. (whole : List ℕ) → length whole ≡ 4096 * blocks
             → ((shard : ℕ) → AllAt stores.now shard (IsShardOf whole shard (length stores.now)))
-                → image.items ≡ whole) }
+            → image.items ≡ whole) }
     {
         let shards = stores.len();
         let mut image = Vec::with_capacity(alloc, BLOCK_BYTES * blocks as usize)?;

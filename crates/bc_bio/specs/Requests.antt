@@ -52,7 +52,7 @@ place_in bios n = place_of (tagged_bios bios) n
 abbrev pub with_bio_of : List MarkedBio → ℕ → (MarkedBio → MarkedBio) → List MarkedBio
 with_bio_of bios n change =
     option_map_or (λ marked. slice_set bios (place_in bios n).bio (change marked))
-        (slice_get bios (place_in bios n).bio) bios
+    (slice_get bios (place_in bios n).bio) bios
 
 -- the first of two units that met a fault
 abbrev pub first_fault : ℕ → Option ℕ → ℕ

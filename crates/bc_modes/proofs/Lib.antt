@@ -9,4 +9,6 @@ pub mod Bytes
 pub mod CipherLengths
 pub mod UnitLaws
 pub mod EssivLaws
+pub mod EntryLaws
+mod EntryExamples
 mod Examples

@@ -18,7 +18,7 @@ DecipheringUndoes =
 abbrev pub EncipheringMakesTexts : Type 0
 EncipheringMakesTexts =
     (key : KeyData) (number : ℕ) (text : List ℕ) → IsValid key.config key.raw → IsText text
-        → IsText (enc key number text)
+    → IsText (enc key number text)
 
 -- it is as long as it was, whatever the key and the numbers that stand in it
 abbrev pub EncipheringKeepsLength : Type 0

@@ -4,4 +4,6 @@ pub mod Xts
 pub mod CbcEssiv
 pub mod UnitCipher
 pub mod Schedules
+pub mod Capabilities
+pub mod Entries
 pub mod Laws

@@ -22,7 +22,7 @@ const WORDS: [u64; 4] = [
 const TOP: [u64; 4] = [u64::MAX, u64::MAX, 0, 0];
 
 /// XTS: the bytes 00 to 3f. ESSIV: the bytes 80 to 8f, and after them bytes that aren't used.
-fn raw_key(mode: Mode) -> [u8; 64] {
+pub(crate) fn raw_key(mode: Mode) -> [u8; 64] {
     let mut raw = [0xee; 64];
     match mode {
         Mode::Aes256Xts => {
@@ -40,7 +40,7 @@ fn raw_key(mode: Mode) -> [u8; 64] {
 }
 
 /// Byte i is the lowest byte of 31·i / 8.
-fn text(alloc: Global, unit: DataUnit) -> Result<Vec<u8>, AllocError>
+pub(crate) fn text(alloc: Global, unit: DataUnit) -> Result<Vec<u8>, AllocError>
     ensures { IfOk result (λ text. length text.items ≡ bytes_of unit) }
 {
     let mut text = vec![in alloc; 0u8; unit.bytes() as usize]?;

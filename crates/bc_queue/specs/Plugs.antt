@@ -66,7 +66,7 @@ pub record Added (keys : List KeyData) (old new : List RequestParts) (bio : Bio)
 abbrev pub StandsApart : List KeyData → List RequestParts → Bio → Type 0
 StandsApart keys requests bio =
     chunks_and (joins keys) (tagged_requests requests) (tagged_of bio) ≡ tagged_requests requests
-        ++ (tagged_of bio ∷ []) ∷ []
+    ++ (tagged_of bio ∷ []) ∷ []
 
 -- Private: an empty request with room for all bios of a plug.
 pub record IsReady (request : RequestParts) : Type 0 where

@@ -66,14 +66,14 @@ BeginsThread threads line next =
 abbrev pub BeginsShard : ℕ → ℕ → TextLine → At → Type 0
 BeginsShard threads shards line next =
     (shards < MAX_SHARDS) × ((count : ℕ) × (count < 2 ^ 32) × (line ≡ shard_line shards count)
-        × (next ≡ shard_at threads (shards + 1) count))
+    × (next ≡ shard_at threads (shards + 1) count))
 
 -- the line begins the next device
 abbrev pub BeginsDevice : ℕ → ℕ → ℕ → TextLine → At → Type 0
 BeginsDevice threads shards devices line next =
     (devices < MAX_DEVICES)
     × ((count : ℕ) × (count < 2 ^ 32) × (line ≡ device_line devices count)
-        × (next ≡ device_at threads shards (devices + 1) count))
+    × (next ≡ device_at threads shards (devices + 1) count))
 
 -- a line of this sort follows between parts, and then the lines stand so
 abbrev pub Follows : ℕ → ℕ → ℕ → Sort → TextLine → At → Type 0

@@ -4,3 +4,9 @@ pub mod ReportErrors
 pub mod Spaced
 pub mod Course
 pub mod Progress
+pub mod RunOf
+pub mod Answers
+pub mod Evictions
+pub mod Ways
+pub mod LawfulRun
+pub mod SerialRun

@@ -125,7 +125,7 @@ foot_line = codes "end" ∷ []
 abbrev pub report_lines : Report → List TextLine
 report_lines report =
     head_line ∷ (all_threads report.threads ++ (all_shards report.shards
-        ++ (all_devices report.devices ++ foot_line ∷ [])))
+    ++ (all_devices report.devices ++ foot_line ∷ [])))
 
 -- the one text of a report
 abbrev pub report_text : Report → List ℕ

@@ -42,13 +42,29 @@ impl Model for Reader {
 
     ghost Value = { Progress };
 
-    ghost view = { λ r. record { part = r.part; threads = r.threads.items; shards = r.shards.items; devices =
-        r.devices.items; answers = r.answers.items; entries = r.entries.items; events = r.events.items; owed = r.owed
-        } };
+    ghost view = { λ r. record {
+      part = r.part;
+      threads = r.threads.items;
+      shards = r.shards.items;
+      devices =
+          r.devices.items;
+      answers = r.answers.items;
+      entries = r.entries.items;
+      events = r.events.items;
+      owed = r.owed;
+    } };
 
-    ghost invariant = { λ r. IsProgress (record { part = r.part; threads = r.threads.items; shards = r.shards.items;
-        devices = r.devices.items; answers = r.answers.items; entries = r.entries.items; events = r.events.items; owed
-        = r.owed }) };
+    ghost invariant = { λ r. IsProgress (record {
+      part = r.part;
+      threads = r.threads.items;
+      shards = r.shards.items;
+      devices = r.devices.items;
+      answers = r.answers.items;
+      entries = r.entries.items;
+      events = r.events.items;
+      owed
+          = r.owed;
+    }) };
 }
 
 impl Reader {

@@ -39,7 +39,8 @@ SaysKey p field (Some key) = (field ≢ dash) × IsDeclared p field key
 -- a data unit number, or none where `-` stands for it
 abbrev pub SaysNumberField : List ℕ → Option ℕ → Type 0
 SaysNumberField field None = field ≡ dash
-SaysNumberField field (Some n) = (field ≢ dash) × (is_number_text field ≡ true) × (field ≡ number_text n) × (n < 2 ^ 256)
+SaysNumberField field (Some n) = (field ≢ dash) × (is_number_text field ≡ true) × (field ≡ number_text n)
+    × (n < 2 ^ 256)
 
 -- a key and a number make a context
 abbrev pub context_with : Option KeyNo → Option ℕ → Option Context

@@ -12,8 +12,10 @@ use Rattle.bc_script.specs.Script.{Script, keys_of, sectors_in}
 
 -- the bio that an operation submits, if it does
 abbrev pub bio_of : Op → Option Extent
-bio_of (ops.Write context sector units text) = Some (record { access = access.Write; context = context; sector = sector; units = units })
-bio_of (ops.Read context sector units) = Some (record { access = access.Read; context = context; sector = sector; units = units })
+bio_of (ops.Write context sector units text) =
+    Some (record { access = access.Write; context = context; sector = sector; units = units })
+bio_of (ops.Read context sector units) =
+    Some (record { access = access.Read; context = context; sector = sector; units = units })
 bio_of _ = None
 
 -- why a bio is refused, if it is: it isn't well formed

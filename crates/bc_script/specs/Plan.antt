@@ -38,7 +38,8 @@ unit_at keys op operation bio i =
 -- the units of an accepted bio, and none of one that is refused
 abbrev pub units_of_bio : Script → ℕ → Op → Extent → List PlannedUnit
 units_of_bio script op operation bio =
-    if is_none (refusal_of script bio) then map (unit_at (keys_of script) op operation bio) (range_with_len 0 bio.units) else []
+    if is_none (refusal_of script bio)
+    then map (unit_at (keys_of script) op operation bio) (range_with_len 0 bio.units) else []
 
 -- the units of operation number op
 abbrev pub units_of : Script → ℕ × Op → List PlannedUnit

@@ -51,7 +51,8 @@ mode_text Aes128CbcEssiv = codes "aes-128-cbc-essiv"
 -- the name, the mode, the data unit's bytes, the number bytes, and the key's bytes in hexadecimal digits
 abbrev pub key_line : NamedKey → TextLine
 key_line named =
-    codes "key" ∷ named.name ∷ mode_text named.key.config.mode ∷ decimal (bytes_of named.key.config.unit) ∷ decimal named.key.config.dun_bytes
+    codes "key" ∷ named.name ∷ mode_text named.key.config.mode ∷ decimal (bytes_of named.key.config.unit)
+    ∷ decimal named.key.config.dun_bytes
     ∷ encode_lower named.key.raw ∷ []
 
 -- ---- a line for each fault that is planned
@@ -87,11 +88,13 @@ text_fields (Bytes bytes) = codes "hex" ∷ encode_lower bytes ∷ []
 
 -- the key, the sector, the number of units, and the number of the first unit
 abbrev pub bio_fields : List NamedKey → Option Context → ℕ → ℕ → TextLine
-bio_fields keys context sector units = key_field keys context ∷ decimal sector ∷ decimal units ∷ number_field context ∷ []
+bio_fields keys context sector units =
+    key_field keys context ∷ decimal sector ∷ decimal units ∷ number_field context ∷ []
 
 -- the line of an operation
 abbrev pub op_line : List NamedKey → Op → TextLine
-op_line keys (Write context sector units text) = codes "write" ∷ (bio_fields keys context sector units ++ text_fields text)
+op_line keys (Write context sector units text) =
+    codes "write" ∷ (bio_fields keys context sector units ++ text_fields text)
 op_line keys (Read context sector units) = codes "read" ∷ bio_fields keys context sector units
 op_line keys (Evict key) = codes "evict" ∷ name_of keys key ∷ []
 op_line keys (Reset device) = codes "reset" ∷ decimal device ∷ []
@@ -115,7 +118,9 @@ end_line = codes "end" ∷ []
 -- the lines of a script: the first three, then keys, faults and sections, then the last
 abbrev pub script_lines : Script → List TextLine
 script_lines s =
-    head_lines s ++ (map key_line s.keys ++ (map fault_line s.faults ++ (flat_map (section_lines s.keys) s.threads ++ end_line ∷ [])))
+    head_lines s
+    ++ (map key_line s.keys
+    ++ (map fault_line s.faults ++ (flat_map (section_lines s.keys) s.threads ++ end_line ∷ [])))
 
 -- the one text of a script
 abbrev pub script_text : Script → List ℕ

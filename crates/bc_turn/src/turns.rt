@@ -179,8 +179,11 @@ fn seat_callers<V: Story>(
     passes: &mut Vec<TurnPass<V>>,
 ) -> Result<(), AllocError>
     requires own { rest.table_id ≡ cell.now.table.shared.table_id }
-    requires rest { rest.me ≡ (view_of (Some cell.now.table.shared.key.base)
-        (newcomers (length passes.old.items)), []) }
+    requires rest { rest.me ≡ (
+      view_of (Some cell.now.table.shared.key.base)
+          (newcomers (length passes.old.items)),
+      [],
+    ) }
     requires numbers { map (λ p. p.caller) passes.old.items ≡ range_with_len 0 (length passes.old.items) }
     ensures { OnOk result (passes.new.items ≡ map
         (with_cell record { id = cell.now.table.shared.table_id; base = cell.now.table.shared.key.base })

@@ -1,18 +1,27 @@
 use Rattle.std.proofs.Common.{◌≡◌, ℕ, arith, refl, ap, sym, ◌∙◌, subst, ◌≤◌}
-use Rattle.std.proofs.Common.{◌+◌, ◌%◌, ◌/◌, List, length}
+use Rattle.std.proofs.Common.{◌+◌, ◌*◌, ◌%◌, ◌/◌, ◌<◌, List, length}
 use Rattle.bc_base.specs.RamStores.{block_at}
 use Rattle.bc_base.proofs.Lists.{at_read}
-use Rattle.bc_base.proofs.Shards.{IsJoined, joined_more, joined_sectors, joined_back}
+use Rattle.bc_base.specs.Lists.{At}
+use Rattle.bc_base.proofs.Shards.{IsJoined, owns_block, joined_more, joined_sectors, joined_back}
 use Rattle.bc_base.proofs.ram_store.RamStore.join.Goals as goal
 
 pub loop-block-preserved : goal.loop-block-preserved
 loop-block-preserved c =
     let stores = c.args.stores.now in let block : ℕ = c.loop-block.block in let n : ℕ = length stores in let some = c.requires.some in
     let at = at_read stores (block % n) c.index-stores-block.result (omega arith) c.index-stores-block.is in
-    let facts = c.requires.each (block % n) c.index-stores-block.result at in
     subst (λ (l : List ℕ). IsJoined stores l (block + 1)) (sym c.in_ok-extend_from_slice.ensures.items)
     (joined_more stores c.loop-block.image.items c.block.result.now block c.index-stores-block.result c.loop-block.invariant c.block.ensures.length at
-    (c.block.ensures.bytes ∙ ap (λ (m : ℕ). block_at c.index-stores-block.result.bytes (block / m)) facts.1))
+    c.block.ensures.bytes)
+
+pub block-requires : goal.block-requires
+block-requires c =
+    let stores = c.args.stores.now in let block : ℕ = c.loop-block.block in let n : ℕ = length stores in let some = c.requires.some in
+    let at = at_read stores (block % n) c.index-stores-block.result (omega arith) c.index-stores-block.is in
+    let first : 8 * block / 8 ≡ block = omega arith in
+    let mine = owns_block c.index-stores-block.result block
+    (c.requires.each (8 * block) (omega (arith, c.loop-block-test.true)) c.index-stores-block.result (subst (λ (b : ℕ). At stores (b % n) c.index-stores-block.result) (sym first) at)) in
+    record { shard = mine.0; inside = mine.1 }
 
 pub returns-clause-sectors : goal.returns-clause-sectors
 returns-clause-sectors c = λ s less store at.

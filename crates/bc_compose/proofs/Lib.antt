@@ -1,0 +1,12 @@
+mod Lists
+mod Names
+mod Distinct
+mod Units
+mod Placed
+mod Image
+mod Along
+mod Orders
+mod Answered
+mod Whole
+mod OneOrder
+mod OneReport

@@ -1,0 +1,3 @@
+pub mod SectionDone
+pub mod Closed
+pub mod Composed

@@ -1,0 +1,10 @@
+use Rattle.std.proofs.Common.{◌≡◌, ◌*◌, length, take}
+use Rattle.std.specs.Int.{w32, to_le_bytes}
+use Rattle.std.specs.List.{flat_map}
+use Rattle.bc_modes.proofs.entry_bytes.bytes_of_words.Given as goal
+
+abbrev pub invariant-loop-i : goal.invariant-loop-i
+invariant-loop-i l = record {
+  size : length l.bytes ≡ 72;
+  made : take (4 * l.i) l.bytes ≡ flat_map (to_le_bytes w32) (take l.i l.words);
+}
