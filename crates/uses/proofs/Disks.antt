@@ -5,10 +5,9 @@ use Rattle.std.specs.List.{range_with_len}
 use Rattle.std.proofs.lemmas.List.{length-map, length-replicate}
 use Rattle.std.proofs.lemmas.Option.{none-some, same_Some}
 use Rattle.std.proofs.lemmas.List.Sums.{sum_by-le, sum-map}
-use Rattle.bc_base.specs.Lists.{Each, EachFrom, At, AllAt}
+use Rattle.bc_base.specs.Lists.{Each, EachFrom, At}
 use Rattle.bc_base.specs.Places.{shard_of}
-use Rattle.bc_base.specs.Stores.{IsPiece}
-use Rattle.bc_base.specs.RamStores.{RamData, IsShardOf, owns}
+use Rattle.bc_base.specs.RamStores.{RamData, owns}
 use Rattle.bc_base.proofs.Lists.{at_map}
 use Rattle.bc_key.specs.KeyData.{KeyData}
 use Rattle.bc_turn.specs.Turning.{sum_of, one_if}

@@ -1,4 +1,4 @@
-use Rattle.std.proofs.Common.{◌≡◌, ◌+◌, ◌∷◌, [], length, ap, sym, ◌∙◌, subst, arith, length-append}
+use Rattle.std.proofs.Common.{◌∷◌, [], length, ap, sym, ◌∙◌, subst, arith, length-append}
 use Rattle.bc_base.specs.Lists.{EachFrom}
 use Rattle.uses.specs.Disks.{IsFreshShard}
 use Rattle.uses.proofs.Disks.{fresh_pushed}

@@ -1,4 +1,4 @@
-use Rattle.std.proofs.Common.{rules, ◌≡◌, ◌<◌, map, length, ap, sym, ◌∙◌, subst, arith}
+use Rattle.std.proofs.Common.{rules, ◌≡◌, map, length, ap, sym, ◌∙◌, subst, arith}
 use Rattle.bc_base.specs.Lists.{Each}
 use Rattle.bc_medium.specs.Medium.{Belongs}
 use Rattle.uses.proofs.Disks.{has_sectors, back_again, new_numbers, all_here}

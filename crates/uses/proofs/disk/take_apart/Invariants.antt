@@ -1,4 +1,4 @@
-use Rattle.std.proofs.Common.{◌≡◌, ◌++◌, List, map, length}
+use Rattle.std.proofs.Common.{◌≡◌, ◌++◌, map, length}
 use mathlib.Core.List.{reverse}
 use Rattle.uses.proofs.disk.take_apart.Given as goal
 
