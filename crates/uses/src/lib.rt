@@ -8,9 +8,11 @@ mod scripts;
 mod units;
 
 // many callers
+mod disk;
 mod tally;
 
 pub use bios::first_unit;
+pub use disk::{Done, Finished, Shape, Step, Told, carry_out_all, run_callers, run_in_memory};
 pub use runs::report_of;
 pub use scripts::is_script;
 pub use tally::{Tally, add_up, count, count_both, marks_of_two};

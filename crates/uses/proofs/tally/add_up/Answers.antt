@@ -1,4 +1,4 @@
-use Rattle.std.proofs.Common.{◌≡◌, ◌<◌, sym, ap, ◌∙◌, arith, length, map}
+use Rattle.std.proofs.Common.{sym, ◌∙◌, arith}
 use Rattle.bc_turn.specs.Parts.{new_pass}
 use Rattle.uses.proofs.Tallies.{as_many, new_is_ready, two_popped}
 use Rattle.uses.proofs.tally.add_up.Goals as goal
