@@ -1,5 +1,5 @@
 -- A profile that is opened, and one that is closed.
-use Rattle.std.proofs.Common.{◌≡◌, ℕ, ◌+◌, ◌<◌, Bool, true, false, List, [], ◌∷◌, ◌++◌, length, map, refl, sym, ap, ◌∙◌, subst, arith, None}
+use Rattle.std.proofs.Common.{zero, suc, ◌≡◌, ◌≤◌, ℕ, ◌+◌, ◌<◌, Bool, true, false, List, [], ◌∷◌, ◌++◌, length, map, refl, sym, ap, ◌∙◌, subst, arith, None}
 use Rattle.std.specs.Prelude.{◌==◌, ◌||◌, sum}
 use Rattle.std.specs.List.{list_any, range_with_len}
 use Rattle.std.proofs.lemmas.Bool.{true≢false}
@@ -13,7 +13,7 @@ use Rattle.bc_profile.specs.declared.noted.Noted.{Noted}
 use Rattle.bc_profile.specs.SlotJournal.{IsLawful}
 use Rattle.bc_profile.specs.Story.{author_of, events_of}
 use Rattle.bc_profile.specs.Book.{BookData}
-use Rattle.bc_profile.specs.Passes.{BaseData, KeepsTo, SlotFacts, ProfileData, IsOf, HasOneAtRest, IsClosed, IsProfile, base_of, new_pass, pass_of, seen_of}
+use Rattle.bc_profile.specs.Passes.{BaseData, KeepsTo, SlotFacts, ProfileData, IsOf, IsFree, HasOneAtRest, IsClosed, IsProfile, base_of, new_pass, pass_of, seen_of}
 use Rattle.bc_profile.proofs.Visits.{only, is_of, story_of}
 
 -- ---- opening
@@ -44,6 +44,10 @@ new_passes t (n ∷ ns) =
     ∙ ap (λ p. p ∷ map (new_pass t) ns)
     (ap (λ k. record { caller = n; cell = k; seen = seen_of (map (new_part n) t.turns.cells); hold = None }) (keys_are n t.turns.cells)
     ∙ ap (λ s. record { caller = n; cell = map cell_key t.turns.cells; seen = s; hold = None }) (nothing_seen n t.turns.cells))
+
+pub new_are_free : (t : ProfileData) (first n : ℕ) → first + n ≤ t.turns.callers → Each (IsFree t) (map (new_pass t) (range_with_len first n))
+new_are_free t first zero fits = tt
+new_are_free t first (suc n) fits = ((record { caller = omega (arith, fits); cell = refl; hold = tt }, refl), new_are_free t (first + 1) n (omega (arith, fits)))
 
 -- ---- closing
 

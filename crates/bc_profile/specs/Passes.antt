@@ -82,6 +82,10 @@ pub record IsOf (profile : ProfileData) (pass : SlotFacts) : Type 0 where
   pub cell : pass.cell ≡ map cell_key profile.turns.cells
   pub hold : IfSome pass.hold (IsHold profile pass.seen)
 
+-- the pass is one of this profile, and has no hold
+abbrev pub IsFree : ProfileData → SlotFacts → Type 0
+IsFree profile pass = IsOf profile pass × (pass.hold ≡ None)
+
 -- the events of a pass: those that its caller made
 abbrev pub made_by : SlotFacts → List Noted
 made_by pass = own author_of pass.caller pass.seen

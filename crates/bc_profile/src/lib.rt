@@ -55,4 +55,6 @@ pub use solo::Solo;
 pub use uses::Use;
 
 #[cfg(test)]
+mod pass_tests;
+#[cfg(test)]
 mod tests;

@@ -6,7 +6,7 @@ ghost use Rattle.bc_profile.specs.declared.noted.Noted.{Noted};
 ghost use Rattle.bc_profile.specs.declared.event.Event.TheVariants.{Reset};
 ghost use Rattle.bc_profile.specs.declared.limits.TheConstants.{ROW_WORDS, MAX_SLOTS, MAX_EVENTS};
 ghost use Rattle.bc_profile.specs.Story.{Holds, events_of};
-ghost use Rattle.bc_profile.specs.Passes.{IsOf, HasSpare, Noticed, Gets, AllFoundHeld, Puts, Evicts, Refuses, slots_in, row_at, base_in, quota_of, made_by, new_pass, AreAllHere, IsClosed};
+ghost use Rattle.bc_profile.specs.Passes.{IsOf, HasSpare, Noticed, Gets, AllFoundHeld, Puts, Evicts, Refuses, slots_in, row_at, base_in, quota_of, made_by, new_pass, AreAllHere, IsClosed, IsFree};
 
 use crate::seats::{seat, take_events, unseat};
 use crate::{Book, BookBase, Busy, Event, Hold, Row, SlotPass, Words};
@@ -76,6 +76,7 @@ impl Profile {
         ensures rows { IfOk result (λ r. r.0.rows ≡ rows.items) }
         ensures callers { IfOk result (λ r. r.0.turns.callers ≡ length quotas.items) }
         ensures passes { IfOk result (λ r. r.1.items ≡ map (new_pass r.0) (range_with_len 0 (length quotas.items))) }
+        ensures are_of { IfOk result (λ r. Each (IsFree r.0) r.1.items) }
     {
         let callers = quotas.len() as u16;
         let base = BookBase::of(&slots, &quotas);

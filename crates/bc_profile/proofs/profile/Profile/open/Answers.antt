@@ -2,9 +2,9 @@ use Rattle.std.proofs.Common.{◌≡◌, ◌∙◌, length, map, sym, ap, subst,
 use Rattle.std.specs.List.{range_with_len}
 use Rattle.std.proofs.lemmas.List.{length-map}
 use Rattle.bc_base.specs.Lists.{Each}
-use Rattle.bc_profile.specs.Passes.{HasOneAtRest, ProfileData, new_pass, pass_of}
+use Rattle.bc_profile.specs.Passes.{HasOneAtRest, IsFree, ProfileData, new_pass, pass_of}
 use Rattle.bc_profile.proofs.TableOpening.{range_length}
-use Rattle.bc_profile.proofs.ProfileLemmas.{new_at_rest, new_passes, one_cell}
+use Rattle.bc_profile.proofs.ProfileLemmas.{new_are_free, new_at_rest, new_passes, one_cell}
 use Rattle.bc_profile.proofs.profile.Profile.open.Goals as goal
 
 pub seat-requires-clause-rest : goal.seat-requires-clause-rest
@@ -24,3 +24,10 @@ returns-clause-passes c =
     let callers : c.len-callers.result ≡ length c.args.quotas.items = c.len-callers.ensures ∙ c.args.quotas.ok.0 in
     let t : ProfileData = record { turns = c.in_ok-turns.turns; rows = c.args.rows.items } in
     c.seat.ensures ∙ ap (map pass_of) c.in_ok-turns.ensures.passes ∙ new_passes t (range_with_len 0 c.len-callers.result) ∙ ap (λ n. map (new_pass t) (range_with_len 0 n)) callers
+
+pub returns-clause-are_of : goal.returns-clause-are_of
+returns-clause-are_of c =
+    let callers : c.len-callers.result ≡ length c.args.quotas.items = c.len-callers.ensures ∙ c.args.quotas.ok.0 in
+    let t : ProfileData = record { turns = c.in_ok-turns.turns; rows = c.args.rows.items } in
+    subst (Each (IsFree t)) (sym (c.seat.ensures ∙ ap (map pass_of) c.in_ok-turns.ensures.passes ∙ new_passes t (range_with_len 0 c.len-callers.result)))
+    (new_are_free t 0 c.len-callers.result (let n = c.in_ok-turns.ensures.callers in omega (arith, n)))
