@@ -75,6 +75,12 @@ CASES = [
     ("a plug left open", operation("plug"), 7, "order", "end", "line 6 is still open"),
     ("a plug that isn't open", operation("unplug"), 6, "order", "unplug", "No plug is open"),
     ("a bio too long", operation("write a 0 33 0 fill 00"), 6, "limit", "33", "at most 256 sectors"),
+    ("a fault in a section", operation("fault 0 0"), 6, "word", "fault", "can't stand here"),
+    ("a shard too great", script(5, "fault 64 0"), 5, "number", "64", "from 0 to 63"),
+    ("a place too great", script(5, "fault 0 65536"), 5, "number", "65536", "from 0 to 65535"),
+    ("a fault twice", "".join(f"{it}\n" for it in [*LINES[:4], "fault 3 1", "fault 3 1", "end"]).encode(), 6, "order", "fault 3 1", "none stands twice"),
+    ("a fault too many", "".join(f"{it}\n" for it in [*LINES[:4], *(f"fault 1 {at}" for at in range(1025)), "end"]).encode(),
+     1029, "limit", "fault 1 1024", "1024 fault lines"),
     ("a section too many", "".join(f"{it}\n" for it in [*LINES[:4], *["thread"] * 17, "end"]).encode(), 21, "limit", "thread", "16 sections"),
 ]
 

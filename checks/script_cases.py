@@ -32,6 +32,11 @@ def many_names(count):
     return [H512.replace(" a ", f" k{place} ") for place in range(count)]
 
 
+def many_faults(count):
+    """Faults at the places 64 to 127 of each shard, so that 1024 of them are on the shards 0 to 15."""
+    return [f"fault {place // 64} {64 + place % 64}" for place in range(count)]
+
+
 # name, text, line and kind
 REFUSED = [
     # where the text ends
@@ -72,9 +77,6 @@ REFUSED = [
     ("a device behind a key", headed(H512, "device 0 1 1 1 0 8"), 5, "word"),
     ("a device in a section", ended("device 0 1 1 1 0 8"), 6, "word"),
     ("a device before the fallback line", text_of(["blkcrypt 1", "disk 1", "device 0 1 1 1 0 8"]), 3, "word"),
-    ("a planned fault", headed("fault 0 0"), 4, "not built"),
-    ("a planned fault behind a key", headed(H512, "fault 0 0"), 5, "not built"),
-    ("a planned fault in a section", ended("fault 0 0"), 6, "word"),
     ("words that only begin so", headed("devices 0"), 4, "word"),
     ("lines of other versions", ended("mmc 0 1 1 1 0 4"), 6, "word"),
     ("a seq line", ended("seq"), 6, "word"),
@@ -102,6 +104,46 @@ REFUSED = [
     ("key 4097", headed(*many_names(4096), B512), 4100, "limit"),
     ("key 4097 with a name of before", headed(*many_names(4096), H512.replace(" a ", " k7 ")), 4100, "name"),
     ("key 4097 with equal halves", headed(*many_names(4096), "key b aes-256-xts 512 8 " + "11" * 64), 4100, "key"),
+    # fault lines
+    ("a fault on shard 64", headed("fault 64 0"), 4, "number"),
+    ("a fault at the place 65536", headed("fault 0 65536"), 4, "number"),
+    ("a fault at the place 4294967295", headed("fault 0 4294967295"), 4, "number"),
+    ("a fault on shard 2^16 that isn't shard 0", headed("fault 65536 0"), 4, "number"),
+    ("a fault at the place 2^32 that isn't the place 0", headed("fault 0 4294967296"), 4, "number"),
+    ("a fault on a shard with a leading zero", headed("fault 00 0"), 4, "number"),
+    ("a fault at a place with a leading zero", headed("fault 0 01"), 4, "number"),
+    ("a fault on a shard in hexadecimal digits", headed("fault a 0"), 4, "number"),
+    ("a fault on an empty shard", headed("fault  0"), 4, "number"),
+    ("a fault at an empty place", headed("fault 0 "), 4, "number"),
+    ("a fault without fields", headed("fault"), 4, "word"),
+    ("a fault without a place", headed("fault 0"), 4, "word"),
+    ("a fault with a field too many", headed("fault 0 0 0"), 4, "word"),
+    ("a blank behind a fault", headed("fault 0 0 "), 4, "word"),
+    ("faults, in a word", headed("faults 0 0"), 4, "word"),
+    ("a fault in a section", ended("fault 0 0"), 6, "word"),
+    ("a fault behind a section's operation", ended("evict a", "fault 0 0"), 7, "word"),
+    ("a fault that isn't one in a section", ended("fault x"), 6, "word"),
+    ("a fault before the fallback line", text_of(["blkcrypt 1", "disk 1", "fault 0 0"]), 3, "word"),
+    ("a fault before the disk line", text_of(["blkcrypt 1", "fault 0 0"]), 2, "word"),
+    ("a fault as the first line", b"fault 0 0\n", 1, "word"),
+    ("a fault behind the end", headed() + b"fault 0 0\n", 5, "end"),
+    ("a key behind a fault", headed("fault 0 0", H512), 5, "word"),
+    ("a device behind a fault", headed("fault 0 0", "device 0 1 1 1 0 8"), 5, "word"),
+    ("fallback off behind a fault", headed("fault 0 0", "fallback off"), 5, "word"),
+    ("an operation behind a fault", headed(H512, "fault 0 0", "evict a"), 6, "word"),
+    ("a fault twice", headed("fault 0 0", "fault 0 0"), 5, "order"),
+    ("a fault at an earlier place", headed("fault 0 7", "fault 0 6"), 5, "order"),
+    ("a fault on an earlier shard, at a later place", headed("fault 1 0", "fault 0 65535"), 5, "order"),
+    ("places that ascend as words and not as numbers", headed("fault 0 10", "fault 0 9"), 5, "order"),
+    ("a fault out of order behind one in order", headed("fault 0 0", "fault 0 2", "fault 0 1"), 6, "order"),
+    ("the first fault once more behind others", headed("fault 0 0", "fault 0 1", "fault 1 0", "fault 0 0"), 7, "order"),
+    ("fault 1025", headed(*many_faults(1025)), 1028, "limit"),
+    ("fault 1025 behind a key", headed(H512, *many_faults(1025)), 1029, "limit"),
+    ("fault 1025 out of order", headed(*many_faults(1024), "fault 0 64"), 1028, "order"),
+    ("fault 1025 on shard 64", headed(*many_faults(1024), "fault 64 0"), 1028, "number"),
+    ("fault 1025 with a field too few", headed(*many_faults(1024), "fault 63"), 1028, "word"),
+    ("a shard too great, out of order", headed("fault 63 65535", "fault 64 0"), 5, "number"),
+    ("a place that isn't a number, out of order", headed("fault 1 0", "fault 0 x"), 5, "number"),
     # operations
     ("half a byte", ended("write a 0 1 0 fill 0"), 6, "hex"),
     ("a number with a leading zero", ended("write a 0 1 00 fill 00"), 6, "number"),
@@ -180,6 +222,16 @@ REPORTED = [
          "shard 0 4", "0 2 0 soft", "0 2 1 soft", "1 0 0 soft", "1 1 0 plain", "end"]),
     ("sections without operations", headed("thread", "thread"),
         ["report 1", "thread 0", "thread 1", "shard 0 0", "end"]),
+    # A fault on a shard that the run doesn't have, or at a place that it doesn't reach, is without effect.
+    ("the last fault that may be planned", headed("fault 63 65535"), ["report 1", "shard 0 0", "end"]),
+    ("faults that aren't met", headed(H512, "fault 0 2", "fault 0 65535", "fault 1 0", "thread", "write a 0 1 0 fill 00", "read a 0 1 0"),
+        ["report 1", "thread 0", "done", "done fill 00", "shard 0 2", "0 0 0 soft", "0 1 0 soft", "end"]),
+    ("1024 faults that aren't met", headed(*many_faults(1024), "thread", "read - 0 8 -"),
+        ["report 1", "thread 0", "done fill 00", "shard 0 8", *(f"0 0 {unit} plain" for unit in range(8)), "end"]),
+    ("as many faults on the last shard", headed(H512, *(f"fault 63 {64512 + place}" for place in range(1024)), "thread", "evict a"),
+        ["report 1", "thread 0", "evicted", "shard 0 0", "end"]),
+    ("faults that ascend as numbers and not as words", headed("fault 2 9", "fault 2 10", "fault 10 8"),
+        ["report 1", "shard 0 0", "end"]),
     ("bytes as they were written", headed("thread", "write - 7 1 - hex " + "5a" * 512, "read - 7 1 -"),
         ["report 1", "thread 0", "done", "done fill 5a", "shard 0 2", "0 0 0 plain", "0 1 0 plain", "end"]),
 ]

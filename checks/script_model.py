@@ -20,6 +20,7 @@ UNIT_SIZES = [512, 1024, 2048, 4096]
 
 MOST_TEXT = 16777216
 MOST_KEYS = 4096
+MOST_FAULTS = 1024
 MOST_SECTIONS = 16
 MOST_OPERATIONS = 65536
 MOST_UNITS = 65536
@@ -66,6 +67,7 @@ class Read:
 @dataclass
 class Script:
     blocks: int
+    faults: list  # of pairs of a shard and a place in its order
     sections: list  # of lists of Write, Read and the answers of other operations
 
 
@@ -98,12 +100,13 @@ def hexadecimal(field, least, most):
 
 class Reader:
     """Reads lines one after the other. `place` says what the lines so far are: it is the name of the next line where
-    one line may follow, `devices` directly behind the first three lines, then `keys`, `sections` and `done`."""
+    one line may follow, `devices` directly behind the first three lines, then `keys`, `faults`, `sections` and `done`."""
 
     def __init__(self):
         self.place = "version"
         self.blocks = 0
         self.keys = {}
+        self.faults = []
         self.sections = []
         self.plugged = False
         self.operations = 0
@@ -125,17 +128,18 @@ class Reader:
                 raise Fails("not built")
             case "devices", [b"device", *_]:
                 raise Fails("not built")
-            case "devices" | "keys", [b"fault", *_]:
-                raise Fails("not built")
             case "devices" | "keys", [b"key", name, (b"aes-256-xts" | b"aes-128-cbc-essiv") as mode, unit, size, digits]:
                 self.key(name, mode, unit, size, digits)
                 self.place = "keys"
-            case "devices" | "keys" | "sections", [b"thread"]:
+            case "devices" | "keys" | "faults", [b"fault", shard, access]:
+                self.fault(decimal(shard, 0, 63), decimal(access, 0, 65535))
+                self.place = "faults"
+            case "devices" | "keys" | "faults" | "sections", [b"thread"]:
                 test(not self.plugged, "order")
                 test(len(self.sections) < MOST_SECTIONS, "limit")
                 self.sections.append([])
                 self.place = "sections"
-            case "devices" | "keys" | "sections", [b"end"]:
+            case "devices" | "keys" | "faults" | "sections", [b"end"]:
                 test(not self.plugged, "order")
                 self.place = "done"
             case "sections", [b"write", key, sector, units, number, (b"fill" | b"hex") as how, digits] if (
@@ -173,6 +177,11 @@ class Reader:
         test(mode != XTS or raw[:32] != raw[32:], "key")
         test(len(self.keys) < MOST_KEYS, "limit")
         self.keys[name] = Key(mode, unit, size, raw)
+
+    def fault(self, shard, access):
+        test(not self.faults or self.faults[-1] < (shard, access), "order")
+        test(len(self.faults) < MOST_FAULTS, "limit")
+        self.faults.append((shard, access))
 
     def named(self, name):
         test(name in self.keys, "name")
@@ -212,7 +221,7 @@ def read_script(text):
     # Behind the last line feed stands nothing, and nothing is missing.
     if rest or reader.place != "done":
         return len(lines) + 1, "end"
-    return Script(reader.blocks, reader.sections)
+    return Script(reader.blocks, reader.faults, reader.sections)
 
 
 # ---- carrying a script out
@@ -254,13 +263,14 @@ def answer_of(data):
 
 
 class Run:
-    """A disk of zeros, and the entries of what was done on it."""
+    """A disk of zeros, which is one shard, with its planned faults, and the entries of what was done on it."""
 
-    def __init__(self, blocks):
+    def __init__(self, blocks, faults):
         self.disk = bytearray(8 * SECTOR * blocks)
+        self.faults = set(faults)
         self.entries = []
 
-    def operation(self, thread, place, operation):
+    def operation(self, thread, number, operation):
         """The answer of an operation."""
         if isinstance(operation, str):
             return operation
@@ -272,17 +282,20 @@ class Run:
         texts = []
         for unit in range(bio.units):
             at = SECTOR * bio.sector + unit * size
+            place = (0, len(self.entries))
+            self.entries.append(f"{thread} {number} {unit} {'soft' if bio.key else 'plain'}")
+            if place in self.faults:
+                return f"fault {unit}"
             if isinstance(operation, Write):
                 text = operation.data[unit * size:(unit + 1) * size]
                 self.disk[at:at + size] = ciphered(bio.key, bio.number + unit, text, True)
             else:
                 texts.append(ciphered(bio.key, bio.number + unit, bytes(self.disk[at:at + size]), False))
-            self.entries.append(f"{thread} {place} {unit} {'soft' if bio.key else 'plain'}")
         return "done" if isinstance(operation, Write) else answer_of(b"".join(texts))
 
 
 def report_of(script):
-    run = Run(script.blocks)
+    run = Run(script.blocks, script.faults)
     lines = ["report 1"]
     for thread, section in enumerate(script.sections):
         lines.append(f"thread {thread}")

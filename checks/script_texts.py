@@ -27,6 +27,10 @@ def script(dice, operations, blocks=1, **key):
     return with_keys([key_line(dice, **key)], operations, blocks)
 
 
+def script_with_faults(dice, faults):
+    return text_of([*head(1), key_line(dice), *faults, "thread", "write a 0 8 0 fill 5a", "read a 0 8 0", "end"])
+
+
 # ---- valid scripts, at random
 
 
@@ -116,6 +120,20 @@ def a_section(dice, keys, bios):
     return lines + ["unplug"] * plugged
 
 
+def fault_lines(faults):
+    return [f"fault {shard} {access}" for shard, access in sorted(set(faults))]
+
+
+def unmet_faults(dice):
+    """Planned faults that a run over one shard doesn't meet: those of other shards, and on shard 0 those behind the units
+    that a generated script has."""
+    if dice.random() < 0.5:
+        return []
+    places = [(dice.choice([1, 1, 2, 3, 63, dice.randrange(1, 64)]), dice.choice([0, 1, 9, 10, 99, 65535, dice.randrange(65536)]))
+              for _ in range(dice.choice([1, 1, 2, 3, 10, 40]))]
+    return fault_lines([*places, *[(0, 65535)] * (dice.random() < 0.3)])
+
+
 def a_script(dice):
     """A valid script of a few keys and sections, whose operations meet on a few places."""
     blocks = dice.choice([1, 1, 2, 4, 10, 32, dice.randrange(1, 40)])
@@ -124,7 +142,7 @@ def a_script(dice):
     key_lines = [key.line(dice) for key in keys]
     bios = [Bio(dice, keys, blocks) for _ in range(dice.choice([1, 2, 3, 5]))]
     sections = [a_section(dice, keys, bios) for _ in range(dice.choice([0, 1, 1, 1, 2, 3, 16, dice.randrange(17)]))]
-    return text_of([*head(blocks), *key_lines, *(line for section in sections for line in section), "end"])
+    return text_of([*head(blocks), *key_lines, *unmet_faults(dice), *(line for section in sections for line in section), "end"])
 
 
 # ---- valid scripts, by shape
@@ -175,6 +193,11 @@ def shapes(dice):
     """A valid script of each shape, by name."""
     long = "z123456789abcdef"
     yield "no key", text_of(head(1) + ["end"])
+    yield "a fault and nothing else", text_of(head(1) + ["fault 0 0", "end"])
+    yield "a fault of each shard", text_of(head(1) + [f"fault {shard} {65535 - shard}" for shard in range(64)] + ["thread", "end"])
+    yield "as many faults as there may be", script_with_faults(dice, [f"fault {1 + place // 17} {place * 3}" for place in range(1024)])
+    yield "as many keys and faults as there may be", text_of(
+        head(1) + many_keys(dice, 4096) + [f"fault 1 {place}" for place in range(1024)] + ["thread", "end"])
     yield "the largest disk and no key", text_of(head(16384) + ["end"])
     yield "the end of the largest disk", script(
         dice, ["write a 131064 4 7 fill 10", "read a 131070 1 a", "read a 131070 1 9", "read a 131070 2 a", "read - 131071 2 -",
@@ -265,25 +288,27 @@ FIELDS = [*NUMBERS, *NUMBER_TEXTS, *NAMES, *DIGITS, "-", "on", "off", "fill", "h
 
 LINES = [
     "", " ", "#", "blkcrypt 1", "blkcrypt 2", "disk 1", "fallback on", "fallback off", "device 0 2 1 1 0 8", "device", "fault 0 0",
-    "fault", "key", "thread", "end", "plug", "unplug", "reset 0", "reset", "evict a", "evict b", "evict", "write a 0 1 0 fill 00",
-    "read a 0 1 0", "read b 0 1 0", "read - 0 1 -", "read - 0 1 0", "mmc 0 1 1 1 0 4", "seq", "discard a 0 1 0", "\x00", "report 1",
+    "fault 1 8", "fault 1 65535", "fault 63 65535", "fault 64 0", "fault 2 0 0", "fault", "key", "thread", "end", "plug", "unplug",
+    "reset 0", "reset", "evict a", "evict b", "evict", "write a 0 1 0 fill 00", "read a 0 1 0", "read b 0 1 0", "read - 0 1 -",
+    "read - 0 1 0", "mmc 0 1 1 1 0 4", "seq", "discard a 0 1 0", "\x00", "report 1",
     "key a aes-256-xts 512 8 " + "01" * 32 + "02" * 32, "key b aes-256-xts 512 8 " + "01" * 32 + "02" * 32]
 
 
 def base(dice):
     """The lines of a valid script that has a line of each form."""
     return [
-        *head(2), key_line(dice, "a"), key_line(dice, "e", ESSIV, 4096, 2), "thread", "write a 9 1 c0ffee fill 5a",
+        *head(2), key_line(dice, "a"), key_line(dice, "e", ESSIV, 4096, 2), "fault 1 7", "fault 2 0", "thread", "write a 9 1 c0ffee fill 5a",
         f"write a 0 1 0 hex {dice.randbytes(512).hex()}", "plug", "read a 9 1 c0ffee", "write e 8 1 ffff fill 00", "unplug",
         "evict e", "read - 8 8 -", "thread", "read e 8 1 ffff", "end"]
 
 
 # the fields of the base that may have several values: the line, the field, and what is tried there
 CHANGING = [
-    (1, 1, NUMBERS), (3, 1, NAMES), (3, 3, NUMBERS), (3, 4, NUMBERS), (3, 5, DIGITS), (4, 1, NAMES), (4, 3, NUMBERS), (4, 4, NUMBERS),
-    (4, 5, DIGITS), (6, 1, NAMES), (6, 2, NUMBERS), (6, 3, NUMBERS), (6, 4, NUMBER_TEXTS), (6, 6, DIGITS), (7, 3, NUMBERS),
-    (7, 6, DIGITS), (9, 1, NAMES), (9, 2, NUMBERS), (9, 3, NUMBERS), (9, 4, NUMBER_TEXTS), (10, 3, NUMBERS), (10, 4, NUMBER_TEXTS),
-    (10, 6, DIGITS), (12, 1, NAMES), (13, 2, NUMBERS), (13, 3, NUMBERS), (15, 2, NUMBERS), (15, 4, NUMBER_TEXTS)]
+    (1, 1, NUMBERS), (3, 1, NAMES), (3, 3, NUMBERS), (3, 4, NUMBERS), (3, 5, DIGITS), (4, 1, NAMES), (4, 3, NUMBERS),
+    (4, 4, NUMBERS), (4, 5, DIGITS), (5, 1, NUMBERS), (5, 2, NUMBERS), (6, 1, NUMBERS), (6, 2, NUMBERS), (8, 1, NAMES),
+    (8, 2, NUMBERS), (8, 3, NUMBERS), (8, 4, NUMBER_TEXTS), (8, 6, DIGITS), (9, 3, NUMBERS), (9, 6, DIGITS), (11, 1, NAMES),
+    (11, 2, NUMBERS), (11, 3, NUMBERS), (11, 4, NUMBER_TEXTS), (12, 3, NUMBERS), (12, 4, NUMBER_TEXTS), (12, 6, DIGITS),
+    (14, 1, NAMES), (15, 2, NUMBERS), (15, 3, NUMBERS), (17, 2, NUMBERS), (17, 4, NUMBER_TEXTS)]
 
 
 def with_field(lines, place, field, value):
@@ -343,6 +368,14 @@ def letter_changed(dice, lines):
     return text_of(lines)
 
 
+def faults_changed(dice, lines):
+    """Other faults in place of those that stand there, a few of them out of order or twice."""
+    faults = fault_lines([(dice.randrange(1, 4), dice.randrange(5, 15)) for _ in range(dice.choice([2, 3, 5, 9]))])
+    for _ in range(dice.choice([0, 1, 1, 2])):
+        faults.insert(dice.randrange(len(faults) + 1), dice.choice([*faults, "fault 0 9", "fault 3 15", "fault 64 0", "fault 1 65536"]))
+    return text_of([*lines[:5], *faults, *lines[7:]])
+
+
 def line_changed(dice, lines):
     """A line left out, doubled, put in or in another's place."""
     lines = list(lines)
@@ -365,7 +398,7 @@ def line_changed(dice, lines):
 def head_changed(dice, lines):
     """Lines put in among the first ones, or in their places."""
     lines = list(lines)
-    place = dice.randrange(2, 6)
+    place = dice.randrange(2, 8)
     line = dice.choice(["fallback off", "device 0 2 1 1 0 8", "device", "fault 0 0", "fault x"] * 4 + LINES)
     lines[place:place + (dice.random() < 0.4)] = [line]
     return text_of(lines)
@@ -375,7 +408,7 @@ def plugs_changed(dice, lines):
     """Plugs opened and closed at other places, and sections and ends that may find them open."""
     lines = list(lines)
     for _ in range(dice.choice([1, 1, 2, 3])):
-        lines.insert(dice.randrange(6, len(lines)), dice.choice(["plug", "unplug", "plug", "unplug", "thread", "end"]))
+        lines.insert(dice.randrange(8, len(lines)), dice.choice(["plug", "unplug", "plug", "unplug", "thread", "end"]))
     if dice.random() < 0.3:
         lines.remove(dice.choice(["plug", "unplug"]))
     return text_of(lines)
@@ -398,7 +431,7 @@ def mutated(dice):
     """Texts that are mostly broken. What is wrong with them, and whether anything is, the model finds."""
     yield from each_field(dice)
     for change, count in [(two_fields, 300), (word_changed, 150), (letter_changed, 200), (line_changed, 150), (head_changed, 100),
-                          (plugs_changed, 100), (text_changed, 120)]:
+                          (faults_changed, 200), (plugs_changed, 100), (text_changed, 120)]:
         for turn in range(count):
             yield f"{change.__name__} {turn}", change(dice, base(dice))
     for turn in range(120):
@@ -412,6 +445,11 @@ def broken(dice):
     yield "every byte once", bytes(range(256))
     yield "UTF-16", text_of(base(dice)).decode().encode("utf-16-le")
     yield "a text too long", longest(dice, 16777217)
+    for count in [1024, 1025]:
+        yield f"{count} faults behind as many keys as there may be", text_of(
+            head(1) + many_keys(dice, 4096) + [f"fault 1 {place}" for place in range(count)] + ["end"])
+    yield "a fault too many, of many shards", script_with_faults(dice, [f"fault {1 + place // 17} {place}" for place in range(1025)])
+    yield "the last of many faults twice", script_with_faults(dice, [f"fault 9 {place}" for place in range(1023)] + ["fault 9 1022"])
     yield "a key too many", text_of(head(1) + many_keys(dice, 4096) + [key_line(dice, "z"), "end"])
     for place in [0, 1, 2047, 4094]:
         yield f"the name of key {place} of 4096 once more", text_of(

@@ -21,18 +21,21 @@ use Rattle.bc_script.specs.declared.op.Op.{Op}
 use Rattle.bc_script.specs.declared.op.Op.TheVariants as ops
 use Rattle.bc_script.specs.declared.sort.Sort.{Sort}
 use Rattle.bc_script.specs.declared.sort.Sort.TheVariants as sorts
-use Rattle.bc_script.specs.Script.{IsNamedKey, IsContext, IsOp, IsSection, bare_keys, open_after, unit_count, unit_count_of_section}
+use Rattle.bc_script.specs.Script.{IsNamedKey, IsFault, IsContext, IsOp, IsSection, bare_keys, is_before, open_after, unit_count, unit_count_of_section}
 use Rattle.bc_script.specs.ScriptText.{name_of, dash, key_field}
-use Rattle.bc_script.specs.Forms.{Form, KeyForm, Version, Disk, Fallback, Key, Thread, Plug, Unplug, End, sort_of}
-use Rattle.bc_script.specs.ScriptErrors.{is_end, last_sort, is_key, is_thread, is_operation, units_in, number_in, key_named, is_declared, sectors_under, is_open}
+use Rattle.bc_script.specs.Forms.{Form, KeyForm, FaultForm, Version, Disk, Fallback, Key, Fault, Thread, Plug, Unplug, End, sort_of}
+use Rattle.bc_script.specs.ScriptErrors.{is_end, last_sort, is_key, is_fault, is_thread, is_operation, units_in, number_in, key_named, is_declared, sectors_under, is_open, fault_in, ascends}
 use Rattle.bc_script.specs.Progress.{Progress, IsProgress, IsAt, with_section, is_in_section, lines_read, forms_read, sections_read}
-use Rattle.bc_script.proofs.Onto.{onto, onto-append, length-onto, length-HaveForms, sum_by-onto, sum_by-agree, sum_by-map, sum_by-flat_map, sum_by-zeros, sum_by-ones, last_sort-onto, key_named-onto, AllByRecursion-append}
+use Rattle.bc_script.proofs.Onto.{onto, onto-append, length-onto, length-HaveForms, sum_by-onto, sum_by-agree, sum_by-map, sum_by-flat_map, sum_by-zeros, sum_by-ones, last_sort-onto, key_named-onto, ascends-onto, AllByRecursion-append}
 use Rattle.bc_script.proofs.Fields.{number_in-decimal}
 use Rattle.bc_script.proofs.KeyNames.{named_too}
+use Rattle.bc_script.specs.Statements.{is_after}
+use Rattle.bc_script.proofs.Faults.{after_more, fault_in-fault_fields}
 use Rattle.bc_script.proofs.LineForms.{bytes_eq-same, bytes_eq-other, name_at, name_is_no_dash}
-use Rattle.bc_script.proofs.FormsRead.{head_forms, key_forms, section_forms, end_forms, forms_in, ops_read, have_forms, forms_read-in, parts, last_section}
+use Rattle.bc_script.proofs.FormsRead.{head_forms, key_forms, fault_forms, section_forms, end_forms, forms_in, ops_read, have_forms, forms_read-in, parts, last_section}
 pub use Rattle.bc_script.proofs.FormsRead.{forms_read-step}
-pub use Rattle.bc_script.proofs.LineForms.{key_fields, op_form, bio_form, text_form_of, form_of-version, form_of-disk, form_of-fallback, form_of-thread, form_of-end, form_of-key_line, form_of-op_line}
+pub use Rattle.bc_script.proofs.Faults.{fault_fields}
+pub use Rattle.bc_script.proofs.LineForms.{key_fields, op_form, bio_form, text_form_of, form_of-version, form_of-disk, form_of-fallback, form_of-thread, form_of-end, form_of-key_line, form_of-fault_line, form_of-op_line}
 
 -- ---- counts and sums
 
@@ -43,6 +46,7 @@ sum_head f version disk fallback (Some sorts.Version) blocks = omega arith
 sum_head f version disk fallback (Some sorts.Disk) blocks = let d = disk (decimal blocks) in omega arith
 sum_head f version disk fallback (Some sorts.Fallback) blocks = let d = disk (decimal blocks) in omega arith
 sum_head f version disk fallback (Some sorts.Key) blocks = let d = disk (decimal blocks) in omega arith
+sum_head f version disk fallback (Some sorts.Fault) blocks = let d = disk (decimal blocks) in omega arith
 sum_head f version disk fallback (Some sorts.Thread) blocks = let d = disk (decimal blocks) in omega arith
 sum_head f version disk fallback (Some sorts.Operation) blocks = let d = disk (decimal blocks) in omega arith
 sum_head f version disk fallback (Some sorts.End) blocks = let d = disk (decimal blocks) in omega arith
@@ -53,47 +57,54 @@ sum_end f none (Some sorts.Version) = refl
 sum_end f none (Some sorts.Disk) = refl
 sum_end f none (Some sorts.Fallback) = refl
 sum_end f none (Some sorts.Key) = refl
+sum_end f none (Some sorts.Fault) = refl
 sum_end f none (Some sorts.Thread) = refl
 sum_end f none (Some sorts.Operation) = refl
 sum_end f none (Some sorts.End) = omega arith
 
--- what a key adds, and what a section adds with its operations
-sum_read : (f : Form → ℕ) (key : ℕ) (of_section : List Op → ℕ) (p : Progress) → IsProgress p → f Version ≡ 0 → ((blocks : List ℕ) → f (Disk blocks) ≡ 0) → f Fallback ≡ 0 → f End ≡ 0
+-- what a key adds, what a planned fault adds, and what a section adds with its operations
+sum_read : (f : Form → ℕ) (key fault : ℕ) (of_section : List Op → ℕ) (p : Progress) → IsProgress p → f Version ≡ 0 → ((blocks : List ℕ) → f (Disk blocks) ≡ 0) → f Fallback ≡ 0 → f End ≡ 0
     → ((named : KeyForm) → f (Key named) ≡ key)
+    → ((planned : FaultForm) → f (Fault planned) ≡ fault)
     → ((section : List Op) → AllByRecursion (IsOp (bare_keys p.keys)) section → sum_by f (section_forms p.keys section) ≡ of_section section)
-    → sum_by f (forms_read p) ≡ sum_by (λ (named : NamedKey). key) p.keys + sum_by of_section (sections_read p)
-sum_read f key of_section p is version disk fallback none each_key each_section =
+    → sum_by f (forms_read p) ≡ sum_by (λ (named : NamedKey). key) p.keys + sum_by (λ (planned : ℕ × ℕ). fault) p.faults + sum_by of_section (sections_read p)
+sum_read f key fault of_section p is version disk fallback none each_key each_fault each_section =
     let sections = flat_map (section_forms p.keys) (sections_read p) in
     let whole : sum_by f (onto (forms_in p) []) ≡ sum_by f (forms_in p) + 0 = sum_by-onto f (forms_in p) [] in
-    let a = sum_by-append f (head_forms p.last p.blocks) (key_forms p.keys ++ (sections ++ end_forms p.last)) in
-    let b = sum_by-append f (key_forms p.keys) (sections ++ end_forms p.last) in
-    let c = sum_by-append f sections (end_forms p.last) in
+    let a = sum_by-append f (head_forms p.last p.blocks) (key_forms p.keys ++ (fault_forms p.faults ++ (sections ++ end_forms p.last))) in
+    let b = sum_by-append f (key_forms p.keys) (fault_forms p.faults ++ (sections ++ end_forms p.last)) in
+    let c = sum_by-append f (fault_forms p.faults) (sections ++ end_forms p.last) in
+    let d = sum_by-append f sections (end_forms p.last) in
     let head = sum_head f version disk fallback p.last p.blocks in
     let end = sum_end f none p.last in
     let keys : sum_by f (key_forms p.keys) ≡ sum_by (λ (named : NamedKey). key) p.keys =
     sum_by-map f (λ (named : NamedKey). Key (key_fields named)) p.keys
     ∙ sum_by-agree (λ (named : NamedKey). Unit {0}) (λ (named : NamedKey). f (Key (key_fields named))) (λ (named : NamedKey). key) (λ named u. each_key (key_fields named)) p.keys (all_units p.keys) in
+    let faults : sum_by f (fault_forms p.faults) ≡ sum_by (λ (planned : ℕ × ℕ). fault) p.faults =
+    sum_by-map f (λ (planned : ℕ × ℕ). Fault (fault_fields planned)) p.faults
+    ∙ sum_by-agree (λ (planned : ℕ × ℕ). Unit {0}) (λ (planned : ℕ × ℕ). f (Fault (fault_fields planned))) (λ (planned : ℕ × ℕ). fault) (λ planned u. each_fault (fault_fields planned)) p.faults (all_units p.faults) in
     let of_sections : sum_by f sections ≡ sum_by of_section (sections_read p) =
     sum_by-flat_map f (section_forms p.keys) (sections_read p)
     ∙ sum_by-agree (AllByRecursion (IsOp (bare_keys p.keys))) (λ section. sum_by f (section_forms p.keys section)) of_section each_section (sections_read p) (ops_read p is) in
     ap (sum_by f) (forms_read-in p is) ∙ omega arith
   where
-    all_units : (keys : List NamedKey) → AllByRecursion (λ (named : NamedKey). Unit {0}) keys
+    all_units : {X : Type 0} (xs : List X) → AllByRecursion (λ (x : X). Unit {0}) xs
     all_units [] = tt
-    all_units (k ∷ ks) = (tt, all_units ks)
+    all_units (x ∷ xs) = (tt, all_units xs)
 
 -- what counts for one
 abbrev one : Bool → ℕ
 one b = cond b 1 0
 
--- an operation's form is no key's and begins no section
-pub op_is : (keys : List NamedKey) (op : Op) → (is_key (op_form keys op) ≡ false) × (is_thread (op_form keys op) ≡ false) × (is_operation (op_form keys op) ≡ true)
-op_is keys (ops.Write context sector units text) = (refl, refl, refl)
-op_is keys (ops.Read context sector units) = (refl, refl, refl)
-op_is keys (ops.Evict key) = (refl, refl, refl)
-op_is keys (ops.Reset device) = (refl, refl, refl)
-op_is keys ops.Plug = (refl, refl, refl)
-op_is keys ops.Unplug = (refl, refl, refl)
+-- an operation's form is no key's, plans no fault and begins no section
+pub op_is : (keys : List NamedKey) (op : Op)
+    → (is_key (op_form keys op) ≡ false) × (is_thread (op_form keys op) ≡ false) × (is_operation (op_form keys op) ≡ true) × (is_fault (op_form keys op) ≡ false)
+op_is keys (ops.Write context sector units text) = (refl, refl, refl, refl)
+op_is keys (ops.Read context sector units) = (refl, refl, refl, refl)
+op_is keys (ops.Evict key) = (refl, refl, refl, refl)
+op_is keys (ops.Reset device) = (refl, refl, refl, refl)
+op_is keys ops.Plug = (refl, refl, refl, refl)
+op_is keys ops.Unplug = (refl, refl, refl, refl)
 
 -- a section adds what its first line adds, and what its operations add
 section_sum : (f : Form → ℕ) (g : Op → ℕ) (keys : List NamedKey) (section : List Op) → ((op : Op) → IsOp (bare_keys keys) op → f (op_form keys op) ≡ g op) → AllByRecursion (IsOp (bare_keys keys)) section
@@ -108,22 +119,34 @@ pub keys-read : (p : Progress) → IsProgress p → count_by is_key (forms_read 
 keys-read p is =
     let ones = sum_by-ones p.keys in
     let zeros = sum_by-zeros (sections_read p) in
-    sum_read (λ form. one (is_key form)) 1 (λ section. 0) p is refl (λ blocks. refl) refl refl (λ key. refl)
+    let none = sum_by-zeros p.faults in
+    sum_read (λ form. one (is_key form)) 1 0 (λ section. 0) p is refl (λ blocks. refl) refl refl (λ key. refl) (λ fault. refl)
     (λ section valid. section_sum (λ form. one (is_key form)) (λ op. 0) p.keys section (λ op v. ap one (op_is p.keys op).0) valid ∙ ap (λ n. 0 + n) (sum_by-zeros section))
+    ∙ omega arith
+
+pub faults-read : (p : Progress) → IsProgress p → count_by is_fault (forms_read p) ≡ length p.faults
+faults-read p is =
+    let zeros = sum_by-zeros p.keys in
+    let ones = sum_by-ones p.faults in
+    let none = sum_by-zeros (sections_read p) in
+    sum_read (λ form. one (is_fault form)) 0 1 (λ section. 0) p is refl (λ blocks. refl) refl refl (λ key. refl) (λ fault. refl)
+    (λ section valid. section_sum (λ form. one (is_fault form)) (λ op. 0) p.keys section (λ op v. ap one (op_is p.keys op).3) valid ∙ ap (λ n. 0 + n) (sum_by-zeros section))
     ∙ omega arith
 
 pub threads-read : (p : Progress) → IsProgress p → count_by is_thread (forms_read p) ≡ length (sections_read p)
 threads-read p is =
     let zeros = sum_by-zeros p.keys in
     let ones = sum_by-ones (sections_read p) in
-    sum_read (λ form. one (is_thread form)) 0 (λ section. 1) p is refl (λ blocks. refl) refl refl (λ key. refl)
+    let none = sum_by-zeros p.faults in
+    sum_read (λ form. one (is_thread form)) 0 0 (λ section. 1) p is refl (λ blocks. refl) refl refl (λ key. refl) (λ fault. refl)
     (λ section valid. section_sum (λ form. one (is_thread form)) (λ op. 0) p.keys section (λ op v. ap one (op_is p.keys op).1) valid ∙ ap (λ n. 1 + n) (sum_by-zeros section))
     ∙ omega arith
 
 pub operations-read : (p : Progress) → IsProgress p → count_by is_operation (forms_read p) ≡ sum_by length (sections_read p)
 operations-read p is =
     let zeros = sum_by-zeros p.keys in
-    sum_read (λ form. one (is_operation form)) 0 length p is refl (λ blocks. refl) refl refl (λ key. refl)
+    let none = sum_by-zeros p.faults in
+    sum_read (λ form. one (is_operation form)) 0 0 length p is refl (λ blocks. refl) refl refl (λ key. refl) (λ fault. refl)
     (λ section valid. section_sum (λ form. one (is_operation form)) (λ op. 1) p.keys section (λ op v. ap one (op_is p.keys op).2) valid ∙ ap (λ n. 0 + n) (sum_by-ones section) ∙ omega arith)
     ∙ omega arith
 
@@ -139,7 +162,8 @@ units_in-op_form keys ops.Unplug valid = refl
 pub units-read : (p : Progress) → IsProgress p → sum_by units_in (forms_read p) ≡ sum_by unit_count_of_section (sections_read p)
 units-read p is =
     let zeros = sum_by-zeros p.keys in
-    sum_read units_in 0 unit_count_of_section p is refl (λ blocks. refl) refl refl (λ key. refl)
+    let none = sum_by-zeros p.faults in
+    sum_read units_in 0 0 unit_count_of_section p is refl (λ blocks. refl) refl refl (λ key. refl) (λ fault. refl)
     (λ section valid. section_sum units_in unit_count p.keys section (units_in-op_form p.keys) valid ∙ omega arith)
     ∙ omega arith
 
@@ -149,21 +173,24 @@ length-read p is =
     let b = length-onto (forms_in p) [] in
     ap length (forms_read-in p is) ∙ omega arith
 
--- 3 lines, 4096 keys, 16 sections, 65536 operations, and the end
-pub length-read_le : (p : Progress) → IsProgress p → length (forms_read p) ≤ 69652
+-- 3 lines, 4096 keys, 1024 faults, 16 sections, 65536 operations, and the end
+pub length-read_le : (p : Progress) → IsProgress p → length (forms_read p) ≤ 70676
 length-read_le p is =
     let keys = is.keys.count in
+    let faults = is.faults.count in
     let threads = is.few_threads in
     let ops = is.few_ops in
     let a = length-onto (forms_in p) [] in
-    let b = length-append (head_forms p.last p.blocks) (key_forms p.keys ++ (flat_map (section_forms p.keys) (sections_read p) ++ end_forms p.last)) in
-    let c = length-append (key_forms p.keys) (flat_map (section_forms p.keys) (sections_read p) ++ end_forms p.last) in
+    let b = length-append (head_forms p.last p.blocks) (key_forms p.keys ++ (fault_forms p.faults ++ (flat_map (section_forms p.keys) (sections_read p) ++ end_forms p.last))) in
+    let c = length-append (key_forms p.keys) (fault_forms p.faults ++ (flat_map (section_forms p.keys) (sections_read p) ++ end_forms p.last)) in
+    let f = length-append (fault_forms p.faults) (flat_map (section_forms p.keys) (sections_read p) ++ end_forms p.last) in
     let d = length-append (flat_map (section_forms p.keys) (sections_read p)) (end_forms p.last) in
     let head = head_le p.last p.blocks in
     let end = end_le p.last in
     let k : length (key_forms p.keys) ≡ length p.keys = length-map p.keys (λ (named : NamedKey). Key (key_fields named)) in
+    let g : length (fault_forms p.faults) ≡ length p.faults = length-map p.faults (λ (fault : ℕ × ℕ). Fault (fault_fields fault)) in
     let s = of_sections p.keys (sections_read p) in
-    subst (λ (forms : List Form). length forms ≤ 69652) (sym (forms_read-in p is)) (omega arith)
+    subst (λ (forms : List Form). length forms ≤ 70676) (sym (forms_read-in p is)) (omega arith)
   where
     head_le : (last : Option Sort) (blocks : ℕ) → length (head_forms last blocks) ≤ 3
     head_le None blocks = omega arith
@@ -171,6 +198,7 @@ length-read_le p is =
     head_le (Some sorts.Disk) blocks = omega arith
     head_le (Some sorts.Fallback) blocks = omega arith
     head_le (Some sorts.Key) blocks = omega arith
+    head_le (Some sorts.Fault) blocks = omega arith
     head_le (Some sorts.Thread) blocks = omega arith
     head_le (Some sorts.Operation) blocks = omega arith
     head_le (Some sorts.End) blocks = omega arith
@@ -181,6 +209,7 @@ length-read_le p is =
     end_le (Some sorts.Disk) = omega arith
     end_le (Some sorts.Fallback) = omega arith
     end_le (Some sorts.Key) = omega arith
+    end_le (Some sorts.Fault) = omega arith
     end_le (Some sorts.Thread) = omega arith
     end_le (Some sorts.Operation) = omega arith
     end_le (Some sorts.End) = omega arith
@@ -200,6 +229,10 @@ key_sorts : (keys : List NamedKey) → AllByRecursion (λ form. sort_of form ≡
 key_sorts [] = tt
 key_sorts (k ∷ ks) = (refl, key_sorts ks)
 
+fault_sorts : (faults : List (ℕ × ℕ)) → AllByRecursion (λ form. sort_of form ≡ sorts.Fault) (fault_forms faults)
+fault_sorts [] = tt
+fault_sorts (f ∷ fs) = (refl, fault_sorts fs)
+
 op_sort : (keys : List NamedKey) (op : Op) → sort_of (op_form keys op) ≡ sorts.Operation
 op_sort keys (ops.Write context sector units text) = refl
 op_sort keys (ops.Read context sector units) = refl
@@ -212,35 +245,45 @@ op_sorts : (keys : List NamedKey) (section : List Op) → AllByRecursion (λ for
 op_sorts keys [] = tt
 op_sorts keys (op ∷ section) = (op_sort keys op, op_sorts keys section)
 
-last_sort_of : (last : Option Sort) (blocks : ℕ) (keys : List NamedKey) (threads : List (List Op)) (section : List Op)
-    → IsAt last (record { last = last; blocks = blocks; keys = keys; threads = threads; section = section })
-    → last_sort (onto (end_forms last) (onto (flat_map (section_forms keys) (threads ++ with_section (is_in_section last) section)) (onto (key_forms keys) (onto (head_forms last blocks) [])))) ≡ last
-last_sort_of None blocks [] [] section at = refl
-last_sort_of None blocks (k ∷ ks) threads section at = let e = at.0 in absurd cc
-last_sort_of None blocks [] (t ∷ ts) section at = let e = at.1 in absurd cc
-last_sort_of (Some sorts.Version) blocks [] [] section at = refl
-last_sort_of (Some sorts.Version) blocks (k ∷ ks) threads section at = let e = at.0 in absurd cc
-last_sort_of (Some sorts.Version) blocks [] (t ∷ ts) section at = let e = at.1 in absurd cc
-last_sort_of (Some sorts.Disk) blocks [] [] section at = refl
-last_sort_of (Some sorts.Disk) blocks (k ∷ ks) threads section at = let e = at.1 in absurd cc
-last_sort_of (Some sorts.Disk) blocks [] (t ∷ ts) section at = let e = at.2 in absurd cc
-last_sort_of (Some sorts.Fallback) blocks [] [] section at = refl
-last_sort_of (Some sorts.Fallback) blocks (k ∷ ks) threads section at = let e = at.1 in absurd cc
-last_sort_of (Some sorts.Fallback) blocks [] (t ∷ ts) section at = let e = at.2 in absurd cc
-last_sort_of (Some sorts.Key) blocks [] threads section at = absurd (omega arith)
-last_sort_of (Some sorts.Key) blocks (k ∷ ks) (t ∷ ts) section at = let e = at.2 in absurd cc
-last_sort_of (Some sorts.Key) blocks (k ∷ ks) [] section at = last_sort-onto sorts.Key (key_forms ks) (Key (key_fields k) ∷ Fallback ∷ Disk (decimal blocks) ∷ Version ∷ []) (key_sorts ks) refl
-last_sort_of (Some sorts.Thread) blocks keys threads (op ∷ section) at = let e = at.1 in absurd cc
-last_sort_of (Some sorts.Thread) blocks keys threads [] at = ap last_sort (last_section keys threads [] (onto (key_forms keys) (Fallback ∷ Disk (decimal blocks) ∷ Version ∷ [])))
-last_sort_of (Some sorts.Operation) blocks keys threads [] at = absurd (omega arith)
-last_sort_of (Some sorts.Operation) blocks keys threads (op ∷ section) at =
-    ap last_sort (last_section keys threads (op ∷ section) (onto (key_forms keys) (Fallback ∷ Disk (decimal blocks) ∷ Version ∷ [])))
-    ∙ last_sort-onto sorts.Operation (map (op_form keys) section) (op_form keys op ∷ Thread ∷ onto (flat_map (section_forms keys) threads) (onto (key_forms keys) (Fallback ∷ Disk (decimal blocks) ∷ Version ∷ [])))
+last_sort_of : (last : Option Sort) (blocks : ℕ) (keys : List NamedKey) (faults : List (ℕ × ℕ)) (threads : List (List Op)) (section : List Op)
+    → IsAt last (record { last = last; blocks = blocks; keys = keys; faults = faults; threads = threads; section = section })
+    → last_sort (onto (end_forms last) (onto (flat_map (section_forms keys) (threads ++ with_section (is_in_section last) section)) (onto (fault_forms faults) (onto (key_forms keys) (onto (head_forms last blocks) []))))) ≡ last
+last_sort_of None blocks [] [] [] section at = refl
+last_sort_of None blocks (k ∷ ks) faults threads section at = let e = at.0 in absurd cc
+last_sort_of None blocks [] (f ∷ fs) threads section at = let e = at.1 in absurd cc
+last_sort_of None blocks [] [] (t ∷ ts) section at = let e = at.2 in absurd cc
+last_sort_of (Some sorts.Version) blocks [] [] [] section at = refl
+last_sort_of (Some sorts.Version) blocks (k ∷ ks) faults threads section at = let e = at.0 in absurd cc
+last_sort_of (Some sorts.Version) blocks [] (f ∷ fs) threads section at = let e = at.1 in absurd cc
+last_sort_of (Some sorts.Version) blocks [] [] (t ∷ ts) section at = let e = at.2 in absurd cc
+last_sort_of (Some sorts.Disk) blocks [] [] [] section at = refl
+last_sort_of (Some sorts.Disk) blocks (k ∷ ks) faults threads section at = let e = at.1 in absurd cc
+last_sort_of (Some sorts.Disk) blocks [] (f ∷ fs) threads section at = let e = at.2 in absurd cc
+last_sort_of (Some sorts.Disk) blocks [] [] (t ∷ ts) section at = let e = at.3 in absurd cc
+last_sort_of (Some sorts.Fallback) blocks [] [] [] section at = refl
+last_sort_of (Some sorts.Fallback) blocks (k ∷ ks) faults threads section at = let e = at.1 in absurd cc
+last_sort_of (Some sorts.Fallback) blocks [] (f ∷ fs) threads section at = let e = at.2 in absurd cc
+last_sort_of (Some sorts.Fallback) blocks [] [] (t ∷ ts) section at = let e = at.3 in absurd cc
+last_sort_of (Some sorts.Key) blocks [] faults threads section at = absurd (omega arith)
+last_sort_of (Some sorts.Key) blocks (k ∷ ks) (f ∷ fs) threads section at = let e = at.2 in absurd cc
+last_sort_of (Some sorts.Key) blocks (k ∷ ks) [] (t ∷ ts) section at = let e = at.3 in absurd cc
+last_sort_of (Some sorts.Key) blocks (k ∷ ks) [] [] section at = last_sort-onto sorts.Key (key_forms ks) (Key (key_fields k) ∷ Fallback ∷ Disk (decimal blocks) ∷ Version ∷ []) (key_sorts ks) refl
+last_sort_of (Some sorts.Fault) blocks keys [] threads section at = absurd (omega arith)
+last_sort_of (Some sorts.Fault) blocks keys (f ∷ fs) (t ∷ ts) section at = let e = at.2 in absurd cc
+last_sort_of (Some sorts.Fault) blocks keys (f ∷ fs) [] section at =
+    last_sort-onto sorts.Fault (fault_forms fs) (Fault (fault_fields f) ∷ onto (key_forms keys) (Fallback ∷ Disk (decimal blocks) ∷ Version ∷ [])) (fault_sorts fs) refl
+last_sort_of (Some sorts.Thread) blocks keys faults threads (op ∷ section) at = let e = at.1 in absurd cc
+last_sort_of (Some sorts.Thread) blocks keys faults threads [] at = ap last_sort (last_section keys threads [] (onto (fault_forms faults) (onto (key_forms keys) (Fallback ∷ Disk (decimal blocks) ∷ Version ∷ []))))
+last_sort_of (Some sorts.Operation) blocks keys faults threads [] at = absurd (omega arith)
+last_sort_of (Some sorts.Operation) blocks keys faults threads (op ∷ section) at =
+    let above = onto (fault_forms faults) (onto (key_forms keys) (Fallback ∷ Disk (decimal blocks) ∷ Version ∷ [])) in
+    ap last_sort (last_section keys threads (op ∷ section) above)
+    ∙ last_sort-onto sorts.Operation (map (op_form keys) section) (op_form keys op ∷ Thread ∷ onto (flat_map (section_forms keys) threads) above)
     (op_sorts keys section) (ap Some (op_sort keys op))
-last_sort_of (Some sorts.End) blocks keys threads section at = refl
+last_sort_of (Some sorts.End) blocks keys faults threads section at = refl
 
 pub last_sort-read : (p : Progress) → IsProgress p → last_sort (forms_read p) ≡ p.last
-last_sort-read p is = ap last_sort (parts p is) ∙ last_sort_of p.last p.blocks p.keys p.threads p.section is.at
+last_sort-read p is = ap last_sort (parts p is) ∙ last_sort_of p.last p.blocks p.keys p.faults p.threads p.section is.at
 
 -- ---- plugs
 
@@ -248,12 +291,17 @@ open_keys : (keys : List NamedKey) (above : List Form) → is_open (onto (key_fo
 open_keys [] above = refl
 open_keys (k ∷ ks) above = open_keys ks (Key (key_fields k) ∷ above)
 
+open_faults : (faults : List (ℕ × ℕ)) (above : List Form) → is_open (onto (fault_forms faults) above) ≡ is_open above
+open_faults [] above = refl
+open_faults (f ∷ fs) above = open_faults fs (Fault (fault_fields f) ∷ above)
+
 open_head : (last : Option Sort) (blocks : ℕ) → is_open (onto (head_forms last blocks) []) ≡ false
 open_head None blocks = refl
 open_head (Some sorts.Version) blocks = refl
 open_head (Some sorts.Disk) blocks = refl
 open_head (Some sorts.Fallback) blocks = refl
 open_head (Some sorts.Key) blocks = refl
+open_head (Some sorts.Fault) blocks = refl
 open_head (Some sorts.Thread) blocks = refl
 open_head (Some sorts.Operation) blocks = refl
 open_head (Some sorts.End) blocks = refl
@@ -264,6 +312,7 @@ open_end (Some sorts.Version) above = refl
 open_end (Some sorts.Disk) above = refl
 open_end (Some sorts.Fallback) above = refl
 open_end (Some sorts.Key) above = refl
+open_end (Some sorts.Fault) above = refl
 open_end (Some sorts.Thread) above = refl
 open_end (Some sorts.Operation) above = refl
 open_end (Some sorts.End) above = refl
@@ -290,11 +339,12 @@ open_sections keys (thread ∷ threads) above each e =
 
 -- outside a section no operations are kept
 outside : (last : Option Sort) (p : Progress) → is_in_section last ≡ false → IsAt last p → p.section ≡ []
-outside None p out at = at.2
-outside (Some sorts.Version) p out at = at.2
-outside (Some sorts.Disk) p out at = at.3
-outside (Some sorts.Fallback) p out at = at.3
-outside (Some sorts.Key) p out at = at.3
+outside None p out at = at.3
+outside (Some sorts.Version) p out at = at.3
+outside (Some sorts.Disk) p out at = at.4
+outside (Some sorts.Fallback) p out at = at.4
+outside (Some sorts.Key) p out at = at.4
+outside (Some sorts.Fault) p out at = at.3
 outside (Some sorts.Thread) p out at = absurd cc
 outside (Some sorts.Operation) p out at = absurd cc
 outside (Some sorts.End) p out at = at.1
@@ -315,29 +365,40 @@ pub is_open-read : (p : Progress) (plugged : Bool) → IsProgress p → open_aft
 is_open-read p plugged is behind =
     let heads = onto (head_forms p.last p.blocks) [] in
     let keys = onto (key_forms p.keys) heads in
+    let faults = onto (fault_forms p.faults) keys in
     ap is_open (parts p is)
-    ∙ open_end p.last (onto (flat_map (section_forms p.keys) (sections_read p)) keys)
-    ∙ open_last (is_in_section p.last) p.keys p.threads p.section keys plugged (λ out. outside p.last p out is.at) is.threads (open_keys p.keys heads ∙ open_head p.last p.blocks) behind
+    ∙ open_end p.last (onto (flat_map (section_forms p.keys) (sections_read p)) faults)
+    ∙ open_last (is_in_section p.last) p.keys p.threads p.section faults plugged (λ out. outside p.last p out is.at) is.threads (open_faults p.faults keys ∙ open_keys p.keys heads ∙ open_head p.last p.blocks) behind
 
 -- ---- names
 
-no_sections : (keys : List NamedKey) (sections : List (List Op)) → AllByRecursion (λ form. is_key form ≡ false) (flat_map (section_forms keys) sections)
-no_sections keys [] = tt
-no_sections keys (section ∷ sections) = (refl, AllByRecursion-append (λ form. is_key form ≡ false) (map (op_form keys) section) (flat_map (section_forms keys) sections) (no_ops section) (no_sections keys sections))
-  where
-    no_ops : (section : List Op) → AllByRecursion (λ form. is_key form ≡ false) (map (op_form keys) section)
-    no_ops [] = tt
-    no_ops (op ∷ section) = ((op_is keys op).0, no_ops section)
+-- forms of which none is of a kind
+abbrev None_is : (Form → Bool) → List Form → Type 0
+None_is is_kind forms = AllByRecursion (λ form. is_kind form ≡ false) forms
 
-no_end : (last : Option Sort) → AllByRecursion (λ form. is_key form ≡ false) (end_forms last)
-no_end None = tt
-no_end (Some sorts.Version) = tt
-no_end (Some sorts.Disk) = tt
-no_end (Some sorts.Fallback) = tt
-no_end (Some sorts.Key) = tt
-no_end (Some sorts.Thread) = tt
-no_end (Some sorts.Operation) = tt
-no_end (Some sorts.End) = (refl, tt)
+no_sections : (is_kind : Form → Bool) (keys : List NamedKey) → is_kind Thread ≡ false → ((op : Op) → is_kind (op_form keys op) ≡ false) → (sections : List (List Op)) → None_is is_kind (flat_map (section_forms keys) sections)
+no_sections is_kind keys thread each [] = tt
+no_sections is_kind keys thread each (section ∷ sections) =
+    (thread, AllByRecursion-append (λ form. is_kind form ≡ false) (map (op_form keys) section) (flat_map (section_forms keys) sections) (no_ops section) (no_sections is_kind keys thread each sections))
+  where
+    no_ops : (section : List Op) → None_is is_kind (map (op_form keys) section)
+    no_ops [] = tt
+    no_ops (op ∷ section) = (each op, no_ops section)
+
+no_end : (is_kind : Form → Bool) → is_kind End ≡ false → (last : Option Sort) → None_is is_kind (end_forms last)
+no_end is_kind end None = tt
+no_end is_kind end (Some sorts.Version) = tt
+no_end is_kind end (Some sorts.Disk) = tt
+no_end is_kind end (Some sorts.Fallback) = tt
+no_end is_kind end (Some sorts.Key) = tt
+no_end is_kind end (Some sorts.Fault) = tt
+no_end is_kind end (Some sorts.Thread) = tt
+no_end is_kind end (Some sorts.Operation) = tt
+no_end is_kind end (Some sorts.End) = (end, tt)
+
+no_fault_is_key : (faults : List (ℕ × ℕ)) → None_is is_key (fault_forms faults)
+no_fault_is_key [] = tt
+no_fault_is_key (f ∷ fs) = (refl, no_fault_is_key fs)
 
 no_head : (name : List ℕ) (last : Option Sort) (blocks : ℕ) → key_named name (onto (head_forms last blocks) []) ≡ None
 no_head name None blocks = refl
@@ -345,6 +406,7 @@ no_head name (Some sorts.Version) blocks = refl
 no_head name (Some sorts.Disk) blocks = refl
 no_head name (Some sorts.Fallback) blocks = refl
 no_head name (Some sorts.Key) blocks = refl
+no_head name (Some sorts.Fault) blocks = refl
 no_head name (Some sorts.Thread) blocks = refl
 no_head name (Some sorts.Operation) blocks = refl
 no_head name (Some sorts.End) blocks = refl
@@ -354,9 +416,11 @@ among_keys : (name : List ℕ) (p : Progress) → IsProgress p → key_named nam
 among_keys name p is =
     let heads = onto (head_forms p.last p.blocks) [] in
     let keys = onto (key_forms p.keys) heads in
+    let faults = onto (fault_forms p.faults) keys in
     ap (key_named name) (parts p is)
-    ∙ key_named-onto name (end_forms p.last) (onto (flat_map (section_forms p.keys) (sections_read p)) keys) (no_end p.last)
-    ∙ key_named-onto name (flat_map (section_forms p.keys) (sections_read p)) keys (no_sections p.keys (sections_read p))
+    ∙ key_named-onto name (end_forms p.last) (onto (flat_map (section_forms p.keys) (sections_read p)) faults) (no_end is_key refl p.last)
+    ∙ key_named-onto name (flat_map (section_forms p.keys) (sections_read p)) faults (no_sections is_key p.keys refl (λ op. (op_is p.keys op).0) (sections_read p))
+    ∙ key_named-onto name (fault_forms p.faults) keys (no_fault_is_key p.faults)
 
 -- one that no key has isn't found
 others : (name : List ℕ) (keys : List NamedKey) (above : List Form) → AllByRecursion (λ (named : NamedKey). named.name ≢ name) keys → key_named name (onto (key_forms keys) above) ≡ key_named name above
@@ -432,6 +496,43 @@ sectors_under-read p (Some context) is valid =
     ∙ sectors_in_field key.0.key.config.unit
     ∙ sym (ap (λ (o : Option KeyData). option_map_or (λ (k : KeyData). sectors_of k.config.unit) o 1) at)
 
+-- ---- planned faults
+
+no_key_is_fault : (keys : List NamedKey) → None_is is_fault (key_forms keys)
+no_key_is_fault [] = tt
+no_key_is_fault (k ∷ ks) = (refl, no_key_is_fault ks)
+
+ascends_head : (fault : FaultForm) (last : Option Sort) (blocks : ℕ) → ascends (onto (head_forms last blocks) []) fault ≡ true
+ascends_head fault None blocks = refl
+ascends_head fault (Some sorts.Version) blocks = refl
+ascends_head fault (Some sorts.Disk) blocks = refl
+ascends_head fault (Some sorts.Fallback) blocks = refl
+ascends_head fault (Some sorts.Key) blocks = refl
+ascends_head fault (Some sorts.Fault) blocks = refl
+ascends_head fault (Some sorts.Thread) blocks = refl
+ascends_head fault (Some sorts.Operation) blocks = refl
+ascends_head fault (Some sorts.End) blocks = refl
+
+-- the nearest fault is the last one
+ascends_faults : (fault : FaultForm) (faults : List (ℕ × ℕ)) (above : List Form) → AllByRecursion IsFault faults → ascends above fault ≡ true → ascends (onto (fault_forms faults) above) fault ≡ is_after faults (fault_in fault)
+ascends_faults fault [] above each e = e
+ascends_faults fault (f ∷ fs) above each e = behind f fs above each
+  where
+    behind : (f : ℕ × ℕ) (fs : List (ℕ × ℕ)) (above : List Form) → AllByRecursion IsFault (f ∷ fs) → ascends (onto (fault_forms fs) (Fault (fault_fields f) ∷ above)) fault ≡ is_after (f ∷ fs) (fault_in fault)
+    behind f [] above each = ap (λ (g : ℕ × ℕ). is_before g (fault_in fault)) (fault_in-fault_fields f each.0)
+    behind f (g ∷ fs) above each = behind g fs (Fault (fault_fields f) ∷ above) each.1 ∙ sym (after_more f g fs (fault_in fault))
+
+-- whether a fault comes after the last one that has been read
+pub ascends-read : (p : Progress) (fault : FaultForm) → IsProgress p → ascends (forms_read p) fault ≡ is_after p.faults (fault_in fault)
+ascends-read p fault is =
+    let heads = onto (head_forms p.last p.blocks) [] in
+    let keys = onto (key_forms p.keys) heads in
+    let faults = onto (fault_forms p.faults) keys in
+    ap (λ (forms : List Form). ascends forms fault) (parts p is)
+    ∙ ascends-onto fault (end_forms p.last) (onto (flat_map (section_forms p.keys) (sections_read p)) faults) (no_end is_fault refl p.last)
+    ∙ ascends-onto fault (flat_map (section_forms p.keys) (sections_read p)) faults (no_sections is_fault p.keys refl (λ op. (op_is p.keys op).3) (sections_read p))
+    ∙ ascends_faults fault p.faults keys is.faults.each (ascends-onto fault (key_forms p.keys) heads (no_key_is_fault p.keys) ∙ ascends_head fault p.last p.blocks)
+
 -- ---- the last line
 
 pub is_at_end : (last : Option Sort) → is_end last ≡ true → last ≡ Some sorts.End
@@ -440,6 +541,7 @@ is_at_end (Some sorts.Version) h = absurd cc
 is_at_end (Some sorts.Disk) h = absurd cc
 is_at_end (Some sorts.Fallback) h = absurd cc
 is_at_end (Some sorts.Key) h = absurd cc
+is_at_end (Some sorts.Fault) h = absurd cc
 is_at_end (Some sorts.Thread) h = absurd cc
 is_at_end (Some sorts.Operation) h = absurd cc
 is_at_end (Some sorts.End) h = refl

@@ -67,6 +67,26 @@ unclosed_plug : error_of (codes "blkcrypt 1\ndisk 1\nfallback on\nthread\nplug\n
 unfolding digits encode_with decode_pairs
 unclosed_plug = refl
 
+faults : error_of (codes "blkcrypt 1\ndisk 1\nfallback on\nfault 0 2\nfault 0 10\nfault 63 65535\nend\n") ≡ None
+unfolding digits encode_with decode_pairs
+faults = refl
+
+last_shard : error_of (codes "blkcrypt 1\ndisk 1\nfallback on\nfault 64 0\nend\n") ≡ fails 4 why.Number
+unfolding digits encode_with decode_pairs
+last_shard = refl
+
+last_access : error_of (codes "blkcrypt 1\ndisk 1\nfallback on\nfault 0 65536\nend\n") ≡ fails 4 why.Number
+unfolding digits encode_with decode_pairs
+last_access = refl
+
+fault_twice : error_of (codes "blkcrypt 1\ndisk 1\nfallback on\nfault 1 2\nfault 1 2\nend\n") ≡ fails 5 why.Order
+unfolding digits encode_with decode_pairs
+fault_twice = refl
+
+fault_behind_a_section : error_of (codes "blkcrypt 1\ndisk 1\nfallback on\nthread\nfault 0 2\nend\n") ≡ fails 5 why.Word
+unfolding digits encode_with decode_pairs
+fault_behind_a_section = refl
+
 small_key : error_of (codes "blkcrypt 1\ndisk 1\nfallback on\nkey a aes-128-cbc-essiv 512 16 808182838485868788898a8b8c8d8e8f\nthread\nwrite a 3 1 ff fill 5a\nread a 3 1 ff\nend\n") ≡ None
 unfolding digits encode_with decode_pairs
 small_key = refl

@@ -6,7 +6,7 @@ use Rattle.bc_key.specs.declared.config.Mode.{Mode}
 use Rattle.bc_key.specs.declared.config.Mode.TheVariants.{Aes256Xts, Aes128CbcEssiv}
 use Rattle.bc_script.specs.ScriptText.{mode_text}
 use Rattle.bc_script.specs.Statements.{text_line, form_line, DashesAgree}
-use Rattle.bc_script.specs.Forms.{Form, BioForm, TextForm, Fill, Hex, Version, Disk, Fallback, Key, Thread, Write, Read, Evict, Reset, Plug, Unplug, End, alone, with_one, with_word, mode_of, key_form, with_key, dashes_agree, text_form, write_form, with_bio, with_bio_and_text, form_of}
+use Rattle.bc_script.specs.Forms.{Form, BioForm, TextForm, Fill, Hex, Version, Disk, Fallback, Key, Fault, Thread, Write, Read, Evict, Reset, Plug, Unplug, End, alone, with_one, with_word, mode_of, key_form, with_key, with_fault, dashes_agree, text_form, write_form, with_bio, with_bio_and_text, form_of}
 
 -- the line of a form
 pub record IsLineOf (line : TextLine) (form : Form) : Type 0 where
@@ -85,6 +85,13 @@ of_key form (name ∷ mode ∷ unit ∷ dun_bytes ∷ digits ∷ []) e = by_mode
         (record { line_is = ap (λ (w : List ℕ). codes "key" ∷ name ∷ w ∷ unit ∷ dun_bytes ∷ digits ∷ []) (mode_text-mode_of mode m is); agrees = tt })
         (sym (ap (λ (o : Option Mode). key_form name o unit dun_bytes digits) is) ∙ e)
 
+of_fault : (form : Form) (fields : TextLine) → with_fault fields ≡ Some form → IsLineOf (codes "fault" ∷ fields) form
+of_fault form [] e = absurd (no_form form e)
+of_fault form (a ∷ []) e = absurd (no_form form e)
+of_fault form (a ∷ b ∷ c ∷ fs) e = absurd (no_form form e)
+of_fault form (shard ∷ access ∷ []) e =
+    carry (codes "fault" ∷ shard ∷ access ∷ []) (Fault (record { shard = shard; access = access })) form (record { line_is = refl; agrees = tt }) e
+
 abbrev bio_of : List ℕ → List ℕ → List ℕ → List ℕ → BioForm
 bio_of key sector units number = record { key = key; sector = sector; units = units; number = number }
 
@@ -161,8 +168,9 @@ IsLineOf-form_of (word ∷ fields) form e =
     by_word word (codes "unplug") fields form _ _ e (of_alone (codes "unplug") Unplug form fields (record { line_is = refl; agrees = tt })) (λ e.
     by_word word (codes "thread") fields form _ _ e (of_alone (codes "thread") Thread form fields (record { line_is = refl; agrees = tt })) (λ e.
     by_word word (codes "key") fields form _ _ e (of_key form fields) (λ e.
+    by_word word (codes "fault") fields form _ _ e (of_fault form fields) (λ e.
     by_word word (codes "blkcrypt") fields form _ _ e (of_word (codes "blkcrypt") (codes "1") Version form fields (record { line_is = refl; agrees = tt })) (λ e.
     by_word word (codes "disk") fields form _ _ e (of_one (codes "disk") Disk form fields (λ field. record { line_is = refl; agrees = tt })) (λ e.
     by_word word (codes "fallback") fields form _ _ e (of_word (codes "fallback") (codes "on") Fallback form fields (record { line_is = refl; agrees = tt })) (λ e.
     by_word word (codes "end") fields form _ _ e (of_alone (codes "end") End form fields (record { line_is = refl; agrees = tt })) (λ e.
-    absurd (no_form form e)))))))))))))
+    absurd (no_form form e))))))))))))))

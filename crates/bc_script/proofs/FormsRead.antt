@@ -8,12 +8,13 @@ use Rattle.bc_script.specs.declared.op.Op.{Op}
 use Rattle.bc_script.specs.declared.sort.Sort.{Sort}
 use Rattle.bc_script.specs.declared.sort.Sort.TheVariants as sorts
 use Rattle.bc_script.specs.Script.{AreKeys, IsOp, IsSection, bare_keys}
-use Rattle.bc_script.specs.ScriptText.{key_line, op_line, section_lines}
-use Rattle.bc_script.specs.Forms.{Form, Version, Disk, Fallback, Key, Thread, End, form_of}
+use Rattle.bc_script.specs.ScriptText.{key_line, fault_line, op_line, section_lines}
+use Rattle.bc_script.specs.Forms.{Form, Version, Disk, Fallback, Key, Fault, Thread, End, form_of}
 use Rattle.bc_script.specs.ScriptErrors.{with_form}
 use Rattle.bc_script.specs.Progress.{Progress, IsProgress, head_read, with_section, is_in_section, end_read, lines_read, forms_read, forms_below, sections_read}
 use Rattle.bc_script.proofs.Onto.{onto, onto-append, forms_below-append, HaveForms, HaveForms-append, forms_below-onto, AllByRecursion-append}
-use Rattle.bc_script.proofs.LineForms.{key_fields, op_form, form_of-key_line, form_of-op_line}
+use Rattle.bc_script.proofs.Faults.{fault_fields}
+use Rattle.bc_script.proofs.LineForms.{key_fields, op_form, form_of-key_line, form_of-fault_line, form_of-op_line}
 
 -- ---- the forms of the lines that have been read, from the first
 
@@ -26,6 +27,9 @@ head_forms (Some _) blocks = Version ∷ Disk (decimal blocks) ∷ Fallback ∷ 
 abbrev pub key_forms : List NamedKey → List Form
 key_forms keys = map (λ (named : NamedKey). Key (key_fields named)) keys
 
+abbrev pub fault_forms : List (ℕ × ℕ) → List Form
+fault_forms faults = map (λ (fault : ℕ × ℕ). Fault (fault_fields fault)) faults
+
 abbrev pub section_forms : List NamedKey → List Op → List Form
 section_forms keys section = Thread ∷ map (op_form keys) section
 
@@ -34,7 +38,7 @@ end_forms (Some sorts.End) = End ∷ []
 end_forms _ = []
 
 abbrev pub forms_in : Progress → List Form
-forms_in p = head_forms p.last p.blocks ++ (key_forms p.keys ++ (flat_map (section_forms p.keys) (sections_read p) ++ end_forms p.last))
+forms_in p = head_forms p.last p.blocks ++ (key_forms p.keys ++ (fault_forms p.faults ++ (flat_map (section_forms p.keys) (sections_read p) ++ end_forms p.last)))
 
 have_head : (last : Option Sort) (blocks : ℕ) → HaveForms (head_read last blocks) (head_forms last blocks)
 have_head None blocks = refl
@@ -42,6 +46,7 @@ have_head (Some sorts.Version) blocks = refl
 have_head (Some sorts.Disk) blocks = refl
 have_head (Some sorts.Fallback) blocks = refl
 have_head (Some sorts.Key) blocks = refl
+have_head (Some sorts.Fault) blocks = refl
 have_head (Some sorts.Thread) blocks = refl
 have_head (Some sorts.Operation) blocks = refl
 have_head (Some sorts.End) blocks = refl
@@ -52,6 +57,7 @@ have_end (Some sorts.Version) = refl
 have_end (Some sorts.Disk) = refl
 have_end (Some sorts.Fallback) = refl
 have_end (Some sorts.Key) = refl
+have_end (Some sorts.Fault) = refl
 have_end (Some sorts.Thread) = refl
 have_end (Some sorts.Operation) = refl
 have_end (Some sorts.End) = refl
@@ -59,6 +65,10 @@ have_end (Some sorts.End) = refl
 have_keys : (keys : List NamedKey) → HaveForms (map key_line keys) (key_forms keys)
 have_keys [] = refl
 have_keys (k ∷ ks) = ap (λ (o : Option Form). o ∷ map form_of (map key_line ks)) (form_of-key_line k) ∙ ap (λ t. Some (Key (key_fields k)) ∷ t) (have_keys ks)
+
+have_faults : (faults : List (ℕ × ℕ)) → HaveForms (map fault_line faults) (fault_forms faults)
+have_faults [] = refl
+have_faults (f ∷ fs) = ap (λ (o : Option Form). o ∷ map form_of (map fault_line fs)) (form_of-fault_line f) ∙ ap (λ t. Some (Fault (fault_fields f)) ∷ t) (have_faults fs)
 
 have_ops : (keys : List NamedKey) (section : List Op) → AreKeys keys → AllByRecursion (IsOp (bare_keys keys)) section → HaveForms (map (op_line keys) section) (map (op_form keys) section)
 have_ops keys [] are valid = refl
@@ -95,9 +105,10 @@ pub have_forms : (p : Progress) → IsProgress p → HaveForms (lines_read p) (f
 have_forms p is =
     HaveForms-append (head_read p.last p.blocks) _ (head_forms p.last p.blocks) _ (have_head p.last p.blocks)
     (HaveForms-append (map key_line p.keys) _ (key_forms p.keys) _ (have_keys p.keys)
+    (HaveForms-append (map fault_line p.faults) _ (fault_forms p.faults) _ (have_faults p.faults)
     (HaveForms-append (flat_map (section_lines p.keys) (sections_read p)) (end_read p.last) (flat_map (section_forms p.keys) (sections_read p)) (end_forms p.last)
     (have_sections p.keys (sections_read p) is.keys (ops_read p is))
-    (have_end p.last)))
+    (have_end p.last))))
 
 pub forms_read-in : (p : Progress) → IsProgress p → forms_read p ≡ onto (forms_in p) []
 forms_read-in p is = forms_below-onto (lines_read p) (forms_in p) [] (have_forms p is)
@@ -110,13 +121,15 @@ forms_read-step p q line form more is =
     ap (forms_below []) more ∙ forms_below-append [] (lines_read p) (line ∷ []) ∙ ap (λ (o : Option Form). with_form o (forms_read p)) is
 
 -- the forms by their parts
-pub parts : (p : Progress) → IsProgress p → forms_read p ≡ onto (end_forms p.last) (onto (flat_map (section_forms p.keys) (sections_read p)) (onto (key_forms p.keys) (onto (head_forms p.last p.blocks) [])))
+pub parts : (p : Progress) → IsProgress p → forms_read p ≡ onto (end_forms p.last) (onto (flat_map (section_forms p.keys) (sections_read p)) (onto (fault_forms p.faults) (onto (key_forms p.keys) (onto (head_forms p.last p.blocks) []))))
 parts p is =
     let sections = flat_map (section_forms p.keys) (sections_read p) in
+    let heads = onto (head_forms p.last p.blocks) [] in
     forms_read-in p is
-    ∙ onto-append (head_forms p.last p.blocks) (key_forms p.keys ++ (sections ++ end_forms p.last)) []
-    ∙ onto-append (key_forms p.keys) (sections ++ end_forms p.last) (onto (head_forms p.last p.blocks) [])
-    ∙ onto-append sections (end_forms p.last) (onto (key_forms p.keys) (onto (head_forms p.last p.blocks) []))
+    ∙ onto-append (head_forms p.last p.blocks) (key_forms p.keys ++ (fault_forms p.faults ++ (sections ++ end_forms p.last))) []
+    ∙ onto-append (key_forms p.keys) (fault_forms p.faults ++ (sections ++ end_forms p.last)) heads
+    ∙ onto-append (fault_forms p.faults) (sections ++ end_forms p.last) (onto (key_forms p.keys) heads)
+    ∙ onto-append sections (end_forms p.last) (onto (fault_forms p.faults) (onto (key_forms p.keys) heads))
 
 -- the last section stands nearest
 pub last_section : (keys : List NamedKey) (threads : List (List Op)) (section : List Op) (above : List Form)

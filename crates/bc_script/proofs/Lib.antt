@@ -7,6 +7,7 @@ pub mod LineLaws
 pub mod ScriptLaws
 pub mod LineForms
 pub mod Onto
+pub mod Faults
 pub mod FormsRead
 pub mod Above
 pub mod Steps

@@ -22,7 +22,7 @@ use Rattle.bc_script.specs.declared.op.Op.TheVariants as ops
 use Rattle.bc_script.specs.declared.op.Text.{Text}
 use Rattle.bc_script.specs.declared.op.Text.TheVariants.{Fill, Bytes}
 use Rattle.bc_script.specs.Name.{is_name, is_name_byte, is_lower_letter}
-use Rattle.bc_script.specs.Script.{Script, IsScript, AreKeys, IsNamedKey, IsContext, IsBio, IsText, IsOp, IsSection, bare_keys}
+use Rattle.bc_script.specs.Script.{Script, IsScript, AreKeys, IsNamedKey, IsFault, IsContext, IsBio, IsText, IsOp, IsSection, bare_keys}
 use Rattle.bc_script.specs.ScriptText.{script_lines, key_line, op_line, name_of, section_lines, mode_text, fault_line, on_off, key_field, number_field, bio_fields, text_fields}
 use Rattle.bc_script.proofs.ByteLists.{IsBytes-All}
 use Rattle.bc_script.proofs.KeyNames.{is_name_of}
@@ -158,8 +158,15 @@ sections_are keys are (section ∷ threads) each =
     ((omega arith, (IsField-from_test (codes "thread") refl, tt)), op_lines_are keys are section each.0.each)
     (sections_are keys are threads each.1)
 
-fault_lines_are : (faults : List (ℕ × ℕ)) → faults ≡ [] → AllByRecursion IsLine (map fault_line faults)
-fault_lines_are faults none = rw none tt
+fault_line_is : (fault : ℕ × ℕ) → IsFault fault → IsLine (fault_line fault)
+fault_line_is fault is =
+    let shard = is.shard in
+    let access = is.access in
+    (omega arith, (IsField-from_test (codes "fault") refl, (IsField-decimal fault.0 (omega arith), (IsField-decimal fault.1 (omega arith), tt))))
+
+fault_lines_are : (faults : List (ℕ × ℕ)) → AllByRecursion IsFault faults → AllByRecursion IsLine (map fault_line faults)
+fault_lines_are [] each = tt
+fault_lines_are (f ∷ fs) each = (fault_line_is f each.0, fault_lines_are fs each.1)
 
 pub script_lines_are_lines : (s : Script) → IsScript s → AllByRecursion IsLine (script_lines s)
 script_lines_are_lines s valid =
@@ -170,7 +177,7 @@ script_lines_are_lines s valid =
         (
           (omega arith, (IsField-from_test (codes "fallback") refl, (IsField-on_off s.fallback, tt))),
           All-append _ _ (key_lines_are s.keys valid.keys.each)
-              (All-append _ _ (fault_lines_are s.faults valid.faults)
+              (All-append _ _ (fault_lines_are s.faults valid.faults.each)
               (All-append _ _ (sections_are s.keys valid.keys s.threads valid.threads.each) ((omega arith, (IsField-from_test (codes "end") refl, tt)), tt))),
         ),
       ),

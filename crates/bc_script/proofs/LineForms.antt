@@ -20,9 +20,10 @@ use Rattle.bc_script.specs.declared.op.Text.{Text}
 use Rattle.bc_script.specs.declared.op.Text.TheVariants as texts
 use Rattle.bc_script.specs.Name.{is_name}
 use Rattle.bc_script.specs.Script.{AreKeys, IsContext, IsOp, bare_keys}
-use Rattle.bc_script.specs.ScriptText.{version_line, disk_line, fallback_line, thread_line, end_line, key_line, op_line, mode_text, name_of, dash, key_field, number_field}
+use Rattle.bc_script.specs.ScriptText.{version_line, disk_line, fallback_line, thread_line, end_line, key_line, fault_line, op_line, mode_text, name_of, dash, key_field, number_field}
 use Rattle.bc_script.proofs.KeyNames.{is_name_of}
-use Rattle.bc_script.specs.Forms.{Form, KeyForm, BioForm, TextForm, Fill, Hex, Version, Disk, Fallback, Key, Thread, Write, Read, Evict, Reset, Plug, Unplug, End, form_of, mode_of, key_form, dashes_agree}
+use Rattle.bc_script.proofs.Faults.{fault_fields}
+use Rattle.bc_script.specs.Forms.{Form, KeyForm, BioForm, TextForm, Fill, Hex, Version, Disk, Fallback, Key, Fault, Thread, Write, Read, Evict, Reset, Plug, Unplug, End, form_of, mode_of, key_form, dashes_agree}
 
 -- the fields of a key's line
 abbrev pub key_fields : NamedKey → KeyForm
@@ -102,6 +103,9 @@ pub form_of-key_line : (named : NamedKey) → form_of (key_line named) ≡ Some 
 form_of-key_line named =
     ap (λ (mode : Option Mode). key_form named.name mode (decimal (bytes_of named.key.config.unit)) (decimal named.key.config.dun_bytes) (encode_lower named.key.raw))
     (mode_of-mode_text named.key.config.mode)
+
+pub form_of-fault_line : (fault : ℕ × ℕ) → form_of (fault_line fault) ≡ Some (Fault (fault_fields fault))
+form_of-fault_line fault = refl
 
 -- `-` stands for the key exactly where it stands for the number
 pub dashes_agree-bio_form : (keys : List NamedKey) (context : Option Context) (sector units : ℕ) → AreKeys keys → IsContext (bare_keys keys) context → dashes_agree (bio_form keys context sector units) ≡ true

@@ -1,4 +1,4 @@
--- A line is that of one key, or of one operation.
+-- A line is that of one key, of one planned fault, or of one operation.
 use Rattle.std.proofs.Common.{◌≡◌, ℕ, ◌<◌, ◌^◌, true, false, List, [], ◌∷◌, length, Option, Some, None, refl, sym, ap, ◌∙◌, arith}
 use Rattle.std.specs.Prelude.{codes, unwrap_or}
 use Rattle.std.specs.Str.{bytes_eq}
@@ -23,8 +23,8 @@ use Rattle.bc_script.specs.declared.op.Op.TheVariants as ops
 use Rattle.bc_script.specs.declared.op.Text.{Text}
 use Rattle.bc_script.specs.declared.op.Text.TheVariants.{Fill, Bytes}
 use Rattle.bc_script.specs.Name.{is_name}
-use Rattle.bc_script.specs.Script.{AreKeys, IsNamedKey, IsContext, IsBio, IsText, IsOp, bare_keys}
-use Rattle.bc_script.specs.ScriptText.{key_line, op_line, name_of, dash, mode_text, key_field, number_field, text_fields}
+use Rattle.bc_script.specs.Script.{AreKeys, IsNamedKey, IsFault, IsContext, IsBio, IsText, IsOp, bare_keys}
+use Rattle.bc_script.specs.ScriptText.{key_line, fault_line, op_line, name_of, dash, mode_text, key_field, number_field, text_fields}
 use Rattle.bc_script.proofs.KeyNames.{is_name_of, same_key, named_too}
 use Rattle.bc_script.proofs.ByteLists.{IsBytes-All}
 use Rattle.bc_script.proofs.LineFields.{IsBytes-one, small_unit}
@@ -82,6 +82,22 @@ key_line_injective a b p q e =
     let dun_bytes = decimal_injective a.key.config.dun_bytes b.key.config.dun_bytes (omega arith) (omega arith) fields.3 in
     let raw = encode_lower_injective a.key.raw b.key.raw (IsBytes-All a.key.raw p.valid.bytes) (IsBytes-All b.key.raw q.valid.bytes) fields.4 in
     λ i. record { name = fields.0 i; key = record { config = record { mode = mode i; unit = unit i; dun_bytes = dun_bytes i }; raw = raw i } }
+
+-- ---- a planned fault's line
+
+after_first_of_three : (p q r x y z : List ℕ) → p ∷ q ∷ r ∷ [] ≡ x ∷ y ∷ z ∷ [] → (q ≡ y) × (r ≡ z)
+after_first_of_three p q r x y z e = (cc, cc)
+
+pub fault_line_injective : (a b : ℕ × ℕ) → IsFault a → IsFault b → fault_line a ≡ fault_line b → a ≡ b
+fault_line_injective a b p q e =
+    let fields = after_first_of_three _ _ _ _ _ _ e in
+    let a_shard = p.shard in
+    let b_shard = q.shard in
+    let a_access = p.access in
+    let b_access = q.access in
+    let shard = decimal_injective a.0 b.0 (omega arith) (omega arith) fields.0 in
+    let access = decimal_injective a.1 b.1 (omega arith) (omega arith) fields.1 in
+    λ i. (shard i, access i)
 
 -- ---- an operation's line
 

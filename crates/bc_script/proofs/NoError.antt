@@ -1,6 +1,6 @@
 -- No line of a script's text fails a test.
-use Rattle.std.proofs.Common.{◌≡◌, ◌≢◌, ℕ, suc, ◌<◌, ◌≤◌, ◌+◌, Bool, true, false, List, [], ◌∷◌, ◌++◌, length, map, flat_map, get_or, is_some, codes, Option, Some, None, append-nil, append_assoc, length-append, refl, sym, ap, subst, ◌∙◌, arith}
-use Rattle.std.specs.Prelude.{sum_by, AllPairs, IsSome, ⊤, ◌&&◌}
+use Rattle.std.proofs.Common.{◌≡◌, ◌≢◌, ℕ, ◌<◌, ◌≤◌, ◌+◌, Bool, true, false, List, [], ◌∷◌, ◌++◌, length, map, flat_map, is_some, codes, Option, Some, None, append-nil, append_assoc, length-append, refl, sym, ap, subst, ◌∙◌, arith}
+use Rattle.std.specs.Prelude.{sum_by, IsSome, ⊤, ◌&&◌}
 use Rattle.std.specs.List.{AllByRecursion}
 use Rattle.std.proofs.lemmas.List.Sums.{sum_by-append, sum_by-cons}
 use Rattle.bc_text.specs.Lines.{TextLine, lines_of, nothing}
@@ -12,18 +12,19 @@ use Rattle.bc_script.specs.declared.sort.Sort.{Sort}
 use Rattle.bc_script.specs.declared.sort.Sort.TheVariants as sorts
 use Rattle.bc_script.specs.declared.script_error.ScriptError.{ScriptError}
 use Rattle.bc_script.specs.declared.script_error.ScriptWhy.TheVariants as why
-use Rattle.bc_script.specs.Script.{Script, IsScript, IsDiskSize, AreKeys, IsNamedKey, IsOp, IsSection, bare_keys, open_after, unit_count, unit_count_of_section, max_keys, max_threads, max_ops, max_units}
+use Rattle.bc_script.specs.Script.{Script, IsScript, IsDiskSize, AreKeys, AreFaults, IsNamedKey, IsOp, IsSection, bare_keys, open_after, unit_count, unit_count_of_section, max_keys, max_threads, max_ops, max_units}
 use Rattle.bc_script.specs.ScriptText.{NoScriptHas, script_text, script_lines, version_line, disk_line, fallback_line, key_line, fault_line, thread_line, op_line, section_lines, end_line}
-use Rattle.bc_script.specs.Forms.{Form, Version, Disk, Fallback, Key, Thread, End, form_of, sort_of}
+use Rattle.bc_script.specs.Forms.{Form, Version, Disk, Fallback, Key, Fault, Thread, End, form_of, sort_of}
 use Rattle.bc_script.specs.Order.{may_follow, is_unbuilt}
 use Rattle.bc_script.specs.ScriptErrors.{Why, first_of, with_form, error_at, error_at_end, first_error, error_of, or_below, last_sort, is_end}
 use Rattle.bc_text.specs.Lines.{is_nothing}
 use Rattle.bc_script.specs.Progress.{Progress, IsProgress, with_section, is_in_section, lines_read, forms_read, forms_below, sections_read}
 use Rattle.bc_script.proofs.Onto.{forms_below-append}
-use Rattle.bc_script.proofs.Above.{key_fields, op_form, last_sort-read, forms_read-step, form_of-disk, form_of-key_line, form_of-op_line}
+use Rattle.bc_script.proofs.Faults.{pairs_before, at_middle, next_fault}
+use Rattle.bc_script.proofs.Above.{key_fields, fault_fields, op_form, last_sort-read, forms_read-step, form_of-disk, form_of-key_line, form_of-fault_line, form_of-op_line}
 use Rattle.bc_script.proofs.LineFields.{script_lines_are_lines}
-use Rattle.bc_script.proofs.Passes.{error_at-passed, is_built, disk_passed, key_passed, thread_passed, end_passed, op_passed}
-use Rattle.bc_script.proofs.Steps.{nothing_read, with_version, with_disk, with_fallback, with_key, with_op, with_section_ended, IsProgress-nothing_read, IsProgress-version, IsProgress-disk, IsProgress-fallback, IsProgress-key, IsProgress-thread, IsProgress-op, IsProgress-end, lines_read-version, lines_read-disk, lines_read-fallback, lines_read-key, lines_read-thread, lines_read-op, lines_read-end, counts-op, is_inside, no_sections}
+use Rattle.bc_script.proofs.Passes.{error_at-passed, is_built, disk_passed, key_passed, fault_passed, thread_passed, end_passed, op_passed}
+use Rattle.bc_script.proofs.Steps.{nothing_read, with_version, with_disk, with_fallback, with_key, with_fault, with_op, with_section_ended, IsProgress-nothing_read, IsProgress-version, IsProgress-disk, IsProgress-fallback, IsProgress-key, IsProgress-fault, IsProgress-thread, IsProgress-op, IsProgress-end, lines_read-version, lines_read-disk, lines_read-fallback, lines_read-key, lines_read-fault, lines_read-thread, lines_read-op, lines_read-end, counts-op, is_inside, no_faults_yet, no_sections}
 
 -- ---- lines that pass
 
@@ -121,38 +122,44 @@ record HasKeys (blocks : ℕ) (all : List NamedKey) (q : Progress) : Type 0 wher
   size : q.blocks ≡ blocks
   keys : q.keys ≡ all
 
-key_at_end : (keys more : List NamedKey) (named : NamedKey) → AllByRecursion IsNamedKey (keys ++ named ∷ more) → IsNamedKey named
-key_at_end [] more named each = each.0
-key_at_end (k ∷ ks) more named each = key_at_end ks more named each.1
-
-fresh_at_end : (keys more : List NamedKey) (named : NamedKey) → AllPairs (λ (first second : NamedKey). first.name ≢ second.name) (keys ++ named ∷ more) → AllByRecursion (λ (key : NamedKey). key.name ≢ named.name) keys
-fresh_at_end [] more named pairs = tt
-fresh_at_end (k ∷ ks) more named pairs =
-    (at k ks more named pairs, fresh_at_end ks more named (λ i j d lt within. pairs (suc i) (suc j) d (omega arith) (omega arith)))
-  where
-    there : (ks more : List NamedKey) (named d : NamedKey) → get_or (ks ++ named ∷ more) (length ks) d ≡ named
-    there [] more named d = refl
-    there (k ∷ ks) more named d = there ks more named d
-
-    at : (k : NamedKey) (ks more : List NamedKey) (named : NamedKey) → AllPairs (λ (first second : NamedKey). first.name ≢ second.name) (k ∷ ks ++ named ∷ more) → k.name ≢ named.name
-    at k ks more named pairs = subst (λ (n : NamedKey). k.name ≢ n.name) (there ks more named k) (pairs 0 (suc (length ks)) k (omega arith) (omega (arith, length-append ks (named ∷ more))))
-
 keys_pass : (p : Progress) (keys : List NamedKey) → IsProgress p → may_follow p.last sorts.Key ≡ true → AreKeys (p.keys ++ keys) → Reads p (map key_line keys) (HasKeys p.blocks (p.keys ++ keys))
 keys_pass p [] is follows are = still p (HasKeys p.blocks (p.keys ++ [])) is (record { follows = follows; size = refl; keys = sym (append-nil p.keys) })
 keys_pass p (k ∷ ks) is follows are =
-    let valid = key_at_end p.keys ks k are.each in
-    let fresh = fresh_at_end p.keys ks k are.names in
+    let valid = at_middle IsNamedKey p.keys ks k are.each in
+    let fresh = pairs_before (λ (first second : NamedKey). first.name ≢ second.name) p.keys ks k are.names in
     let count = are.count in
     let room : length p.keys < max_keys = omega (arith, length-append p.keys (k ∷ ks)) in
     let q = with_key p k in
     let same : q.keys ++ ks ≡ p.keys ++ k ∷ ks = append_assoc p.keys (k ∷ []) ks in
     further p (key_line k ∷ []) (map key_line ks) (λ r. r ≡ q) (HasKeys p.blocks (p.keys ++ k ∷ ks))
     (one p q (key_line k) (Key (key_fields k)) (λ r. r ≡ q) (IsProgress-key p k is follows valid fresh room)
-    (error_at-passed p (key_line k) (Key (key_fields k)) is (is_built p.last (codes "key") _ refl refl refl) (form_of-key_line k) follows (key_passed p k is valid fresh room))
+    (error_at-passed p (key_line k) (Key (key_fields k)) is (is_built p.last (codes "key") _ refl refl) (form_of-key_line k) follows (key_passed p k is valid fresh room))
     (lines_read-key p k is follows) (form_of-key_line k) refl)
     (λ r is_r e. subst (λ (x : Progress). Reads x (map key_line ks) (HasKeys p.blocks (p.keys ++ k ∷ ks))) (sym e)
     (subst (λ (all : List NamedKey). Reads q (map key_line ks) (HasKeys p.blocks all)) same
     (keys_pass q ks (subst IsProgress e is_r) refl (subst AreKeys (sym same) are))))
+
+-- ---- planned faults
+
+-- behind faults, where no section has begun
+record HasFaults (own : List NamedKey) (all : List (ℕ × ℕ)) (q : Progress) : Type 0 where
+  follows : may_follow q.last sorts.Fault ≡ true
+  keys : q.keys ≡ own
+  faults : q.faults ≡ all
+
+faults_pass : (p : Progress) (faults : List (ℕ × ℕ)) → IsProgress p → may_follow p.last sorts.Fault ≡ true → AreFaults (p.faults ++ faults) → Reads p (map fault_line faults) (HasFaults p.keys (p.faults ++ faults))
+faults_pass p [] is follows are = still p (HasFaults p.keys (p.faults ++ [])) is (record { follows = follows; keys = refl; faults = sym (append-nil p.faults) })
+faults_pass p (f ∷ fs) is follows are =
+    let next = next_fault p.faults fs f are in
+    let q = with_fault p f in
+    let same : q.faults ++ fs ≡ p.faults ++ f ∷ fs = append_assoc p.faults (f ∷ []) fs in
+    further p (fault_line f ∷ []) (map fault_line fs) (λ r. r ≡ q) (HasFaults p.keys (p.faults ++ f ∷ fs))
+    (one p q (fault_line f) (Fault (fault_fields f)) (λ r. r ≡ q) (IsProgress-fault p f is follows next.valid next.after next.room)
+    (error_at-passed p (fault_line f) (Fault (fault_fields f)) is (is_built p.last (codes "fault") _ refl refl) (form_of-fault_line f) follows (fault_passed p f is next.valid next.after next.room))
+    (lines_read-fault p f is follows) (form_of-fault_line f) refl)
+    (λ r is_r e. subst (λ (x : Progress). Reads x (map fault_line fs) (HasFaults p.keys (p.faults ++ f ∷ fs))) (sym e)
+    (subst (λ (all : List (ℕ × ℕ)). Reads q (map fault_line fs) (HasFaults p.keys all)) same
+    (faults_pass q fs (subst IsProgress e is_r) refl (subst AreFaults (sym same) are))))
 
 -- ---- operations
 
@@ -182,6 +189,7 @@ op_built (Some sorts.Version) keys op follows = refl
 op_built (Some sorts.Disk) keys op follows = absurd cc
 op_built (Some sorts.Fallback) keys op follows = absurd cc
 op_built (Some sorts.Key) keys op follows = absurd cc
+op_built (Some sorts.Fault) keys op follows = absurd cc
 op_built (Some sorts.Thread) keys op follows = refl
 op_built (Some sorts.Operation) keys op follows = refl
 op_built (Some sorts.End) keys op follows = refl
@@ -232,6 +240,7 @@ threads_follow (Some sorts.Version) h = absurd cc
 threads_follow (Some sorts.Disk) h = absurd cc
 threads_follow (Some sorts.Fallback) h = refl
 threads_follow (Some sorts.Key) h = refl
+threads_follow (Some sorts.Fault) h = refl
 threads_follow (Some sorts.Thread) h = refl
 threads_follow (Some sorts.Operation) h = refl
 threads_follow (Some sorts.End) h = absurd cc
@@ -249,6 +258,7 @@ ends_after_ops (Some sorts.Version) h = absurd cc
 ends_after_ops (Some sorts.Disk) h = absurd cc
 ends_after_ops (Some sorts.Fallback) h = refl
 ends_after_ops (Some sorts.Key) h = refl
+ends_after_ops (Some sorts.Fault) h = refl
 ends_after_ops (Some sorts.Thread) h = refl
 ends_after_ops (Some sorts.Operation) h = refl
 ends_after_ops (Some sorts.End) h = absurd cc
@@ -265,7 +275,7 @@ section_passes p section is follows closed valid room ops_room units_room =
     let units = sum_by-append unit_count_of_section (sections_read p) ([] ∷ []) in
     further p (thread_line ∷ []) (map (op_line p.keys) section) (λ q. q ≡ t) (HasOps t section)
     (one p t thread_line Thread (λ q. q ≡ t) is_t
-    (error_at-passed p thread_line Thread is (is_built p.last (codes "thread") [] refl refl refl) refl thread_follows (thread_passed p is closed room))
+    (error_at-passed p thread_line Thread is (is_built p.last (codes "thread") [] refl refl) refl thread_follows (thread_passed p is closed room))
     (lines_read-thread p is thread_follows) refl refl)
     (λ q is_q e. subst (λ (x : Progress). Reads x (map (op_line p.keys) section) (HasOps t section)) (sym e)
     (ops_pass t section is_t refl valid.each (ap (λ (o : Option Bool). is_some o) valid.plugs) (omega arith) (omega arith)))
@@ -300,41 +310,47 @@ HasEnded q = q.last ≡ Some sorts.End
 end_passes : (p : Progress) → IsProgress p → may_follow p.last sorts.End ≡ true → open_after false p.section ≡ Some false → Reads p (end_line ∷ []) HasEnded
 end_passes p is follows closed =
     one p (with_section_ended p sorts.End) end_line End HasEnded (IsProgress-end p is follows closed)
-    (error_at-passed p end_line End is (is_built p.last (codes "end") [] refl refl refl) refl follows (end_passed p is closed))
+    (error_at-passed p end_line End is (is_built p.last (codes "end") [] refl refl) refl follows (end_passed p is closed))
     (lines_read-end p is follows) refl refl
 
--- the lines of a script in which software does what no device can, and no fault is planned
+-- the lines of a script in which software does what no device can
 abbrev built_lines : Script → List TextLine
-built_lines s = (version_line ∷ disk_line s.blocks ∷ fallback_line true ∷ []) ++ (map key_line s.keys ++ (flat_map (section_lines s.keys) s.threads ++ end_line ∷ []))
+built_lines s = (version_line ∷ disk_line s.blocks ∷ fallback_line true ∷ []) ++ (map key_line s.keys ++ (map fault_line s.faults ++ (flat_map (section_lines s.keys) s.threads ++ end_line ∷ [])))
 
 are_built : (s : Script) → IsScript s → script_lines s ≡ built_lines s
 are_built s valid =
     ap (λ (on : Bool). (version_line ∷ disk_line s.blocks ∷ fallback_line on ∷ []) ++ (map key_line s.keys ++ (map fault_line s.faults ++ (flat_map (section_lines s.keys) s.threads ++ end_line ∷ [])))) valid.fallback
-    ∙ ap (λ (faults : List (ℕ × ℕ)). (version_line ∷ disk_line s.blocks ∷ fallback_line true ∷ []) ++ (map key_line s.keys ++ (map fault_line faults ++ (flat_map (section_lines s.keys) s.threads ++ end_line ∷ [])))) valid.faults
 
 whole_passes : (s : Script) → IsScript s → Reads nothing_read (built_lines s) HasEnded
 whole_passes s valid =
     let sections = flat_map (section_lines s.keys) s.threads in
-    further nothing_read (version_line ∷ disk_line s.blocks ∷ fallback_line true ∷ []) (map key_line s.keys ++ (sections ++ end_line ∷ [])) (HasHead s.blocks) HasEnded (head_passes s.blocks valid.blocks)
+    let faults = map fault_line s.faults in
+    further nothing_read (version_line ∷ disk_line s.blocks ∷ fallback_line true ∷ []) (map key_line s.keys ++ (faults ++ (sections ++ end_line ∷ []))) (HasHead s.blocks) HasEnded (head_passes s.blocks valid.blocks)
     (λ p is has.
     let all : p.keys ++ s.keys ≡ s.keys = ap (λ (keys : List NamedKey). keys ++ s.keys) has.keys in
     let follows : may_follow p.last sorts.Key ≡ true = ap (λ (last : Option Sort). may_follow last sorts.Key) has.last in
-    further p (map key_line s.keys) (sections ++ end_line ∷ []) (HasKeys p.blocks (p.keys ++ s.keys)) HasEnded (keys_pass p s.keys is follows (subst AreKeys (sym all) valid.keys))
+    further p (map key_line s.keys) (faults ++ (sections ++ end_line ∷ [])) (HasKeys p.blocks (p.keys ++ s.keys)) HasEnded (keys_pass p s.keys is follows (subst AreKeys (sym all) valid.keys))
     (λ q is_q then.
-    let keys : q.keys ≡ s.keys = then.keys ∙ all in
-    let none = no_sections q is_q then.follows in
-    let each : AllByRecursion (IsSection (bare_keys q.keys)) s.threads = subst (λ (k : List NamedKey). AllByRecursion (IsSection (bare_keys k)) s.threads) (sym keys) valid.threads.each in
-    let few = valid.threads.count in
-    let few_ops = valid.threads.few_ops in
-    let few_units = valid.threads.few_units in
-    let all_sections : Reads q (flat_map (section_lines q.keys) s.threads) (HasSections q) =
-    sections_pass q s.threads is_q none.2 (ap (open_after false) none.1) each
-    (subst (λ (t : List (List Op)). length t + length s.threads ≤ max_threads) (sym none.0) (omega arith))
-    (subst (λ (t : List (List Op)). sum_by length t + sum_by length s.threads ≤ max_ops) (sym none.0) (omega arith))
-    (subst (λ (t : List (List Op)). sum_by unit_count_of_section t + sum_by unit_count_of_section s.threads ≤ max_units) (sym none.0) (omega arith)) in
-    further q sections (end_line ∷ []) (HasSections q) HasEnded
-    (subst (λ (k : List NamedKey). Reads q (flat_map (section_lines k) s.threads) (HasSections q)) keys all_sections)
-    (λ r is_r done. end_passes r is_r done.follows done.closed)))
+    let no_fault = no_faults_yet q is_q then.follows in
+    let planned : q.faults ++ s.faults ≡ s.faults = ap (λ (faults : List (ℕ × ℕ)). faults ++ s.faults) no_fault.0 in
+    further q faults (sections ++ end_line ∷ []) (HasFaults q.keys (q.faults ++ s.faults)) HasEnded (faults_pass q s.faults is_q no_fault.1 (subst AreFaults (sym planned) valid.faults))
+    (λ r is_r now. sections_and_end_pass s valid r is_r now.follows (now.keys ∙ then.keys ∙ all))))
+  where
+    sections_and_end_pass : (s : Script) → IsScript s → (q : Progress) → IsProgress q → may_follow q.last sorts.Fault ≡ true → q.keys ≡ s.keys → Reads q (flat_map (section_lines s.keys) s.threads ++ end_line ∷ []) HasEnded
+    sections_and_end_pass s valid q is_q follows keys =
+        let none = no_sections q is_q follows in
+        let each : AllByRecursion (IsSection (bare_keys q.keys)) s.threads = subst (λ (k : List NamedKey). AllByRecursion (IsSection (bare_keys k)) s.threads) (sym keys) valid.threads.each in
+        let few = valid.threads.count in
+        let few_ops = valid.threads.few_ops in
+        let few_units = valid.threads.few_units in
+        let all_sections : Reads q (flat_map (section_lines q.keys) s.threads) (HasSections q) =
+        sections_pass q s.threads is_q none.2 (ap (open_after false) none.1) each
+        (subst (λ (t : List (List Op)). length t + length s.threads ≤ max_threads) (sym none.0) (omega arith))
+        (subst (λ (t : List (List Op)). sum_by length t + sum_by length s.threads ≤ max_ops) (sym none.0) (omega arith))
+        (subst (λ (t : List (List Op)). sum_by unit_count_of_section t + sum_by unit_count_of_section s.threads ≤ max_units) (sym none.0) (omega arith)) in
+        further q (flat_map (section_lines s.keys) s.threads) (end_line ∷ []) (HasSections q) HasEnded
+        (subst (λ (k : List NamedKey). Reads q (flat_map (section_lines k) s.threads) (HasSections q)) keys all_sections)
+        (λ r is_r done. end_passes r is_r done.follows done.closed)
 
 -- no line of a script's text fails
 pub no_error : (s : Script) → IsScript s → error_of (script_text s) ≡ None

@@ -4,8 +4,8 @@ use Rattle.std.specs.List.{AllByRecursion}
 use Rattle.std.proofs.lemmas.List.Sums.{sum_by-cons, sum_by-append}
 use Rattle.bc_text.specs.Lines.{TextLine}
 use Rattle.bc_script.specs.declared.sort.Sort.{Sort}
-use Rattle.bc_script.specs.Forms.{Form, Version, Disk, Fallback, Key, Thread, Write, Read, Evict, Reset, Plug, Unplug, End, form_of, sort_of}
-use Rattle.bc_script.specs.ScriptErrors.{with_form, last_sort, is_key, key_named}
+use Rattle.bc_script.specs.Forms.{Form, FaultForm, Version, Disk, Fallback, Key, Fault, Thread, Write, Read, Evict, Reset, Plug, Unplug, End, form_of, sort_of}
+use Rattle.bc_script.specs.ScriptErrors.{with_form, last_sort, is_key, is_fault, key_named, ascends}
 use Rattle.bc_script.specs.Progress.{forms_below}
 
 -- ---- lists
@@ -112,6 +112,7 @@ key_named-other name Version above e = refl
 key_named-other name (Disk blocks) above e = refl
 key_named-other name Fallback above e = refl
 key_named-other name (Key key) above e = absurd cc
+key_named-other name (Fault fault) above e = refl
 key_named-other name Thread above e = refl
 key_named-other name (Write bio text) above e = refl
 key_named-other name (Read bio) above e = refl
@@ -124,3 +125,24 @@ key_named-other name End above e = refl
 pub key_named-onto : (name : List ℕ) (forms above : List Form) → AllByRecursion (λ form. is_key form ≡ false) forms → key_named name (onto forms above) ≡ key_named name above
 key_named-onto name [] above others = refl
 key_named-onto name (f ∷ fs) above others = key_named-onto name fs (f ∷ above) others.1 ∙ key_named-other name f above others.0
+
+-- ---- forms that are no faults
+
+ascends-other : (fault : FaultForm) (form : Form) (above : List Form) → is_fault form ≡ false → ascends (form ∷ above) fault ≡ ascends above fault
+ascends-other fault Version above e = refl
+ascends-other fault (Disk blocks) above e = refl
+ascends-other fault Fallback above e = refl
+ascends-other fault (Key key) above e = refl
+ascends-other fault (Fault planned) above e = absurd cc
+ascends-other fault Thread above e = refl
+ascends-other fault (Write bio text) above e = refl
+ascends-other fault (Read bio) above e = refl
+ascends-other fault (Evict key) above e = refl
+ascends-other fault (Reset device) above e = refl
+ascends-other fault Plug above e = refl
+ascends-other fault Unplug above e = refl
+ascends-other fault End above e = refl
+
+pub ascends-onto : (fault : FaultForm) (forms above : List Form) → AllByRecursion (λ form. is_fault form ≡ false) forms → ascends (onto forms above) fault ≡ ascends above fault
+ascends-onto fault [] above others = refl
+ascends-onto fault (f ∷ fs) above others = ascends-onto fault fs (f ∷ above) others.1 ∙ ascends-other fault f above others.0

@@ -29,17 +29,19 @@ use Rattle.bc_script.specs.declared.sort.Sort.TheVariants as sorts
 use Rattle.bc_script.specs.declared.script_error.ScriptWhy.{ScriptWhy}
 use Rattle.bc_script.specs.declared.script_error.ScriptWhy.TheVariants as why
 use Rattle.bc_script.specs.Name.{is_name}
-use Rattle.bc_script.specs.Script.{IsDiskSize, IsNamedKey, IsContext, IsBio, IsText, IsOp, bare_keys, open_after, unit_count, unit_count_of_section, max_keys, max_threads, max_ops, max_units, max_bio_units, max_bio_sectors}
+use Rattle.bc_script.specs.Script.{IsDiskSize, IsNamedKey, IsFault, IsContext, IsBio, IsText, IsOp, bare_keys, open_after, unit_count, unit_count_of_section, max_keys, max_faults, last_shard, last_access, max_threads, max_ops, max_units, max_bio_units, max_bio_sectors}
 use Rattle.bc_script.specs.ScriptText.{dash, name_of, key_field}
-use Rattle.bc_script.specs.Forms.{Form, Disk, Key, Thread, End, form_of, sort_of}
+use Rattle.bc_script.specs.Forms.{Form, Disk, Key, Fault, Thread, End, form_of, sort_of}
 use Rattle.bc_script.specs.Order.{may_follow, is_unbuilt}
-use Rattle.bc_script.specs.ScriptErrors.{Why, first_of, is_number, is_number_text, number_in, bytes_in, is_hex_text, number_test, key_refused, key_test, is_declared, sectors_under, is_open, is_key, is_thread, is_operation, units_in, op_limit, bio_limits, bio_tests, is_text, size_of, last_sort, is_end, tests_of, error_of_form, error_at}
+use Rattle.bc_script.specs.ScriptErrors.{Why, first_of, is_number, is_number_text, number_in, bytes_in, is_hex_text, number_test, key_refused, key_test, is_declared, sectors_under, is_open, ascends, is_key, is_fault, is_thread, is_operation, units_in, op_limit, bio_limits, bio_tests, is_text, size_of, last_sort, is_end, tests_of, error_of_form, error_at}
 use Rattle.bc_script.specs.Progress.{Progress, IsProgress, forms_read, sections_read}
 use Rattle.bc_script.proofs.Fields.{number_in-decimal, is_number-decimal, is_number_text-number_text, bytes_in-encode_lower, is_hex_text-encode_lower}
 use Rattle.bc_script.proofs.KeyNames.{named_too}
 use Rattle.bc_script.proofs.ByteLists.{IsBytes-All}
 use Rattle.bc_script.proofs.LineFields.{IsBytes-one}
-use Rattle.bc_script.proofs.Above.{key_fields, op_form, bio_form, text_form_of, last_sort-read, keys-read, threads-read, operations-read, units-read, is_open-read, is_declared-read, is_declared-none, sectors_under-read}
+use Rattle.bc_script.proofs.Above.{key_fields, fault_fields, op_form, bio_form, text_form_of, last_sort-read, keys-read, faults-read, threads-read, operations-read, units-read, is_open-read, ascends-read, is_declared-read, is_declared-none, sectors_under-read}
+use Rattle.bc_script.specs.Statements.{is_after}
+use Rattle.bc_script.proofs.Faults.{fault_in-fault_fields}
 use Rattle.bc_script.proofs.LineForms.{bytes_eq-other}
 
 -- ---- tests, one after the other
@@ -54,12 +56,14 @@ not_after_end (Some sorts.Version) sort h = refl
 not_after_end (Some sorts.Disk) sort h = refl
 not_after_end (Some sorts.Fallback) sort h = refl
 not_after_end (Some sorts.Key) sort h = refl
+not_after_end (Some sorts.Fault) sort h = refl
 not_after_end (Some sorts.Thread) sort h = refl
 not_after_end (Some sorts.Operation) sort h = refl
 not_after_end (Some sorts.End) sorts.Version h = absurd cc
 not_after_end (Some sorts.End) sorts.Disk h = absurd cc
 not_after_end (Some sorts.End) sorts.Fallback h = absurd cc
 not_after_end (Some sorts.End) sorts.Key h = absurd cc
+not_after_end (Some sorts.End) sorts.Fault h = absurd cc
 not_after_end (Some sorts.End) sorts.Thread h = absurd cc
 not_after_end (Some sorts.End) sorts.Operation h = absurd cc
 not_after_end (Some sorts.End) sorts.End h = absurd cc
@@ -77,17 +81,18 @@ error_at-passed p line form is built is_form follows tests =
     (passed (not (is_unbuilt (last_sort above) line)) why.NotBuilt (error_of_form above (form_of line)) (not_from_false _ there) of_form)
 
 -- no line that begins otherwise is of a form that isn't built
-pub is_built : (last : Option Sort) (word : List ℕ) (fields : TextLine) → bytes_eq word (codes "fallback") ≡ false → bytes_eq word (codes "device") ≡ false → bytes_eq word (codes "fault") ≡ false → is_unbuilt last (word ∷ fields) ≡ false
-is_built None word fields fallback device fault = refl
-is_built (Some sorts.Version) word fields fallback device fault = refl
-is_built (Some sorts.Disk) word [] fallback device fault = refl
-is_built (Some sorts.Disk) word (switch ∷ []) fallback device fault = ap (λ (b : Bool). b && bytes_eq switch (codes "off")) fallback
-is_built (Some sorts.Disk) word (switch ∷ more ∷ fields) fallback device fault = refl
-is_built (Some sorts.Fallback) word fields fallback device fault = ap (λ (b : Bool). b || bytes_eq word (codes "fault")) device ∙ fault
-is_built (Some sorts.Key) word fields fallback device fault = fault
-is_built (Some sorts.Thread) word fields fallback device fault = refl
-is_built (Some sorts.Operation) word fields fallback device fault = refl
-is_built (Some sorts.End) word fields fallback device fault = refl
+pub is_built : (last : Option Sort) (word : List ℕ) (fields : TextLine) → bytes_eq word (codes "fallback") ≡ false → bytes_eq word (codes "device") ≡ false → is_unbuilt last (word ∷ fields) ≡ false
+is_built None word fields fallback device = refl
+is_built (Some sorts.Version) word fields fallback device = refl
+is_built (Some sorts.Disk) word [] fallback device = refl
+is_built (Some sorts.Disk) word (switch ∷ []) fallback device = ap (λ (b : Bool). b && bytes_eq switch (codes "off")) fallback
+is_built (Some sorts.Disk) word (switch ∷ more ∷ fields) fallback device = refl
+is_built (Some sorts.Fallback) word fields fallback device = device
+is_built (Some sorts.Key) word fields fallback device = refl
+is_built (Some sorts.Fault) word fields fallback device = refl
+is_built (Some sorts.Thread) word fields fallback device = refl
+is_built (Some sorts.Operation) word fields fallback device = refl
+is_built (Some sorts.End) word fields fallback device = refl
 
 -- ---- numbers
 
@@ -168,6 +173,21 @@ key_passed p named is valid fresh room =
     (passed (is_hex_text 1 128 (encode_lower named.key.raw)) why.Hex _ digits
     (ap (λ (w : Why). key_test w (first_of (nat_lt (count_by is_key above) max_keys) why.Limit None)) (not_refused named valid)
     ∙ passed (nat_lt (count_by is_key above) max_keys) why.Limit None limit refl))))
+
+-- ---- planned faults
+
+-- a fault that comes after the last one passes, where there is room
+pub fault_passed : (p : Progress) (fault : ℕ × ℕ) → IsProgress p → IsFault fault → is_after p.faults fault ≡ true → length p.faults < max_faults → tests_of (forms_read p) (Fault (fault_fields fault)) ≡ None
+fault_passed p fault is valid after room =
+    let above = forms_read p in
+    let shard = valid.shard in
+    let access = valid.access in
+    let behind : ascends above (fault_fields fault) ≡ true = ascends-read p (fault_fields fault) is ∙ ap (is_after p.faults) (fault_in-fault_fields fault valid) ∙ after in
+    let limit : nat_lt (count_by is_fault above) max_faults ≡ true = ap (λ (n : ℕ). nat_lt n max_faults) (faults-read p is) ∙ lt-ltb (length p.faults) max_faults room in
+    number_passed 0 last_shard fault.0 _ (omega arith) (omega arith) shard
+    (number_passed 0 last_access fault.1 _ (omega arith) (omega arith) access
+    (passed (ascends above (fault_fields fault)) why.Order _ behind
+    (passed (nat_lt (count_by is_fault above) max_faults) why.Limit None limit refl)))
 
 -- ---- sections
 

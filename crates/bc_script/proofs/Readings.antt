@@ -11,19 +11,20 @@ use Rattle.bc_script.specs.declared.statement.Statement.{Statement}
 use Rattle.bc_script.specs.declared.statement.Statement.TheVariants as statements
 use Rattle.bc_script.specs.declared.script_error.ScriptWhy.TheVariants as why
 use Rattle.bc_script.specs.Script.{Script, IsScript, IsDiskSize, open_after, unit_count, unit_count_of_section, max_threads, max_ops, max_units}
-use Rattle.bc_script.specs.ScriptText.{script_lines, version_line, disk_line, fallback_line, key_line, thread_line, op_line, section_lines, end_line}
-use Rattle.bc_script.specs.Forms.{Form, Version, Fallback, Key, Thread, End, form_of}
+use Rattle.bc_script.specs.ScriptText.{script_lines, version_line, disk_line, fallback_line, key_line, fault_line, thread_line, op_line, section_lines, end_line}
+use Rattle.bc_script.specs.Forms.{Form, Version, Fallback, Key, Fault, Thread, End, form_of}
 use Rattle.bc_script.specs.Order.{may_follow, is_unbuilt}
 use Rattle.bc_script.specs.ScriptErrors.{with_form, error_at, error_at_end, last_sort, is_end}
 use Rattle.bc_text.specs.Lines.{is_nothing}
 use Rattle.bc_script.specs.Progress.{Progress, IsProgress, IsAt, head_read, with_section, is_in_section, end_read, lines_read, forms_read, sections_read}
-use Rattle.bc_script.specs.Statements.{Fits, FitsKey, FitsOp, IsClosed, EndsSection, HasRoomFor, IsNext, sort_of_statement, line_of, with_statement, with_section_ended}
+use Rattle.bc_script.specs.Statements.{Fits, FitsKey, FitsFault, FitsOp, IsClosed, EndsSection, HasRoomFor, IsNext, sort_of_statement, line_of, with_statement, with_section_ended}
 use Rattle.bc_script.specs.Reading.{IsReading, Took, left_section}
 use Rattle.bc_script.proofs.FormsRead.{forms_read-step}
-use Rattle.bc_script.proofs.LineForms.{key_fields, op_form, form_of-key_line, form_of-op_line}
+use Rattle.bc_script.proofs.Faults.{fault_fields}
+use Rattle.bc_script.proofs.LineForms.{key_fields, op_form, form_of-key_line, form_of-fault_line, form_of-op_line}
 use Rattle.bc_script.proofs.Above.{last_sort-read, length-read_le}
-use Rattle.bc_script.proofs.Passes.{error_at-passed, is_built, disk_passed, key_passed, thread_passed, end_passed, op_passed, open_after-append}
-use Rattle.bc_script.proofs.Steps.{nothing_read, IsProgress-nothing_read, IsProgress-version, IsProgress-disk, IsProgress-fallback, IsProgress-key, IsProgress-thread, IsProgress-op, IsProgress-end, lines_read-version, lines_read-disk, lines_read-fallback, lines_read-key, lines_read-thread, lines_read-op, lines_read-end, counts-op}
+use Rattle.bc_script.proofs.Passes.{error_at-passed, is_built, disk_passed, key_passed, fault_passed, thread_passed, end_passed, op_passed, open_after-append}
+use Rattle.bc_script.proofs.Steps.{nothing_read, IsProgress-nothing_read, IsProgress-version, IsProgress-disk, IsProgress-fallback, IsProgress-key, IsProgress-fault, IsProgress-thread, IsProgress-op, IsProgress-end, lines_read-version, lines_read-disk, lines_read-fallback, lines_read-key, lines_read-fault, lines_read-thread, lines_read-op, lines_read-end, counts-op}
 use Rattle.bc_script.proofs.NoError.{op_built, op_sorted}
 use Rattle.bc_script.proofs.Refusals.{fails, goes_on, others}
 
@@ -32,8 +33,8 @@ use Rattle.bc_script.proofs.Refusals.{fails, goes_on, others}
 pub reading_none : IsReading nothing_read 0 false 0 0
 reading_none = record { rules = IsProgress-nothing_read; line_count = refl; plug = refl; op_count = refl; unit_count = refl }
 
-pub few_lines : (p : Progress) (lines count units : ℕ) (plugged : Bool) → IsReading p lines plugged count units → lines ≤ 69652
-few_lines p lines count units plugged is = subst (λ (n : ℕ). n ≤ 69652) (sym is.line_count) (length-read_le p is.rules)
+pub few_lines : (p : Progress) (lines count units : ℕ) (plugged : Bool) → IsReading p lines plugged count units → lines ≤ 70676
+few_lines p lines count units plugged is = subst (λ (n : ℕ). n ≤ 70676) (sym is.line_count) (length-read_le p is.rules)
 
 reading_step : (p q : Progress) (line : TextLine) (form : Form) (lines count units counted united : ℕ) (plugged closed : Bool) → IsReading p lines plugged count units → IsProgress q → lines_read q ≡ lines_read p ++ line ∷ [] → form_of line ≡ Some form
     → open_after false q.section ≡ Some closed → counted ≡ sum_by length (sections_read q) → united ≡ sum_by unit_count_of_section (sections_read q) → IsReading q (lines + 1) closed counted united
@@ -47,6 +48,7 @@ is_before sorts.Version = true
 is_before sorts.Disk = true
 is_before sorts.Fallback = true
 is_before sorts.Key = true
+is_before sorts.Fault = true
 is_before _ = false
 
 -- no section is read yet where one of the lines before the sections may stand
@@ -56,11 +58,13 @@ outside (Some sorts.Version) sort before follows = refl
 outside (Some sorts.Disk) sort before follows = refl
 outside (Some sorts.Fallback) sort before follows = refl
 outside (Some sorts.Key) sort before follows = refl
+outside (Some sorts.Fault) sort before follows = refl
 outside (Some sorts.End) sort before follows = refl
 outside (Some sorts.Thread) sorts.Version before follows = absurd cc
 outside (Some sorts.Thread) sorts.Disk before follows = absurd cc
 outside (Some sorts.Thread) sorts.Fallback before follows = absurd cc
 outside (Some sorts.Thread) sorts.Key before follows = absurd cc
+outside (Some sorts.Thread) sorts.Fault before follows = absurd cc
 outside (Some sorts.Thread) sorts.Thread before follows = absurd cc
 outside (Some sorts.Thread) sorts.Operation before follows = absurd cc
 outside (Some sorts.Thread) sorts.End before follows = absurd cc
@@ -68,6 +72,7 @@ outside (Some sorts.Operation) sorts.Version before follows = absurd cc
 outside (Some sorts.Operation) sorts.Disk before follows = absurd cc
 outside (Some sorts.Operation) sorts.Fallback before follows = absurd cc
 outside (Some sorts.Operation) sorts.Key before follows = absurd cc
+outside (Some sorts.Operation) sorts.Fault before follows = absurd cc
 outside (Some sorts.Operation) sorts.Thread before follows = absurd cc
 outside (Some sorts.Operation) sorts.Operation before follows = absurd cc
 outside (Some sorts.Operation) sorts.End before follows = absurd cc
@@ -99,6 +104,13 @@ module _ (p : Progress) (lines count units : ℕ) (plugged : Bool) (is : IsReadi
       let same = sections_before p sorts.Key refl follows in
       reading_step p (with_statement p (statements.Key named)) (key_line named) (Key (key_fields named)) lines count units count units plugged plugged is
       (IsProgress-key p named is.rules follows fits.valid (others p.keys named.name fits.fresh) fits.room) (lines_read-key p named is.rules follows) (form_of-key_line named) is.plug
+      (is.op_count ∙ ap (λ (t : List (List Op)). sum_by length t) same) (is.unit_count ∙ ap (λ (t : List (List Op)). sum_by unit_count_of_section t) same)
+
+  pub reading_fault : (fault : ℕ × ℕ) → may_follow p.last sorts.Fault ≡ true → FitsFault p fault → IsReading (with_statement p (statements.Fault fault)) (lines + 1) plugged count units
+  reading_fault fault follows fits =
+      let same = sections_before p sorts.Fault refl follows in
+      reading_step p (with_statement p (statements.Fault fault)) (fault_line fault) (Fault (fault_fields fault)) lines count units count units plugged plugged is
+      (IsProgress-fault p fault is.rules follows fits.valid fits.ascends fits.room) (lines_read-fault p fault is.rules follows) (form_of-fault_line fault) is.plug
       (is.op_count ∙ ap (λ (t : List (List Op)). sum_by length t) same) (is.unit_count ∙ ap (λ (t : List (List Op)). sum_by unit_count_of_section t) same)
 
   pub may_plug : (op : Op) → FitsOp p op → IsSome (open_after plugged (op ∷ []))
@@ -139,6 +151,7 @@ module _ (p : Progress) (lines count units : ℕ) (plugged : Bool) (is : IsReadi
   reading_ended sorts.Disk ends follows closed room = absurd ends
   reading_ended sorts.Fallback ends follows closed room = absurd ends
   reading_ended sorts.Key ends follows closed room = absurd ends
+  reading_ended sorts.Fault ends follows closed room = absurd ends
   reading_ended sorts.Operation ends follows closed room = absurd ends
 
 -- outside a section there are no operations
@@ -146,11 +159,12 @@ pub no_section : (p : Progress) → IsProgress p → is_in_section p.last ≡ fa
 no_section p is out = at p.last out is.at
   where
     at : (last : Option Sort) → is_in_section last ≡ false → IsAt last p → p.section ≡ []
-    at None out h = h.2
-    at (Some sorts.Version) out h = h.2
-    at (Some sorts.Disk) out h = h.3
-    at (Some sorts.Fallback) out h = h.3
-    at (Some sorts.Key) out h = h.3
+    at None out h = h.3
+    at (Some sorts.Version) out h = h.3
+    at (Some sorts.Disk) out h = h.4
+    at (Some sorts.Fallback) out h = h.4
+    at (Some sorts.Key) out h = h.4
+    at (Some sorts.Fault) out h = h.3
     at (Some sorts.Thread) out h = h.1
     at (Some sorts.Operation) out h = absurd cc
     at (Some sorts.End) out h = h.1
@@ -178,9 +192,9 @@ module _ (p : Progress) (is : IsProgress p) where
 
   took_statement : (statement : Statement) → may_follow p.last (sort_of_statement statement) ≡ true → Fits p statement → TookStatement statement
   took_statement statements.Version follows fits =
-      taken statements.Version Version refl (error_at-passed p version_line Version is (is_built p.last _ _ refl refl refl) refl follows refl) (lines_read-version p is follows)
+      taken statements.Version Version refl (error_at-passed p version_line Version is (is_built p.last _ _ refl refl) refl follows refl) (lines_read-version p is follows)
   took_statement (statements.Disk blocks) follows fits =
-      taken (statements.Disk blocks) _ refl (error_at-passed p (disk_line blocks) _ is (is_built p.last _ _ refl refl refl) refl follows (disk_passed (forms_read p) blocks fits)) (lines_read-disk p blocks is follows)
+      taken (statements.Disk blocks) _ refl (error_at-passed p (disk_line blocks) _ is (is_built p.last _ _ refl refl) refl follows (disk_passed (forms_read p) blocks fits)) (lines_read-disk p blocks is follows)
   took_statement statements.Fallback follows fits = taken statements.Fallback Fallback refl (error_at-passed p (fallback_line true) Fallback is (fallback_built p.last) refl follows refl) (lines_read-fallback p is follows)
     where
       fallback_built : (last : Option Sort) → is_unbuilt last (fallback_line true) ≡ false
@@ -189,21 +203,26 @@ module _ (p : Progress) (is : IsProgress p) where
       fallback_built (Some sorts.Disk) = refl
       fallback_built (Some sorts.Fallback) = refl
       fallback_built (Some sorts.Key) = refl
+      fallback_built (Some sorts.Fault) = refl
       fallback_built (Some sorts.Thread) = refl
       fallback_built (Some sorts.Operation) = refl
       fallback_built (Some sorts.End) = refl
   took_statement (statements.Key named) follows fits =
       taken (statements.Key named) (Key (key_fields named)) (form_of-key_line named)
-      (error_at-passed p (key_line named) (Key (key_fields named)) is (is_built p.last _ _ refl refl refl) (form_of-key_line named) follows (key_passed p named is fits.valid (others p.keys named.name fits.fresh) fits.room))
+      (error_at-passed p (key_line named) (Key (key_fields named)) is (is_built p.last _ _ refl refl) (form_of-key_line named) follows (key_passed p named is fits.valid (others p.keys named.name fits.fresh) fits.room))
       (lines_read-key p named is follows)
+  took_statement (statements.Fault fault) follows fits =
+      taken (statements.Fault fault) (Fault (fault_fields fault)) (form_of-fault_line fault)
+      (error_at-passed p (fault_line fault) (Fault (fault_fields fault)) is (is_built p.last _ _ refl refl) (form_of-fault_line fault) follows (fault_passed p fault is fits.valid fits.ascends fits.room))
+      (lines_read-fault p fault is follows)
   took_statement statements.Thread follows fits =
-      taken statements.Thread Thread refl (error_at-passed p thread_line Thread is (is_built p.last _ _ refl refl refl) refl follows (thread_passed p is fits.0 fits.1)) (lines_read-thread p is follows)
+      taken statements.Thread Thread refl (error_at-passed p thread_line Thread is (is_built p.last _ _ refl refl) refl follows (thread_passed p is fits.0 fits.1)) (lines_read-thread p is follows)
   took_statement (statements.Operation op) follows fits =
       taken (statements.Operation op) (op_form p.keys op) (form_of-op_line p.keys op is.keys fits.valid)
       (error_at-passed p (op_line p.keys op) (op_form p.keys op) is (op_built p.last p.keys op follows) (form_of-op_line p.keys op is.keys fits.valid) (op_sorted p.last p.keys op ∙ follows)
       (op_passed p op is fits.valid fits.plugs fits.room fits.units))
       (lines_read-op p op is follows)
-  took_statement statements.End follows fits = taken statements.End End refl (error_at-passed p end_line End is (is_built p.last _ _ refl refl refl) refl follows (end_passed p is fits)) (lines_read-end p is follows)
+  took_statement statements.End follows fits = taken statements.End End refl (error_at-passed p end_line End is (is_built p.last _ _ refl refl) refl follows (end_passed p is fits)) (lines_read-end p is follows)
 
 pub took : (p : Progress) (line : TextLine) (statement : Statement) (q : Progress) → IsNext p line statement → q ≡ with_statement p statement → Took p line q
 took p line statement q next same =
@@ -224,7 +243,7 @@ module _ (p : Progress) (is : IsProgress p) (rest : TextLine) (last : Option Sor
 
 -- what has been read when the last line has been read
 abbrev pub script_read : Progress → Script
-script_read p = record { blocks = p.blocks; fallback = true; keys = p.keys; faults = []; threads = p.threads }
+script_read p = record { blocks = p.blocks; fallback = true; keys = p.keys; faults = p.faults; threads = p.threads }
 
 module _ (p : Progress) (is : IsProgress p) (last : p.last ≡ Some sorts.End) where
   all_sections : sections_read p ≡ p.threads
@@ -237,7 +256,7 @@ module _ (p : Progress) (is : IsProgress p) (last : p.last ≡ Some sorts.End) w
         blocks = at.0;
         fallback = refl;
         keys = is.keys;
-        faults = refl;
+        faults = is.faults;
         threads = record {
           count = subst (λ (t : List (List Op)). length t ≤ max_threads) all_sections is.few_threads;
           each = is.threads;
@@ -248,8 +267,8 @@ module _ (p : Progress) (is : IsProgress p) (last : p.last ≡ Some sorts.End) w
 
   pub all_lines : script_lines (script_read p) ≡ lines_read p
   all_lines =
-      sym (ap (λ (l : Option Sort). head_read l p.blocks ++ (map key_line p.keys ++ (flat_map (section_lines p.keys) (p.threads ++ with_section (is_in_section l) p.section) ++ end_read l))) last
-      ∙ ap (λ (t : List (List Op)). (version_line ∷ disk_line p.blocks ∷ fallback_line true ∷ []) ++ (map key_line p.keys ++ (flat_map (section_lines p.keys) t ++ end_line ∷ []))) (append-nil p.threads))
+      sym (ap (λ (l : Option Sort). head_read l p.blocks ++ (map key_line p.keys ++ (map fault_line p.faults ++ (flat_map (section_lines p.keys) (p.threads ++ with_section (is_in_section l) p.section) ++ end_read l)))) last
+      ∙ ap (λ (t : List (List Op)). (version_line ∷ disk_line p.blocks ∷ fallback_line true ∷ []) ++ (map key_line p.keys ++ (map fault_line p.faults ++ (flat_map (section_lines p.keys) t ++ end_line ∷ [])))) (append-nil p.threads))
 
 pub and_both : (a b : Bool) → a ≡ true → b ≡ true → (a && b) ≡ true
 and_both a b p q = λ i. p i && q i

@@ -16,17 +16,18 @@ use Rattle.bc_script.specs.declared.script_error.ScriptWhy.{ScriptWhy}
 use Rattle.bc_script.specs.declared.script_error.ScriptWhy.TheVariants as why
 use Rattle.bc_script.specs.declared.reader.line.BioFields.{BioFields}
 use Rattle.bc_script.specs.Name.{is_name}
-use Rattle.bc_script.specs.Script.{bare_keys, unit_count_of_section, max_keys, max_threads, max_ops, max_units, max_bio_units, max_bio_sectors}
+use Rattle.bc_script.specs.Script.{bare_keys, unit_count_of_section, max_keys, max_faults, last_shard, last_access, max_threads, max_ops, max_units, max_bio_units, max_bio_sectors}
 use Rattle.bc_script.specs.ScriptText.{dash}
-use Rattle.bc_script.specs.Forms.{Form, KeyForm, BioForm, TextForm, form_of, sort_of}
+use Rattle.bc_script.specs.Forms.{Form, KeyForm, FaultForm, BioForm, TextForm, form_of, sort_of}
 use Rattle.bc_script.specs.Order.{may_follow, is_unbuilt}
-use Rattle.bc_script.specs.ScriptErrors.{Why, first_of, number_test, is_number, is_number_text, is_hex_text, is_text, number_in, bytes_in, is_key, is_thread, is_operation, is_declared, sectors_under, is_open, key_refused, key_test, key_tests, op_limit, bio_limits, bio_tests, size_of, tests_of, is_end, last_sort, error_of_form, error_at}
+use Rattle.bc_script.specs.ScriptErrors.{Why, first_of, number_test, is_number, is_number_text, is_hex_text, is_text, number_in, bytes_in, is_key, is_fault, is_thread, is_operation, is_declared, sectors_under, is_open, key_refused, key_test, key_tests, fault_tests, ascends, op_limit, bio_limits, bio_tests, size_of, tests_of, is_end, last_sort, error_of_form, error_at}
 use Rattle.bc_script.specs.Progress.{Progress, IsProgress, forms_read, sections_read}
 use Rattle.bc_script.specs.NamedKeys.{IsNamed, IsNoName}
-use Rattle.bc_script.specs.Statements.{Reports, Refuses}
+use Rattle.bc_script.specs.Statements.{Reports, Refuses, is_after}
+use Rattle.bc_script.specs.Says.{SaysNumber}
 use Rattle.bc_script.specs.BioFields.{SaysKey, SaysNumberField, SaysBio}
 use Rattle.bc_script.specs.Reading.{IsReading}
-use Rattle.bc_script.proofs.Above.{keys-read, threads-read, operations-read, units-read, last_sort-read, is_open-read, is_declared-read, is_declared-none, sectors_under-read}
+use Rattle.bc_script.proofs.Above.{keys-read, faults-read, threads-read, operations-read, units-read, last_sort-read, is_open-read, ascends-read, is_declared-read, is_declared-none, sectors_under-read}
 
 -- ---- one test
 
@@ -207,6 +208,41 @@ module _ (above : List Form) (key : KeyForm) where
         ∙ ap (λ (o : Option KeyError). key_test (option_map (λ error. why.Key error) o) limit_left) (sym same_key ∙ e)
         ∙ fails (nat_lt (count_by is_key above) max_keys) why.Limit None
         (ap (λ (fs : List Form). nat_lt (count_by is_key fs) max_keys) forms ∙ ap (λ (n : ℕ). nat_lt n max_keys) (keys-read p is ∙ sym same) ∙ at_least count max_keys many)
+
+-- ---- a planned fault's line
+
+module _ (above : List Form) (fault : FaultForm) where
+  abbrev fault_limit_left : Why
+  fault_limit_left = first_of (nat_lt (count_by is_fault above) max_faults) why.Limit None
+
+  abbrev order_left : Why
+  order_left = first_of (ascends above fault) why.Order fault_limit_left
+
+  abbrev access_left : Why
+  access_left = number_test 0 last_access fault.access order_left
+
+  past_shard : is_number 0 last_shard fault.shard ≡ true → fault_tests above fault ≡ access_left
+  past_shard s = goes_on (is_number 0 last_shard fault.shard) why.Number access_left s
+
+  past_access : is_number 0 last_shard fault.shard ≡ true → is_number 0 last_access fault.access ≡ true → fault_tests above fault ≡ order_left
+  past_access s a = past_shard s ∙ goes_on (is_number 0 last_access fault.access) why.Number order_left a
+
+  pub fault_access_refused : (e : Unread) → is_number 0 last_shard fault.shard ≡ true → Refuses (is_number 0 last_access fault.access) why.Number e → Reports (fault_tests above fault) e
+  fault_access_refused e s r = tells (fault_tests above fault) access_left e (past_shard s) (refused (is_number 0 last_access fault.access) why.Number order_left e r)
+
+module _ (p : Progress) (fault : FaultForm) (shard access : ℕ) (after : Bool) (is : IsProgress p) (says_shard : SaysNumber 0 last_shard fault.shard shard) (says_access : SaysNumber 0 last_access fault.access access)
+    (test : after ≡ is_after p.faults (shard, access)) where
+  pub after_is : ascends (forms_read p) fault ≡ after
+  after_is = ascends-read p fault is ∙ (λ i. is_after p.faults (sym says_shard.value i, sym says_access.value i)) ∙ sym test
+
+  pub fault_out_of_order : after ≡ false → fault_tests (forms_read p) fault ≡ Some why.Order
+  fault_out_of_order denied = past_access (forms_read p) fault says_shard.passes says_access.passes ∙ fails (ascends (forms_read p) fault) why.Order _ (after_is ∙ denied)
+
+  pub too_many_faults : (count : ℕ) → after ≡ true → count ≡ length p.faults → max_faults ≤ count → fault_tests (forms_read p) fault ≡ Some why.Limit
+  too_many_faults count holds same many =
+      past_access (forms_read p) fault says_shard.passes says_access.passes
+      ∙ goes_on (ascends (forms_read p) fault) why.Order _ (after_is ∙ holds)
+      ∙ fails (nat_lt (count_by is_fault (forms_read p)) max_faults) why.Limit None (ap (λ (n : ℕ). nat_lt n max_faults) (faults-read p is ∙ sym same) ∙ at_least count max_faults many)
 
 -- ---- the fields of a bio
 

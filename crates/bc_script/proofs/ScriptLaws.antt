@@ -10,10 +10,10 @@ use Rattle.bc_text.proofs.Sorts.{same_reading}
 use Rattle.bc_script.specs.declared.named_key.NamedKey.{NamedKey}
 use Rattle.bc_script.specs.declared.op.Op.{Op}
 use Rattle.bc_script.specs.declared.op.Op.TheVariants as ops
-use Rattle.bc_script.specs.Script.{Script, IsScript, AreKeys, IsNamedKey, IsOp, IsSection, bare_keys, IsDiskSize}
+use Rattle.bc_script.specs.Script.{Script, IsScript, AreKeys, IsNamedKey, IsFault, IsOp, IsSection, bare_keys, IsDiskSize}
 use Rattle.bc_script.specs.ScriptText.{script_lines, script_text, head_lines, key_line, fault_line, op_line, section_lines, thread_line, end_line}
 use Rattle.bc_script.proofs.LineFields.{script_lines_are_lines}
-use Rattle.bc_script.proofs.LineLaws.{clash, clash_words, key_line_injective, op_line_injective}
+use Rattle.bc_script.proofs.LineLaws.{clash, clash_words, key_line_injective, fault_line_injective, op_line_injective}
 
 -- ---- sections
 
@@ -68,6 +68,23 @@ begins_no_other_sections keys are (s ∷ a) (t ∷ b) c p q e =
     let more = begins_no_other_sections keys are a b c p.1 q.1 same.1 in
     (λ i. same.0 i ∷ more.0 i, more.1)
 
+-- ---- planned faults
+
+-- the lines of faults and of what follows them, and what stands behind that
+abbrev faults_and_rest : List NamedKey → List (ℕ × ℕ) → List (List Op) → List TextLine → List TextLine
+faults_and_rest keys faults threads rest = map fault_line faults ++ sections_and_end keys threads rest
+
+-- the lines go on with another line than a fault's
+abbrev EndsFaults : List TextLine → Type 0
+EndsFaults lines = StartsAs (codes "fault") lines → ⊥
+
+fault_goes : (fault : ℕ × ℕ) (rest : List TextLine) → IsFault fault → EndsFaults (fault_line fault ∷ rest) → ⊥
+fault_goes fault rest valid ends = ends refl
+
+ends_faults : (keys : List NamedKey) (threads : List (List Op)) (rest : List TextLine) → EndsFaults (sections_and_end keys threads rest)
+ends_faults keys [] rest e = clash_words (codes "end") (codes "fault") refl e
+ends_faults keys (section ∷ threads) rest e = clash_words (codes "thread") (codes "fault") refl e
+
 -- ---- keys
 
 -- the lines go on with another line than a key's
@@ -77,23 +94,24 @@ EndsKeys lines = StartsAs (codes "key") lines → ⊥
 key_goes : (key : NamedKey) (rest : List TextLine) → IsNamedKey key → EndsKeys (key_line key ∷ rest) → ⊥
 key_goes key rest valid ends = ends refl
 
-ends_keys : (keys : List NamedKey) (threads : List (List Op)) (rest : List TextLine) → EndsKeys (sections_and_end keys threads rest)
-ends_keys keys [] rest e = clash_words (codes "end") (codes "key") refl e
-ends_keys keys (section ∷ threads) rest e = clash_words (codes "thread") (codes "key") refl e
+ends_keys : (keys : List NamedKey) (faults : List (ℕ × ℕ)) (threads : List (List Op)) (rest : List TextLine) → EndsKeys (faults_and_rest keys faults threads rest)
+ends_keys keys [] [] rest e = clash_words (codes "end") (codes "key") refl e
+ends_keys keys [] (section ∷ threads) rest e = clash_words (codes "thread") (codes "key") refl e
+ends_keys keys (fault ∷ faults) threads rest e = clash_words (codes "fault") (codes "key") refl e
 
 -- ---- the whole
 
--- where no fault is planned, sections stand behind the keys
 abbrev behind_head : Script → List TextLine → List TextLine
-behind_head s rest = map key_line s.keys ++ sections_and_end s.keys s.threads rest
+behind_head s rest = map key_line s.keys ++ faults_and_rest s.keys s.faults s.threads rest
 
-lines_of_script : (s : Script) (rest : List TextLine) → s.faults ≡ [] → script_lines s ++ rest ≡ head_lines s ++ behind_head s rest
-lines_of_script s rest none =
+lines_of_script : (s : Script) (rest : List TextLine) → script_lines s ++ rest ≡ head_lines s ++ behind_head s rest
+lines_of_script s rest =
     let keys = map key_line s.keys in
+    let faults = map fault_line s.faults in
     let sections = flat_map (section_lines s.keys) s.threads in
-    let no_faults : script_lines s ≡ head_lines s ++ (keys ++ (sections ++ end_line ∷ [])) = ap (λ (f : List (ℕ × ℕ)). head_lines s ++ (keys ++ (map fault_line f ++ (sections ++ end_line ∷ [])))) none in
-    ap (λ (t : List TextLine). t ++ rest) no_faults
-    ∙ ap (λ (t : List TextLine). head_lines s ++ t) (append_assoc keys (sections ++ end_line ∷ []) rest ∙ ap (λ (t : List TextLine). keys ++ t) (append_assoc sections (end_line ∷ []) rest))
+    ap (λ (t : List TextLine). head_lines s ++ t)
+    (append_assoc keys (faults ++ (sections ++ end_line ∷ [])) rest
+    ∙ ap (λ (t : List TextLine). keys ++ t) (append_assoc faults (sections ++ end_line ∷ []) rest ∙ ap (λ (t : List TextLine). faults ++ t) (append_assoc sections (end_line ∷ []) rest)))
 
 after_head : (a b : Script) (x y : List TextLine) → IsDiskSize a.blocks → IsDiskSize b.blocks → head_lines a ++ x ≡ head_lines b ++ y → (a.blocks ≡ b.blocks) × (x ≡ y)
 after_head a b x y p q e =
@@ -105,13 +123,15 @@ after_head a b x y p q e =
 
 begins_no_other : (a b : Script) (c : List TextLine) → IsScript a → IsScript b → script_lines a ++ c ≡ script_lines b ++ [] → (a ≡ b) × (c ≡ [])
 begins_no_other a b c p q e =
-    let head = after_head a b _ _ p.blocks q.blocks (sym (lines_of_script a c p.faults) ∙ e ∙ lines_of_script b [] q.faults) in
-    let keys = same_reading NamedKey key_line IsNamedKey EndsKeys key_line_injective key_goes a.keys b.keys (sections_and_end a.keys a.threads c) (sections_and_end b.keys b.threads []) p.keys.each q.keys.each (ends_keys a.keys a.threads c) (ends_keys b.keys b.threads []) head.1 in
+    let head = after_head a b _ _ p.blocks q.blocks (sym (lines_of_script a c) ∙ e ∙ lines_of_script b []) in
+    let keys = same_reading NamedKey key_line IsNamedKey EndsKeys key_line_injective key_goes a.keys b.keys (faults_and_rest a.keys a.faults a.threads c) (faults_and_rest b.keys b.faults b.threads []) p.keys.each q.keys.each
+    (ends_keys a.keys a.faults a.threads c) (ends_keys b.keys b.faults b.threads []) head.1 in
+    let faults = same_reading (ℕ × ℕ) fault_line IsFault EndsFaults fault_line_injective fault_goes a.faults b.faults (sections_and_end a.keys a.threads c) (sections_and_end b.keys b.threads []) p.faults.each q.faults.each
+    (ends_faults a.keys a.threads c) (ends_faults b.keys b.threads []) keys.1 in
     let others : AllByRecursion (IsSection (bare_keys a.keys)) b.threads = subst (λ (ks : List NamedKey). AllByRecursion (IsSection (bare_keys ks)) b.threads) (sym keys.0) q.threads.each in
-    let threads = begins_no_other_sections a.keys p.keys a.threads b.threads c p.threads.each others (keys.1 ∙ ap (λ (ks : List NamedKey). sections_and_end ks b.threads []) (sym keys.0)) in
+    let threads = begins_no_other_sections a.keys p.keys a.threads b.threads c p.threads.each others (faults.1 ∙ ap (λ (ks : List NamedKey). sections_and_end ks b.threads []) (sym keys.0)) in
     let fallback = p.fallback ∙ sym q.fallback in
-    let faults = p.faults ∙ sym q.faults in
-    (λ i. record { blocks = head.0 i; fallback = fallback i; keys = keys.0 i; faults = faults i; threads = threads.0 i }, threads.1)
+    (λ i. record { blocks = head.0 i; fallback = fallback i; keys = keys.0 i; faults = faults.0 i; threads = threads.0 i }, threads.1)
 
 pub no_text_begins_another : (a b : Script) (more : List ℕ) → IsScript a → IsScript b → script_text a ++ more ≡ script_text b → (a ≡ b) × (more ≡ [])
 no_text_begins_another a b more p q e =

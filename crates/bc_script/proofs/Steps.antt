@@ -11,16 +11,18 @@ use Rattle.bc_script.specs.declared.named_key.NamedKey.{NamedKey}
 use Rattle.bc_script.specs.declared.op.Op.{Op}
 use Rattle.bc_script.specs.declared.sort.Sort.{Sort}
 use Rattle.bc_script.specs.declared.sort.Sort.TheVariants as sorts
-use Rattle.bc_script.specs.Script.{IsDiskSize, AreKeys, IsNamedKey, IsOp, IsSection, bare_keys, open_after, unit_count, unit_count_of_section, max_keys, max_threads, max_ops, max_units}
-use Rattle.bc_script.specs.ScriptText.{version_line, disk_line, fallback_line, key_line, thread_line, op_line, section_lines, end_line}
+use Rattle.bc_script.specs.Script.{IsDiskSize, AreKeys, IsNamedKey, IsFault, IsOp, IsSection, bare_keys, open_after, unit_count, unit_count_of_section, max_keys, max_faults, max_threads, max_ops, max_units}
+use Rattle.bc_script.specs.ScriptText.{version_line, disk_line, fallback_line, key_line, fault_line, thread_line, op_line, section_lines, end_line}
 use Rattle.bc_script.specs.Order.{may_follow}
 use Rattle.bc_script.specs.Progress.{Progress, IsProgress, IsAt, head_read, with_section, is_in_section, end_read, lines_read, sections_read}
+use Rattle.bc_script.specs.Statements.{is_after}
 use Rattle.bc_script.proofs.Onto.{map-append, AllByRecursion-append}
+use Rattle.bc_script.proofs.Faults.{no_faults, AreFaults-push}
 
 -- ---- what has been read
 
 abbrev pub nothing_read : Progress
-nothing_read = record { last = None; blocks = 0; keys = []; threads = []; section = [] }
+nothing_read = record { last = None; blocks = 0; keys = []; faults = []; threads = []; section = [] }
 
 abbrev pub with_version : Progress → Progress
 with_version p = record p { last = Some sorts.Version }
@@ -34,20 +36,24 @@ with_fallback p = record p { last = Some sorts.Fallback }
 abbrev pub with_key : Progress → NamedKey → Progress
 with_key p named = record p { last = Some sorts.Key; keys = p.keys ++ named ∷ [] }
 
+abbrev pub with_fault : Progress → ℕ × ℕ → Progress
+with_fault p fault = record p { last = Some sorts.Fault; faults = p.faults ++ fault ∷ [] }
+
 abbrev pub with_op : Progress → Op → Progress
 with_op p op = record p { last = Some sorts.Operation; section = p.section ++ op ∷ [] }
 
 -- the section that is being read has ended, with a line of this sort
 abbrev pub with_section_ended : Progress → Sort → Progress
-with_section_ended p sort = record { last = Some sort; blocks = p.blocks; keys = p.keys; threads = sections_read p; section = [] }
+with_section_ended p sort = record { last = Some sort; blocks = p.blocks; keys = p.keys; faults = p.faults; threads = sections_read p; section = [] }
 
 -- ---- the first three lines
 
-head_only : (last : Option Sort) (blocks : ℕ) (keys : List NamedKey) (threads : List (List Op)) (section : List Op) → keys ≡ [] → threads ≡ [] → is_in_section last ≡ false → end_read last ≡ []
-    → lines_read (record { last = last; blocks = blocks; keys = keys; threads = threads; section = section }) ≡ head_read last blocks
-head_only last blocks (k ∷ ks) threads section none_keys none outside unended = absurd cc
-head_only last blocks [] (t ∷ ts) section none_keys none outside unended = absurd cc
-head_only last blocks [] [] section none_keys none outside unended =
+head_only : (last : Option Sort) (blocks : ℕ) (keys : List NamedKey) (faults : List (ℕ × ℕ)) (threads : List (List Op)) (section : List Op) → keys ≡ [] → faults ≡ [] → threads ≡ [] → is_in_section last ≡ false → end_read last ≡ []
+    → lines_read (record { last = last; blocks = blocks; keys = keys; faults = faults; threads = threads; section = section }) ≡ head_read last blocks
+head_only last blocks (k ∷ ks) faults threads section none_keys none_faults none outside unended = absurd cc
+head_only last blocks [] (f ∷ fs) threads section none_keys none_faults none outside unended = absurd cc
+head_only last blocks [] [] (t ∷ ts) section none_keys none_faults none outside unended = absurd cc
+head_only last blocks [] [] [] section none_keys none_faults none outside unended =
     ap (λ (b : Bool). head_read last blocks ++ (flat_map (section_lines []) (with_section b section) ++ end_read last)) outside
     ∙ ap (λ (e : List TextLine). head_read last blocks ++ e) unended
     ∙ append-nil (head_read last blocks)
@@ -59,6 +65,7 @@ behind_none (Some sorts.Version) h = absurd cc
 behind_none (Some sorts.Disk) h = absurd cc
 behind_none (Some sorts.Fallback) h = absurd cc
 behind_none (Some sorts.Key) h = absurd cc
+behind_none (Some sorts.Fault) h = absurd cc
 behind_none (Some sorts.Thread) h = absurd cc
 behind_none (Some sorts.Operation) h = absurd cc
 behind_none (Some sorts.End) h = absurd cc
@@ -69,6 +76,7 @@ behind_version (Some sorts.Version) h = refl
 behind_version (Some sorts.Disk) h = absurd cc
 behind_version (Some sorts.Fallback) h = absurd cc
 behind_version (Some sorts.Key) h = absurd cc
+behind_version (Some sorts.Fault) h = absurd cc
 behind_version (Some sorts.Thread) h = absurd cc
 behind_version (Some sorts.Operation) h = absurd cc
 behind_version (Some sorts.End) h = absurd cc
@@ -79,21 +87,23 @@ behind_disk (Some sorts.Version) h = absurd cc
 behind_disk (Some sorts.Disk) h = refl
 behind_disk (Some sorts.Fallback) h = absurd cc
 behind_disk (Some sorts.Key) h = absurd cc
+behind_disk (Some sorts.Fault) h = absurd cc
 behind_disk (Some sorts.Thread) h = absurd cc
 behind_disk (Some sorts.Operation) h = absurd cc
 behind_disk (Some sorts.End) h = absurd cc
 
--- the rules of a progress that has no keys and no sections
+-- the rules of a progress that has no keys, no faults and no sections
 no_keys : AreKeys []
 no_keys = record { count = omega arith; each = tt; names = λ i j d lt within. omega arith }
 
--- the same keys and no sections yet
-bare : (p : Progress) → p.keys ≡ [] → p.threads ≡ [] → p.section ≡ [] → (last : Option Sort) (blocks : ℕ) → is_in_section last ≡ false
-    → IsAt last (record { last = last; blocks = blocks; keys = []; threads = []; section = [] })
+-- no keys, no faults and no sections yet
+bare : (p : Progress) → p.keys ≡ [] → p.faults ≡ [] → p.threads ≡ [] → p.section ≡ [] → (last : Option Sort) (blocks : ℕ) → is_in_section last ≡ false
+    → IsAt last (record { last = last; blocks = blocks; keys = []; faults = []; threads = []; section = [] })
     → IsProgress (record p { last = last; blocks = blocks })
-bare p keys threads section last blocks outside at = subst IsProgress (sym same) (record {
+bare p keys faults threads section last blocks outside at = subst IsProgress (sym same) (record {
   at = at;
   keys = no_keys;
+  faults = no_faults;
   threads = tt;
   section = tt;
   plugs = refl;
@@ -102,47 +112,47 @@ bare p keys threads section last blocks outside at = subst IsProgress (sym same)
   few_units = subst (λ (b : Bool). sum_by unit_count_of_section (with_section b []) ≤ max_units) (sym outside) (omega arith);
 })
   where
-    same : record p { last = last; blocks = blocks } ≡ record { last = last; blocks = blocks; keys = []; threads = []; section = [] }
-    same = λ i. record { last = last; blocks = blocks; keys = keys i; threads = threads i; section = section i }
+    same : record p { last = last; blocks = blocks } ≡ record { last = last; blocks = blocks; keys = []; faults = []; threads = []; section = [] }
+    same = λ i. record { last = last; blocks = blocks; keys = keys i; faults = faults i; threads = threads i; section = section i }
 
 pub IsProgress-nothing_read : IsProgress nothing_read
-IsProgress-nothing_read = bare nothing_read refl refl refl None 0 refl (refl, refl, refl)
+IsProgress-nothing_read = bare nothing_read refl refl refl refl None 0 refl (refl, refl, refl, refl)
 
 pub IsProgress-version : (p : Progress) → IsProgress p → may_follow p.last sorts.Version ≡ true → IsProgress (with_version p)
 IsProgress-version p is follows =
     let at = subst (λ (last : Option Sort). IsAt last p) (behind_none p.last follows) is.at in
-    bare p at.0 at.1 at.2 (Some sorts.Version) p.blocks refl (refl, refl, refl)
+    bare p at.0 at.1 at.2 at.3 (Some sorts.Version) p.blocks refl (refl, refl, refl, refl)
 
 pub lines_read-version : (p : Progress) → IsProgress p → may_follow p.last sorts.Version ≡ true → lines_read (with_version p) ≡ lines_read p ++ version_line ∷ []
 lines_read-version p is follows =
     let last = behind_none p.last follows in
     let at = subst (λ (last : Option Sort). IsAt last p) last is.at in
-    let before : lines_read p ≡ [] = head_only p.last p.blocks p.keys p.threads p.section at.0 at.1 (ap is_in_section last) (ap end_read last) ∙ ap (λ (l : Option Sort). head_read l p.blocks) last in
-    head_only (Some sorts.Version) p.blocks p.keys p.threads p.section at.0 at.1 refl refl ∙ sym (ap (λ (ls : List TextLine). ls ++ version_line ∷ []) before)
+    let before : lines_read p ≡ [] = head_only p.last p.blocks p.keys p.faults p.threads p.section at.0 at.1 at.2 (ap is_in_section last) (ap end_read last) ∙ ap (λ (l : Option Sort). head_read l p.blocks) last in
+    head_only (Some sorts.Version) p.blocks p.keys p.faults p.threads p.section at.0 at.1 at.2 refl refl ∙ sym (ap (λ (ls : List TextLine). ls ++ version_line ∷ []) before)
 
 pub IsProgress-disk : (p : Progress) (blocks : ℕ) → IsProgress p → may_follow p.last sorts.Disk ≡ true → IsDiskSize blocks → IsProgress (with_disk p blocks)
 IsProgress-disk p blocks is follows size =
     let at = subst (λ (last : Option Sort). IsAt last p) (behind_version p.last follows) is.at in
-    bare p at.0 at.1 at.2 (Some sorts.Disk) blocks refl (size, refl, refl, refl)
+    bare p at.0 at.1 at.2 at.3 (Some sorts.Disk) blocks refl (size, refl, refl, refl, refl)
 
 pub lines_read-disk : (p : Progress) (blocks : ℕ) → IsProgress p → may_follow p.last sorts.Disk ≡ true → lines_read (with_disk p blocks) ≡ lines_read p ++ disk_line blocks ∷ []
 lines_read-disk p blocks is follows =
     let last = behind_version p.last follows in
     let at = subst (λ (last : Option Sort). IsAt last p) last is.at in
-    let before : lines_read p ≡ version_line ∷ [] = head_only p.last p.blocks p.keys p.threads p.section at.0 at.1 (ap is_in_section last) (ap end_read last) ∙ ap (λ (l : Option Sort). head_read l p.blocks) last in
-    head_only (Some sorts.Disk) blocks p.keys p.threads p.section at.0 at.1 refl refl ∙ sym (ap (λ (ls : List TextLine). ls ++ disk_line blocks ∷ []) before)
+    let before : lines_read p ≡ version_line ∷ [] = head_only p.last p.blocks p.keys p.faults p.threads p.section at.0 at.1 at.2 (ap is_in_section last) (ap end_read last) ∙ ap (λ (l : Option Sort). head_read l p.blocks) last in
+    head_only (Some sorts.Disk) blocks p.keys p.faults p.threads p.section at.0 at.1 at.2 refl refl ∙ sym (ap (λ (ls : List TextLine). ls ++ disk_line blocks ∷ []) before)
 
 pub IsProgress-fallback : (p : Progress) → IsProgress p → may_follow p.last sorts.Fallback ≡ true → IsProgress (with_fallback p)
 IsProgress-fallback p is follows =
     let at = subst (λ (last : Option Sort). IsAt last p) (behind_disk p.last follows) is.at in
-    bare p at.1 at.2 at.3 (Some sorts.Fallback) p.blocks refl (at.0, refl, refl, refl)
+    bare p at.1 at.2 at.3 at.4 (Some sorts.Fallback) p.blocks refl (at.0, refl, refl, refl, refl)
 
 pub lines_read-fallback : (p : Progress) → IsProgress p → may_follow p.last sorts.Fallback ≡ true → lines_read (with_fallback p) ≡ lines_read p ++ fallback_line true ∷ []
 lines_read-fallback p is follows =
     let last = behind_disk p.last follows in
     let at = subst (λ (last : Option Sort). IsAt last p) last is.at in
-    let before : lines_read p ≡ version_line ∷ disk_line p.blocks ∷ [] = head_only p.last p.blocks p.keys p.threads p.section at.1 at.2 (ap is_in_section last) (ap end_read last) ∙ ap (λ (l : Option Sort). head_read l p.blocks) last in
-    head_only (Some sorts.Fallback) p.blocks p.keys p.threads p.section at.1 at.2 refl refl ∙ sym (ap (λ (ls : List TextLine). ls ++ fallback_line true ∷ []) before)
+    let before : lines_read p ≡ version_line ∷ disk_line p.blocks ∷ [] = head_only p.last p.blocks p.keys p.faults p.threads p.section at.1 at.2 at.3 (ap is_in_section last) (ap end_read last) ∙ ap (λ (l : Option Sort). head_read l p.blocks) last in
+    head_only (Some sorts.Fallback) p.blocks p.keys p.faults p.threads p.section at.1 at.2 at.3 refl refl ∙ sym (ap (λ (ls : List TextLine). ls ++ fallback_line true ∷ []) before)
 
 -- ---- behind the first three lines
 
@@ -158,6 +168,7 @@ behind_head (Some sorts.Version) h = absurd cc
 behind_head (Some sorts.Disk) h = absurd cc
 behind_head (Some sorts.Fallback) h = record { head = λ blocks. refl; unended = refl; size = λ p at. at.0 }
 behind_head (Some sorts.Key) h = record { head = λ blocks. refl; unended = refl; size = λ p at. at.0 }
+behind_head (Some sorts.Fault) h = record { head = λ blocks. refl; unended = refl; size = λ p at. at.0 }
 behind_head (Some sorts.Thread) h = record { head = λ blocks. refl; unended = refl; size = λ p at. at.0 }
 behind_head (Some sorts.Operation) h = record { head = λ blocks. refl; unended = refl; size = λ p at. at.0 }
 behind_head (Some sorts.End) h = absurd cc
@@ -169,26 +180,44 @@ thread_or_end (Some sorts.Version) = refl
 thread_or_end (Some sorts.Disk) = refl
 thread_or_end (Some sorts.Fallback) = refl
 thread_or_end (Some sorts.Key) = refl
+thread_or_end (Some sorts.Fault) = refl
 thread_or_end (Some sorts.Thread) = refl
 thread_or_end (Some sorts.Operation) = refl
 thread_or_end (Some sorts.End) = refl
 
--- a key stands behind the first three lines and other keys, so there are no sections yet
+-- a planned fault stands behind the first three lines, keys and other faults, so there are no sections yet
 record IsBeforeSections (last : Option Sort) : Type 0 where
   ends : may_follow last sorts.End ≡ true
   outside : is_in_section last ≡ false
   threads : (p : Progress) → IsAt last p → p.threads ≡ []
   section : (p : Progress) → IsAt last p → p.section ≡ []
 
-before_sections : (last : Option Sort) → may_follow last sorts.Key ≡ true → IsBeforeSections last
+before_sections : (last : Option Sort) → may_follow last sorts.Fault ≡ true → IsBeforeSections last
 before_sections None h = absurd cc
 before_sections (Some sorts.Version) h = absurd cc
 before_sections (Some sorts.Disk) h = absurd cc
-before_sections (Some sorts.Fallback) h = record { ends = refl; outside = refl; threads = λ p at. at.2; section = λ p at. at.3 }
-before_sections (Some sorts.Key) h = record { ends = refl; outside = refl; threads = λ p at. at.2; section = λ p at. at.3 }
+before_sections (Some sorts.Fallback) h = record { ends = refl; outside = refl; threads = λ p at. at.3; section = λ p at. at.4 }
+before_sections (Some sorts.Key) h = record { ends = refl; outside = refl; threads = λ p at. at.3; section = λ p at. at.4 }
+before_sections (Some sorts.Fault) h = record { ends = refl; outside = refl; threads = λ p at. at.2; section = λ p at. at.3 }
 before_sections (Some sorts.Thread) h = absurd cc
 before_sections (Some sorts.Operation) h = absurd cc
 before_sections (Some sorts.End) h = absurd cc
+
+-- where a key may stand, a fault may, and there are no faults yet
+record IsBeforeFaults (last : Option Sort) : Type 0 where
+  fault : may_follow last sorts.Fault ≡ true
+  faults : (p : Progress) → IsAt last p → p.faults ≡ []
+
+before_faults : (last : Option Sort) → may_follow last sorts.Key ≡ true → IsBeforeFaults last
+before_faults None h = absurd cc
+before_faults (Some sorts.Version) h = absurd cc
+before_faults (Some sorts.Disk) h = absurd cc
+before_faults (Some sorts.Fallback) h = record { fault = refl; faults = λ p at. at.2 }
+before_faults (Some sorts.Key) h = record { fault = refl; faults = λ p at. at.2 }
+before_faults (Some sorts.Fault) h = absurd cc
+before_faults (Some sorts.Thread) h = absurd cc
+before_faults (Some sorts.Operation) h = absurd cc
+before_faults (Some sorts.End) h = absurd cc
 
 -- an operation stands in a section
 record IsInside (last : Option Sort) : Type 0 where
@@ -201,6 +230,7 @@ inside_section (Some sorts.Version) h = absurd cc
 inside_section (Some sorts.Disk) h = absurd cc
 inside_section (Some sorts.Fallback) h = absurd cc
 inside_section (Some sorts.Key) h = absurd cc
+inside_section (Some sorts.Fault) h = absurd cc
 inside_section (Some sorts.Thread) h = record { ends = refl; inside = refl }
 inside_section (Some sorts.Operation) h = record { ends = refl; inside = refl }
 inside_section (Some sorts.End) h = absurd cc
@@ -212,16 +242,20 @@ abbrev full_head : ℕ → List TextLine
 full_head blocks = version_line ∷ disk_line blocks ∷ fallback_line true ∷ []
 
 -- the lines behind the head
-body : (p : Progress) → IsBehindHead p.last → lines_read p ≡ full_head p.blocks ++ (map key_line p.keys ++ flat_map (section_lines p.keys) (sections_read p))
+body : (p : Progress) → IsBehindHead p.last → lines_read p ≡ full_head p.blocks ++ (map key_line p.keys ++ (map fault_line p.faults ++ flat_map (section_lines p.keys) (sections_read p)))
 body p behind =
     let sections = flat_map (section_lines p.keys) (sections_read p) in
-    ap (λ (head : List TextLine). head ++ (map key_line p.keys ++ (sections ++ end_read p.last))) (behind.head p.blocks)
-    ∙ ap (λ (end : List TextLine). full_head p.blocks ++ (map key_line p.keys ++ (sections ++ end))) behind.unended
-    ∙ ap (λ (ls : List TextLine). full_head p.blocks ++ (map key_line p.keys ++ ls)) (append-nil sections)
+    ap (λ (head : List TextLine). head ++ (map key_line p.keys ++ (map fault_line p.faults ++ (sections ++ end_read p.last)))) (behind.head p.blocks)
+    ∙ ap (λ (end : List TextLine). full_head p.blocks ++ (map key_line p.keys ++ (map fault_line p.faults ++ (sections ++ end)))) behind.unended
+    ∙ ap (λ (ls : List TextLine). full_head p.blocks ++ (map key_line p.keys ++ (map fault_line p.faults ++ ls))) (append-nil sections)
 
 -- one more line behind three lists of lines
 one_more : (a b c : List TextLine) (line : TextLine) → (a ++ (b ++ c)) ++ line ∷ [] ≡ a ++ (b ++ (c ++ line ∷ []))
 one_more a b c line = append_assoc a (b ++ c) (line ∷ []) ∙ ap (λ (ls : List TextLine). a ++ ls) (append_assoc b c (line ∷ []))
+
+-- and behind four
+one_more_behind : (a b c d : List TextLine) (line : TextLine) → (a ++ (b ++ (c ++ d))) ++ line ∷ [] ≡ a ++ (b ++ (c ++ (d ++ line ∷ [])))
+one_more_behind a b c d line = one_more a b (c ++ d) line ∙ ap (λ (ls : List TextLine). a ++ (b ++ ls)) (append_assoc c d (line ∷ []))
 
 -- ---- keys
 
@@ -230,22 +264,30 @@ no_sections_yet p is before =
     ap (λ (t : List (List Op)). t ++ with_section (is_in_section p.last) p.section) (before.threads p is.at)
     ∙ ap (λ (b : Bool). with_section b p.section) before.outside
 
--- where a key may stand, there are no sections, and the end may stand
-pub no_sections : (p : Progress) → IsProgress p → may_follow p.last sorts.Key ≡ true → (sections_read p ≡ []) × (p.section ≡ []) × (may_follow p.last sorts.End ≡ true)
+-- where a key may stand, there are no faults, and a fault may stand
+pub no_faults_yet : (p : Progress) → IsProgress p → may_follow p.last sorts.Key ≡ true → (p.faults ≡ []) × (may_follow p.last sorts.Fault ≡ true)
+no_faults_yet p is follows = let before = before_faults p.last follows in (before.faults p is.at, before.fault)
+
+-- where a fault may stand, there are no sections, and the end may stand
+pub no_sections : (p : Progress) → IsProgress p → may_follow p.last sorts.Fault ≡ true → (sections_read p ≡ []) × (p.section ≡ []) × (may_follow p.last sorts.End ≡ true)
 no_sections p is follows =
     let before = before_sections p.last follows in
     (no_sections_yet p is before, before.section p is.at, before.ends)
 
 pub lines_read-key : (p : Progress) (named : NamedKey) → IsProgress p → may_follow p.last sorts.Key ≡ true → lines_read (with_key p named) ≡ lines_read p ++ key_line named ∷ []
 lines_read-key p named is follows =
-    let before = before_sections p.last follows in
+    let no_fault = no_faults_yet p is follows in
+    let before = before_sections p.last no_fault.1 in
     let sections = no_sections_yet p is before in
     let threads : p.threads ++ [] ≡ [] = append-nil p.threads ∙ before.threads p is.at in
     let keys = p.keys ++ named ∷ [] in
     let old : lines_read p ≡ full_head p.blocks ++ (map key_line p.keys ++ []) =
-    body p (behind_head p.last before.ends) ∙ ap (λ (t : List (List Op)). full_head p.blocks ++ (map key_line p.keys ++ flat_map (section_lines p.keys) t)) sections in
+    body p (behind_head p.last before.ends)
+    ∙ ap (λ (faults : List (ℕ × ℕ)). full_head p.blocks ++ (map key_line p.keys ++ (map fault_line faults ++ flat_map (section_lines p.keys) (sections_read p)))) no_fault.0
+    ∙ ap (λ (t : List (List Op)). full_head p.blocks ++ (map key_line p.keys ++ flat_map (section_lines p.keys) t)) sections in
     let new : lines_read (with_key p named) ≡ full_head p.blocks ++ (map key_line keys ++ []) =
-    ap (λ (t : List (List Op)). full_head p.blocks ++ (map key_line keys ++ (flat_map (section_lines keys) t ++ []))) threads in
+    ap (λ (faults : List (ℕ × ℕ)). full_head p.blocks ++ (map key_line keys ++ (map fault_line faults ++ (flat_map (section_lines keys) (p.threads ++ []) ++ [])))) no_fault.0
+    ∙ ap (λ (t : List (List Op)). full_head p.blocks ++ (map key_line keys ++ (flat_map (section_lines keys) t ++ []))) threads in
     new
     ∙ ap (λ (ls : List TextLine). full_head p.blocks ++ ls) (append-nil (map key_line keys) ∙ map-append key_line p.keys (named ∷ []))
     ∙ sym (ap (λ (ls : List TextLine). ls ++ key_line named ∷ []) old ∙ one_more (full_head p.blocks) (map key_line p.keys) [] (key_line named))
@@ -276,16 +318,53 @@ AreKeys-push keys named are valid fresh room = record {
 
 pub IsProgress-key : (p : Progress) (named : NamedKey) → IsProgress p → may_follow p.last sorts.Key ≡ true → IsNamedKey named → AllByRecursion (λ (key : NamedKey). key.name ≢ named.name) p.keys → length p.keys < max_keys → IsProgress (with_key p named)
 IsProgress-key p named is follows valid fresh room =
-    let before = before_sections p.last follows in
+    let no_fault = no_faults_yet p is follows in
+    let before = before_sections p.last no_fault.1 in
     let threads = before.threads p is.at in
     let section = before.section p is.at in
     let keys = p.keys ++ named ∷ [] in
     let none : p.threads ++ [] ≡ [] = append-nil p.threads ∙ threads in
     record {
-      at = ((behind_head p.last before.ends).size p is.at, omega (arith, length-append p.keys (named ∷ [])), threads, section);
+      at = ((behind_head p.last before.ends).size p is.at, omega (arith, length-append p.keys (named ∷ [])), no_fault.0, threads, section);
       keys = AreKeys-push p.keys named is.keys valid fresh room;
+      faults = is.faults;
       threads = subst (λ (t : List (List Op)). AllByRecursion (IsSection (bare_keys keys)) t) (sym threads) tt;
       section = subst (λ (t : List Op). AllByRecursion (IsOp (bare_keys keys)) t) (sym section) tt;
+      plugs = is.plugs;
+      few_threads = subst (λ (t : List (List Op)). length t ≤ max_threads) (sym none) (omega arith);
+      few_ops = subst (λ (t : List (List Op)). sum_by length t ≤ max_ops) (sym none) (omega arith);
+      few_units = subst (λ (t : List (List Op)). sum_by unit_count_of_section t ≤ max_units) (sym none) (omega arith);
+    }
+
+-- ---- planned faults
+
+pub lines_read-fault : (p : Progress) (fault : ℕ × ℕ) → IsProgress p → may_follow p.last sorts.Fault ≡ true → lines_read (with_fault p fault) ≡ lines_read p ++ fault_line fault ∷ []
+lines_read-fault p fault is follows =
+    let before = before_sections p.last follows in
+    let keys = map key_line p.keys in
+    let faults = p.faults ++ fault ∷ [] in
+    let threads : p.threads ++ [] ≡ [] = append-nil p.threads ∙ before.threads p is.at in
+    let old : lines_read p ≡ full_head p.blocks ++ (keys ++ (map fault_line p.faults ++ [])) =
+    body p (behind_head p.last before.ends)
+    ∙ ap (λ (t : List (List Op)). full_head p.blocks ++ (keys ++ (map fault_line p.faults ++ flat_map (section_lines p.keys) t))) (no_sections_yet p is before) in
+    let new : lines_read (with_fault p fault) ≡ full_head p.blocks ++ (keys ++ (map fault_line faults ++ [])) =
+    ap (λ (t : List (List Op)). full_head p.blocks ++ (keys ++ (map fault_line faults ++ (flat_map (section_lines p.keys) t ++ [])))) threads in
+    new
+    ∙ ap (λ (ls : List TextLine). full_head p.blocks ++ (keys ++ ls)) (append-nil (map fault_line faults) ∙ map-append fault_line p.faults (fault ∷ []))
+    ∙ sym (ap (λ (ls : List TextLine). ls ++ fault_line fault ∷ []) old ∙ one_more_behind (full_head p.blocks) keys (map fault_line p.faults) [] (fault_line fault))
+
+pub IsProgress-fault : (p : Progress) (fault : ℕ × ℕ) → IsProgress p → may_follow p.last sorts.Fault ≡ true → IsFault fault → is_after p.faults fault ≡ true → length p.faults < max_faults → IsProgress (with_fault p fault)
+IsProgress-fault p fault is follows valid after room =
+    let before = before_sections p.last follows in
+    let threads = before.threads p is.at in
+    let section = before.section p is.at in
+    let none : p.threads ++ [] ≡ [] = append-nil p.threads ∙ threads in
+    record {
+      at = ((behind_head p.last before.ends).size p is.at, omega (arith, length-append p.faults (fault ∷ [])), threads, section);
+      keys = is.keys;
+      faults = AreFaults-push p.faults fault is.faults valid after room;
+      threads = is.threads;
+      section = is.section;
       plugs = is.plugs;
       few_threads = subst (λ (t : List (List Op)). length t ≤ max_threads) (sym none) (omega arith);
       few_ops = subst (λ (t : List (List Op)). sum_by length t ≤ max_ops) (sym none) (omega arith);
@@ -299,15 +378,15 @@ lines_read-thread p is follows =
     let lines = section_lines p.keys in
     let sections = flat_map lines (sections_read p) in
     let new : flat_map lines (sections_read p ++ [] ∷ []) ++ [] ≡ sections ++ thread_line ∷ [] = append-nil (flat_map lines (sections_read p ++ [] ∷ [])) ∙ flat_map-append lines (sections_read p) ([] ∷ []) in
-    ap (λ (ls : List TextLine). full_head p.blocks ++ (map key_line p.keys ++ ls)) new
-    ∙ sym (ap (λ (ls : List TextLine). ls ++ thread_line ∷ []) (body p (behind_head p.last (sym (thread_or_end p.last) ∙ follows))) ∙ one_more (full_head p.blocks) (map key_line p.keys) sections thread_line)
+    ap (λ (ls : List TextLine). full_head p.blocks ++ (map key_line p.keys ++ (map fault_line p.faults ++ ls))) new
+    ∙ sym (ap (λ (ls : List TextLine). ls ++ thread_line ∷ []) (body p (behind_head p.last (sym (thread_or_end p.last) ∙ follows))) ∙ one_more_behind (full_head p.blocks) (map key_line p.keys) (map fault_line p.faults) sections thread_line)
 
 pub lines_read-end : (p : Progress) → IsProgress p → may_follow p.last sorts.End ≡ true → lines_read (with_section_ended p sorts.End) ≡ lines_read p ++ end_line ∷ []
 lines_read-end p is follows =
     let lines = section_lines p.keys in
     let sections = flat_map lines (sections_read p) in
-    ap (λ (t : List (List Op)). full_head p.blocks ++ (map key_line p.keys ++ (flat_map lines t ++ end_line ∷ []))) (append-nil (sections_read p))
-    ∙ sym (ap (λ (ls : List TextLine). ls ++ end_line ∷ []) (body p (behind_head p.last follows)) ∙ one_more (full_head p.blocks) (map key_line p.keys) sections end_line)
+    ap (λ (t : List (List Op)). full_head p.blocks ++ (map key_line p.keys ++ (map fault_line p.faults ++ (flat_map lines t ++ end_line ∷ [])))) (append-nil (sections_read p))
+    ∙ sym (ap (λ (ls : List TextLine). ls ++ end_line ∷ []) (body p (behind_head p.last follows)) ∙ one_more_behind (full_head p.blocks) (map key_line p.keys) (map fault_line p.faults) sections end_line)
 
 pub lines_read-op : (p : Progress) (op : Op) → IsProgress p → may_follow p.last sorts.Operation ≡ true → lines_read (with_op p op) ≡ lines_read p ++ op_line p.keys op ∷ []
 lines_read-op p op is follows =
@@ -322,8 +401,9 @@ lines_read-op p op is follows =
     ∙ ap (λ (ls : List TextLine). threads ++ thread_line ∷ ls) (map-append (op_line p.keys) p.section (op ∷ []))
     ∙ sym (append_assoc threads (lines p.section) (op_line p.keys op ∷ []))
     ∙ ap (λ (ls : List TextLine). ls ++ op_line p.keys op ∷ []) (sym old) in
-    ap (λ (ls : List TextLine). full_head p.blocks ++ (map key_line p.keys ++ ls)) new
-    ∙ sym (ap (λ (ls : List TextLine). ls ++ op_line p.keys op ∷ []) (body p (behind_head p.last inside.ends)) ∙ one_more (full_head p.blocks) (map key_line p.keys) (flat_map lines (sections_read p)) (op_line p.keys op))
+    ap (λ (ls : List TextLine). full_head p.blocks ++ (map key_line p.keys ++ (map fault_line p.faults ++ ls))) new
+    ∙ sym (ap (λ (ls : List TextLine). ls ++ op_line p.keys op ∷ []) (body p (behind_head p.last inside.ends))
+    ∙ one_more_behind (full_head p.blocks) (map key_line p.keys) (map fault_line p.faults) (flat_map lines (sections_read p)) (op_line p.keys op))
 
 -- each section that has been read is valid, where the last of them is closed
 sections_valid : (p : Progress) → IsProgress p → open_after false p.section ≡ Some false → AllByRecursion (IsSection (bare_keys p.keys)) (sections_read p)
@@ -342,6 +422,7 @@ IsProgress-thread p is follows closed room =
     record {
       at = ((behind_head p.last (sym (thread_or_end p.last) ∙ follows)).size p is.at, refl);
       keys = is.keys;
+      faults = is.faults;
       threads = sections_valid p is closed;
       section = tt;
       plugs = refl;
@@ -356,6 +437,7 @@ IsProgress-end p is follows closed =
     record {
       at = ((behind_head p.last follows).size p is.at, refl);
       keys = is.keys;
+      faults = is.faults;
       threads = sections_valid p is closed;
       section = tt;
       plugs = refl;
@@ -392,6 +474,7 @@ IsProgress-op p op is follows valid plugs room units =
     record {
       at = ((behind_head p.last (inside_section p.last follows).ends).size p is.at, omega (arith, length-append p.section (op ∷ [])));
       keys = is.keys;
+      faults = is.faults;
       threads = is.threads;
       section = AllByRecursion-append (IsOp (bare_keys p.keys)) p.section (op ∷ []) is.section (valid, tt);
       plugs = plugs;

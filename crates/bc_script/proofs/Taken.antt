@@ -29,19 +29,19 @@ use Rattle.bc_script.specs.declared.sort.Sort.TheVariants as sorts
 use Rattle.bc_script.specs.declared.script_error.ScriptWhy.{ScriptWhy}
 use Rattle.bc_script.specs.declared.script_error.ScriptWhy.TheVariants as why
 use Rattle.bc_script.specs.Name.{is_name}
-use Rattle.bc_script.specs.Script.{IsNamedKey, IsContext, IsBio, IsText, IsOp, bare_keys, open_after, unit_count, unit_count_of_section, max_keys, max_threads, max_ops, max_units, max_bio_units, max_bio_sectors}
-use Rattle.bc_script.specs.ScriptText.{dash, name_of, key_field, number_field, key_line, op_line}
-use Rattle.bc_script.specs.Forms.{Form, KeyForm, BioForm, TextForm, Fill, Hex, Version, Disk, Fallback, Key, Thread, Write, Read, Evict, Reset, Plug, Unplug, End, form_of, sort_of, dashes_agree}
+use Rattle.bc_script.specs.Script.{IsNamedKey, IsFault, IsContext, IsBio, IsText, IsOp, bare_keys, open_after, unit_count, unit_count_of_section, max_keys, max_faults, last_shard, last_access, max_threads, max_ops, max_units, max_bio_units, max_bio_sectors}
+use Rattle.bc_script.specs.ScriptText.{dash, name_of, key_field, number_field, key_line, fault_line, op_line}
+use Rattle.bc_script.specs.Forms.{Form, KeyForm, FaultForm, BioForm, TextForm, Fill, Hex, Version, Disk, Fallback, Key, Fault, Thread, Write, Read, Evict, Reset, Plug, Unplug, End, form_of, sort_of, dashes_agree}
 use Rattle.bc_script.specs.Order.{may_follow, is_unbuilt}
-use Rattle.bc_script.specs.ScriptErrors.{Why, first_of, is_number, is_number_text, number_in, bytes_in, is_hex_text, number_test, key_refused, key_test, is_declared, sectors_under, is_open, is_key, is_thread, is_operation, units_in, op_limit, bio_limits, bio_tests, is_text, size_of, last_sort, is_end, tests_of, error_of_form, error_at}
+use Rattle.bc_script.specs.ScriptErrors.{Why, first_of, is_number, is_number_text, number_in, bytes_in, is_hex_text, number_test, key_refused, key_test, is_declared, sectors_under, is_open, fault_in, ascends, is_key, is_fault, is_thread, is_operation, units_in, op_limit, bio_limits, bio_tests, is_text, size_of, last_sort, is_end, tests_of, error_of_form, error_at}
 use Rattle.bc_script.specs.Progress.{Progress, IsProgress, lines_read, forms_read, sections_read}
 use Rattle.bc_script.proofs.ByteLists.{All-IsBytes}
 use Rattle.bc_script.proofs.Fields.{number_in-decimal, decimal-number_in, number_text-is_number_text, IsBytes-bytes_in, encode_lower-bytes_in}
-use Rattle.bc_script.specs.Statements.{form_line, DashesAgree}
+use Rattle.bc_script.specs.Statements.{form_line, DashesAgree, is_after}
 use Rattle.bc_script.proofs.FormLines.{IsLineOf-form_of}
-use Rattle.bc_script.proofs.Above.{op_form, bio_form, text_form_of, last_sort-read, keys-read, threads-read, operations-read, units-read, is_open-read, is_declared-read, is_declared-none, sectors_under-read}
+use Rattle.bc_script.proofs.Above.{op_form, bio_form, text_form_of, last_sort-read, keys-read, faults-read, threads-read, operations-read, units-read, is_open-read, ascends-read, is_declared-read, is_declared-none, sectors_under-read}
 use Rattle.bc_script.proofs.Passes.{some_plugged, open_after-append}
-use Rattle.bc_script.proofs.Steps.{with_version, with_disk, with_fallback, with_key, with_op, with_section_ended, IsProgress-version, IsProgress-disk, IsProgress-fallback, IsProgress-key, IsProgress-thread, IsProgress-op, IsProgress-end, lines_read-version, lines_read-disk, lines_read-fallback, lines_read-key, lines_read-thread, lines_read-op, lines_read-end}
+use Rattle.bc_script.proofs.Steps.{with_version, with_disk, with_fallback, with_key, with_fault, with_op, with_section_ended, IsProgress-version, IsProgress-disk, IsProgress-fallback, IsProgress-key, IsProgress-fault, IsProgress-thread, IsProgress-op, IsProgress-end, lines_read-version, lines_read-disk, lines_read-fallback, lines_read-key, lines_read-fault, lines_read-thread, lines_read-op, lines_read-end}
 use Rattle.std.proofs.lemmas.List.{length-map}
 
 -- what has been read with one more line
@@ -182,6 +182,21 @@ key_taken p key is follows e =
     let unit_is : key.unit ≡ decimal (bytes_of made.unit) = unit.0 ∙ ap decimal (sym made.unit_is) in
     let line : key_line named ≡ form_line (Key key) = λ i. form_line (Key (record { name = key.name; mode = key.mode; unit = sym unit_is i; dun_bytes = sym dun.0 i; digits = sym digits.0 i })) in
     record { after = with_key p named; rules = IsProgress-key p named is follows valid fresh room; lines = lines_read-key p named is follows ∙ ap (λ (l : TextLine). lines_read p ++ l ∷ []) line }
+
+-- ---- planned faults
+
+fault_taken : (p : Progress) (fault : FaultForm) → IsProgress p → may_follow p.last sorts.Fault ≡ true → tests_of (forms_read p) (Fault fault) ≡ None → Took p (form_line (Fault fault))
+fault_taken p fault is follows e =
+    let above = forms_read p in
+    let shard = number_said 0 last_shard fault.shard _ e in
+    let access = number_said 0 last_access fault.access _ shard.3 in
+    let a = both_passed (ascends above fault) why.Order _ access.3 in
+    let b = both_passed (nat_lt (count_by is_fault above) max_faults) why.Limit None a.1 in
+    let room : length p.faults < max_faults = subst (λ (n : ℕ). n < max_faults) (faults-read p is) (ltb-true (count_by is_fault above) max_faults b.0) in
+    let after : is_after p.faults (fault_in fault) ≡ true = sym (ascends-read p fault is) ∙ a.0 in
+    let valid : IsFault (fault_in fault) = record { shard = shard.2; access = access.2 } in
+    let line : fault_line (fault_in fault) ≡ form_line (Fault fault) = λ i. form_line (Fault (record { shard = sym shard.0 i; access = sym access.0 i })) in
+    record { after = with_fault p (fault_in fault); rules = IsProgress-fault p (fault_in fault) is follows valid after room; lines = lines_read-fault p (fault_in fault) is follows ∙ ap (λ (l : TextLine). lines_read p ++ l ∷ []) line }
 
 -- ---- plugs
 
@@ -401,6 +416,7 @@ form_taken p (Disk blocks) is follows agrees e =
     (record { after = with_disk p n; rules = IsProgress-disk p n is follows (said.1, said.2); lines = lines_read-disk p n is follows })
 form_taken p Fallback is follows agrees e = record { after = with_fallback p; rules = IsProgress-fallback p is follows; lines = lines_read-fallback p is follows }
 form_taken p (Key key) is follows agrees e = key_taken p key is follows e
+form_taken p (Fault fault) is follows agrees e = fault_taken p fault is follows e
 form_taken p Thread is follows agrees e = thread_taken p is follows e
 form_taken p (Write bio text) is follows agrees e = write_taken p bio text is follows agrees e
 form_taken p (Read bio) is follows agrees e = read_taken p bio is follows agrees e

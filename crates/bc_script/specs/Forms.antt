@@ -17,6 +17,11 @@ pub record KeyForm : Type 0 where
   pub dun_bytes : List ℕ
   pub digits : List ℕ
 
+-- the fields of a planned fault's line
+pub record FaultForm : Type 0 where
+  pub shard : List ℕ
+  pub access : List ℕ
+
 -- the fields of a bio
 pub record BioForm : Type 0 where
   pub key : List ℕ
@@ -35,6 +40,7 @@ pub data Form : Type 0 where
   Disk : List ℕ → Form
   Fallback : Form
   Key : KeyForm → Form
+  Fault : FaultForm → Form
   Thread : Form
   Write : BioForm → TextForm → Form
   Read : BioForm → Form
@@ -78,6 +84,11 @@ abbrev pub with_key : TextLine → Option Form
 with_key (name ∷ mode ∷ unit ∷ dun_bytes ∷ digits ∷ []) = key_form name (mode_of mode) unit dun_bytes digits
 with_key _ = None
 
+-- SHARD ACCESS
+abbrev pub with_fault : TextLine → Option Form
+with_fault (shard ∷ access ∷ []) = Some (Fault (record { shard = shard; access = access }))
+with_fault _ = None
+
 -- `-` stands for the key exactly where it stands for the number
 abbrev pub dashes_agree : BioForm → Bool
 dashes_agree bio = if bytes_eq bio.key dash then bytes_eq bio.number dash else not (bytes_eq bio.number dash)
@@ -119,11 +130,12 @@ form_of_word word fields =
     else (if bytes_eq word (codes "unplug") then alone Unplug fields
     else (if bytes_eq word (codes "thread") then alone Thread fields
     else (if bytes_eq word (codes "key") then with_key fields
+    else (if bytes_eq word (codes "fault") then with_fault fields
     else (if bytes_eq word (codes "blkcrypt") then with_word (codes "1") Version fields
     else (if bytes_eq word (codes "disk") then with_one Disk fields
     else (if bytes_eq word (codes "fallback") then with_word (codes "on") Fallback fields
     else (if bytes_eq word (codes "end") then alone End fields
-    else None)))))))))))
+    else None))))))))))))
 
 -- the form of a line, if it has one
 abbrev pub form_of : TextLine → Option Form
@@ -136,6 +148,7 @@ sort_of Version = sorts.Version
 sort_of (Disk blocks) = sorts.Disk
 sort_of Fallback = sorts.Fallback
 sort_of (Key key) = sorts.Key
+sort_of (Fault fault) = sorts.Fault
 sort_of Thread = sorts.Thread
 sort_of End = sorts.End
 sort_of _ = sorts.Operation

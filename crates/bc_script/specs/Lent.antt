@@ -1,7 +1,8 @@
 -- The form of a line whose fields are lent: the same form with the fields themselves. The contracts of private functions
 -- speak of these; no public one does.
-use Rattle.bc_script.specs.Forms.{Form, Version, Disk, Fallback, Key, Thread, Write, Read, Evict, Reset, Plug, Unplug, End, KeyForm, BioForm, TextForm, Fill, Hex}
+use Rattle.bc_script.specs.Forms.{Form, Version, Disk, Fallback, Key, Fault, Thread, Write, Read, Evict, Reset, Plug, Unplug, End, KeyForm, FaultForm, BioForm, TextForm, Fill, Hex}
 use Rattle.bc_script.specs.declared.form.KeyForm as key_forms
+use Rattle.bc_script.specs.declared.form.FaultForm as fault_forms
 use Rattle.bc_script.specs.declared.form.BioForm as bio_forms
 use Rattle.bc_script.specs.declared.form.TextForm as text_forms
 use Rattle.bc_script.specs.declared.form.TextForm.TheVariants as lent_texts
@@ -11,6 +12,10 @@ use Rattle.bc_script.specs.declared.form.Form.TheVariants as lent
 -- of a key's line
 abbrev pub key_lent : key_forms.KeyForm → KeyForm
 key_lent key = record { name = key.name.now; mode = key.mode; unit = key.unit.now; dun_bytes = key.dun_bytes.now; digits = key.digits.now }
+
+-- of a planned fault's line
+abbrev pub fault_lent : fault_forms.FaultForm → FaultForm
+fault_lent fault = record { shard = fault.shard.now; access = fault.access.now }
 
 -- of a bio
 abbrev pub bio_lent : bio_forms.BioForm → BioForm
@@ -27,6 +32,7 @@ form_lent lent.Version = Version
 form_lent (lent.Disk blocks) = Disk blocks.now
 form_lent lent.Fallback = Fallback
 form_lent (lent.Key key) = Key (key_lent key)
+form_lent (lent.Fault fault) = Fault (fault_lent fault)
 form_lent lent.Thread = Thread
 form_lent (lent.Write bio text) = Write (bio_lent bio) (text_lent text)
 form_lent (lent.Read bio) = Read (bio_lent bio)

@@ -1,22 +1,27 @@
 -- The order of lines: which sort of line may stand after which.
-use Rattle.std.specs.Prelude.{Bool, true, false, ◌&&◌, ◌||◌, [], ◌∷◌, codes, Option, Some, None}
+use Rattle.std.specs.Prelude.{Bool, true, false, ◌&&◌, [], ◌∷◌, codes, Option, Some, None}
 use Rattle.std.specs.Str.{bytes_eq}
 use Rattle.bc_text.specs.Lines.{TextLine}
 use Rattle.bc_script.specs.declared.sort.Sort.{Sort}
 use Rattle.bc_script.specs.declared.sort.Sort.TheVariants as sorts
 
 -- A line of this sort may stand after the line of that sort, or as the first line. The first three lines stand once and in
--- order; then come keys, then sections, then the end.
+-- order; then come keys, then planned faults, then sections, then the end.
 abbrev pub may_follow : Option Sort → Sort → Bool
 may_follow None sorts.Version = true
 may_follow (Some sorts.Version) sorts.Disk = true
 may_follow (Some sorts.Disk) sorts.Fallback = true
 may_follow (Some sorts.Fallback) sorts.Key = true
+may_follow (Some sorts.Fallback) sorts.Fault = true
 may_follow (Some sorts.Fallback) sorts.Thread = true
 may_follow (Some sorts.Fallback) sorts.End = true
 may_follow (Some sorts.Key) sorts.Key = true
+may_follow (Some sorts.Key) sorts.Fault = true
 may_follow (Some sorts.Key) sorts.Thread = true
 may_follow (Some sorts.Key) sorts.End = true
+may_follow (Some sorts.Fault) sorts.Fault = true
+may_follow (Some sorts.Fault) sorts.Thread = true
+may_follow (Some sorts.Fault) sorts.End = true
 may_follow (Some sorts.Thread) sorts.Operation = true
 may_follow (Some sorts.Thread) sorts.Thread = true
 may_follow (Some sorts.Thread) sorts.End = true
@@ -25,10 +30,9 @@ may_follow (Some sorts.Operation) sorts.Thread = true
 may_follow (Some sorts.Operation) sorts.End = true
 may_follow _ _ = false
 
--- A line of a form that isn't built yet, at a place where it may stand: software that doesn't do what no device can, a device
--- (after the first three lines), or a planned fault (after the keys, or after the first three lines where there are none).
+-- A line of a form that isn't built yet, at a place where it may stand: software that doesn't do what no device can, or a
+-- device (after the first three lines).
 abbrev pub is_unbuilt : Option Sort → TextLine → Bool
 is_unbuilt (Some sorts.Disk) (word ∷ switch ∷ []) = bytes_eq word (codes "fallback") && bytes_eq switch (codes "off")
-is_unbuilt (Some sorts.Fallback) (word ∷ fields) = bytes_eq word (codes "device") || bytes_eq word (codes "fault")
-is_unbuilt (Some sorts.Key) (word ∷ fields) = bytes_eq word (codes "fault")
+is_unbuilt (Some sorts.Fallback) (word ∷ fields) = bytes_eq word (codes "device")
 is_unbuilt _ _ = false

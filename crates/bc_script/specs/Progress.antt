@@ -7,17 +7,18 @@ use Rattle.bc_script.specs.declared.named_key.NamedKey.{NamedKey}
 use Rattle.bc_script.specs.declared.op.Op.{Op}
 use Rattle.bc_script.specs.declared.sort.Sort.{Sort}
 use Rattle.bc_script.specs.declared.sort.Sort.TheVariants as sorts
-use Rattle.bc_script.specs.Script.{IsDiskSize, AreKeys, IsOp, IsSection, bare_keys, open_after, unit_count_of_section, max_threads, max_ops, max_units}
-use Rattle.bc_script.specs.ScriptText.{version_line, disk_line, fallback_line, key_line, section_lines, end_line}
+use Rattle.bc_script.specs.Script.{IsDiskSize, AreKeys, AreFaults, IsOp, IsSection, bare_keys, open_after, unit_count_of_section, max_threads, max_ops, max_units}
+use Rattle.bc_script.specs.ScriptText.{version_line, disk_line, fallback_line, key_line, fault_line, section_lines, end_line}
 use Rattle.bc_script.specs.Forms.{Form, form_of}
 use Rattle.bc_script.specs.ScriptErrors.{with_form}
 
--- the sort of the nearest line, the disk's blocks, the keys, the sections that have ended, and the operations of the
--- section that is being read
+-- the sort of the nearest line, the disk's blocks, the keys, the planned faults, the sections that have ended, and the
+-- operations of the section that is being read
 pub record Progress : Type 0 where
   pub last : Option Sort
   pub blocks : ℕ
   pub keys : List NamedKey
+  pub faults : List (ℕ × ℕ)
   pub threads : List (List Op)
   pub section : List Op
 
@@ -53,7 +54,8 @@ end_read _ = []
 -- all lines that have been read
 abbrev pub lines_read : Progress → List TextLine
 lines_read p =
-    head_read p.last p.blocks ++ (map key_line p.keys ++ (flat_map (section_lines p.keys) (sections_read p) ++ end_read p.last))
+    head_read p.last p.blocks
+    ++ (map key_line p.keys ++ (map fault_line p.faults ++ (flat_map (section_lines p.keys) (sections_read p) ++ end_read p.last)))
 
 -- the forms of lines below those above, the nearest first
 abbrev pub forms_below : List Form → List TextLine → List Form
@@ -68,11 +70,12 @@ forms_read p = forms_below [] (lines_read p)
 
 -- nothing is read yet of what stands below the nearest line
 abbrev pub IsAt : Option Sort → Progress → Type 0
-IsAt None p = (p.keys ≡ []) × (p.threads ≡ []) × (p.section ≡ [])
-IsAt (Some sorts.Version) p = (p.keys ≡ []) × (p.threads ≡ []) × (p.section ≡ [])
-IsAt (Some sorts.Disk) p = IsDiskSize p.blocks × (p.keys ≡ []) × (p.threads ≡ []) × (p.section ≡ [])
-IsAt (Some sorts.Fallback) p = IsDiskSize p.blocks × (p.keys ≡ []) × (p.threads ≡ []) × (p.section ≡ [])
-IsAt (Some sorts.Key) p = IsDiskSize p.blocks × (1 ≤ length p.keys) × (p.threads ≡ []) × (p.section ≡ [])
+IsAt None p = (p.keys ≡ []) × (p.faults ≡ []) × (p.threads ≡ []) × (p.section ≡ [])
+IsAt (Some sorts.Version) p = (p.keys ≡ []) × (p.faults ≡ []) × (p.threads ≡ []) × (p.section ≡ [])
+IsAt (Some sorts.Disk) p = IsDiskSize p.blocks × (p.keys ≡ []) × (p.faults ≡ []) × (p.threads ≡ []) × (p.section ≡ [])
+IsAt (Some sorts.Fallback) p = IsDiskSize p.blocks × (p.keys ≡ []) × (p.faults ≡ []) × (p.threads ≡ []) × (p.section ≡ [])
+IsAt (Some sorts.Key) p = IsDiskSize p.blocks × (1 ≤ length p.keys) × (p.faults ≡ []) × (p.threads ≡ []) × (p.section ≡ [])
+IsAt (Some sorts.Fault) p = IsDiskSize p.blocks × (1 ≤ length p.faults) × (p.threads ≡ []) × (p.section ≡ [])
 IsAt (Some sorts.Thread) p = IsDiskSize p.blocks × (p.section ≡ [])
 IsAt (Some sorts.Operation) p = IsDiskSize p.blocks × (1 ≤ length p.section)
 IsAt (Some sorts.End) p = IsDiskSize p.blocks × (p.section ≡ [])
@@ -81,6 +84,7 @@ IsAt (Some sorts.End) p = IsDiskSize p.blocks × (p.section ≡ [])
 pub record IsProgress (p : Progress) : Type 0 where
   pub at : IsAt p.last p
   pub keys : AreKeys p.keys
+  pub faults : AreFaults p.faults
   pub threads : AllByRecursion (IsSection (bare_keys p.keys)) p.threads
   pub section : AllByRecursion (IsOp (bare_keys p.keys)) p.section
   pub plugs : IsSome (open_after false p.section)

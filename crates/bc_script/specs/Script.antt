@@ -1,6 +1,6 @@
 -- What a script says: a disk, its keys, and for each thread the section of its operations; and the rules that each
 -- script keeps.
-use Rattle.std.specs.Prelude.{◌≡◌, ◌≢◌, ℕ, ◌*◌, ◌^◌, ◌<◌, ◌≤◌, Bool, true, false, if◌then◌else◌, IsTrue, List, [], ◌∷◌, length, map, sum_by, AllPairs, Option, Some, None, ⊤}
+use Rattle.std.specs.Prelude.{◌≡◌, ◌≢◌, ℕ, ◌*◌, ◌^◌, ◌<◌, ◌≤◌, ◌&&◌, ◌||◌, nat_lt, nat_eq, Bool, true, false, if◌then◌else◌, IsTrue, List, [], ◌∷◌, length, map, sum_by, AllPairs, Option, Some, None, ⊤}
 use Rattle.std.specs.List.{AllByRecursion}
 use Rattle.hex.specs.Hex.{IsBytes}
 use Rattle.bc_key.specs.KeyData.{KeyData, IsValid}
@@ -61,6 +61,18 @@ max_blocks = limits.MAX_BLOCKS
 abbrev pub max_keys : ℕ
 max_keys = limits.MAX_KEYS
 
+-- the most faults that are planned
+abbrev pub max_faults : ℕ
+max_faults = limits.MAX_FAULTS
+
+-- the last shard that a disk may have
+abbrev pub last_shard : ℕ
+last_shard = limits.LAST_SHARD
+
+-- the last place in a shard's order at which a fault may be planned
+abbrev pub last_access : ℕ
+last_access = limits.LAST_ACCESS
+
 -- the most sections
 abbrev pub max_threads : ℕ
 max_threads = limits.MAX_THREADS
@@ -101,6 +113,21 @@ pub record AreKeys (keys : List NamedKey) : Type 0 where
   pub count : length keys ≤ max_keys
   pub each : AllByRecursion IsNamedKey keys
   pub names : AllPairs (λ (first second : NamedKey). first.name ≢ second.name) keys
+
+-- a shard that a disk may have, and a place in its order
+pub record IsFault (fault : ℕ × ℕ) : Type 0 where
+  pub shard : fault.0 ≤ last_shard
+  pub access : fault.1 ≤ last_access
+
+-- whether the first fault comes before the second: on a lower shard, or at a lower place of the same shard
+abbrev pub is_before : ℕ × ℕ → ℕ × ℕ → Bool
+is_before first second = nat_lt first.0 second.0 || (nat_eq first.0 second.0 && nat_lt first.1 second.1)
+
+-- few enough faults, each after those before it
+pub record AreFaults (faults : List (ℕ × ℕ)) : Type 0 where
+  pub count : length faults ≤ max_faults
+  pub each : AllByRecursion IsFault faults
+  pub ascend : AllPairs (λ (first second : ℕ × ℕ). is_before first second ≡ true) faults
 
 -- a key of the script and a number; or neither
 abbrev pub IsContext : List KeyData → Option Context → Type 0
@@ -147,11 +174,10 @@ pub record AreSections (keys : List KeyData) (threads : List (List Op)) : Type 0
   pub few_ops : sum_by length threads ≤ max_ops
   pub few_units : sum_by unit_count_of_section threads ≤ max_units
 
--- What holds of every script. Software does what no device can, and no fault is planned, as long as the other lines aren't
--- built.
+-- What holds of every script. Software does what no device can, as long as the other line isn't built.
 pub record IsScript (script : Script) : Type 0 where
   pub blocks : IsDiskSize script.blocks
   pub fallback : script.fallback ≡ true
   pub keys : AreKeys script.keys
-  pub faults : script.faults ≡ []
+  pub faults : AreFaults script.faults
   pub threads : AreSections (keys_of script) script.threads

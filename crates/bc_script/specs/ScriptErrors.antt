@@ -1,6 +1,6 @@
 -- The first line of a text that fails a test, and the first test that it fails.
 --
--- A test speaks of its line and of the lines above: how many keys, operations or data units those have is a count or a sum
+-- A test speaks of its line and of the lines above: how many keys, faults, operations or data units those have is a count or a sum
 -- over their forms, which stand here with the nearest line first.
 use Rattle.std.specs.Prelude.{ℕ, ◌+◌, ◌*◌, ◌/◌, ◌^◌, ◌&&◌, ◌||◌, not, nat_lt, nat_le, Bool, true, false, if◌then◌else◌, List, [], ◌∷◌, length, Option, Some, None, is_some, sum_by, count_by, unwrap_or}
 use Rattle.std.specs.Option.{option_map, option_map_or}
@@ -18,9 +18,9 @@ use Rattle.bc_script.specs.declared.script_error.ScriptWhy.{ScriptWhy}
 use Rattle.bc_script.specs.declared.script_error.ScriptWhy.TheVariants as why
 use Rattle.bc_script.specs.declared.script_error.ScriptError.{ScriptError}
 use Rattle.bc_script.specs.Name.{is_name}
-use Rattle.bc_script.specs.Script.{max_blocks, max_keys, max_threads, max_ops, max_units, max_bio_units, max_bio_sectors}
+use Rattle.bc_script.specs.Script.{is_before, max_blocks, max_keys, max_faults, last_shard, last_access, max_threads, max_ops, max_units, max_bio_units, max_bio_sectors}
 use Rattle.bc_script.specs.ScriptText.{dash}
-use Rattle.bc_script.specs.Forms.{Form, Disk, Key, Thread, Write, Read, Evict, Reset, Plug, Unplug, End, KeyForm, BioForm, TextForm, Fill, Hex, form_of, sort_of}
+use Rattle.bc_script.specs.Forms.{Form, Disk, Key, Fault, Thread, Write, Read, Evict, Reset, Plug, Unplug, End, KeyForm, FaultForm, BioForm, TextForm, Fill, Hex, form_of, sort_of}
 use Rattle.bc_script.specs.Order.{may_follow, is_unbuilt}
 
 -- ---- what fields say: a field is malformed where it isn't the text of its value
@@ -58,6 +58,11 @@ abbrev pub is_key : Form → Bool
 is_key (Key key) = true
 is_key _ = false
 
+-- whether it plans a fault
+abbrev pub is_fault : Form → Bool
+is_fault (Fault fault) = true
+is_fault _ = false
+
 -- whether it begins a section
 abbrev pub is_thread : Form → Bool
 is_thread Thread = true
@@ -92,6 +97,16 @@ is_declared name above = is_some (key_named name above)
 -- how many sectors a data unit has under the key with this name, and one without a key
 abbrev pub sectors_under : List ℕ → List Form → ℕ
 sectors_under name above = option_map_or (λ (key : KeyForm). number_in key.unit / 512) (key_named name above) 1
+
+-- the fault that a line plans: the shard, and the place in its order
+abbrev pub fault_in : FaultForm → ℕ × ℕ
+fault_in fault = (number_in fault.shard, number_in fault.access)
+
+-- whether a fault comes after the nearest one above, if there is one
+abbrev pub ascends : List Form → FaultForm → Bool
+ascends [] fault = true
+ascends (Fault last ∷ above) fault = is_before (fault_in last) (fault_in fault)
+ascends (form ∷ above) fault = ascends above fault
 
 -- whether a plug is open: the nearest line that opens or closes one decides
 abbrev pub is_open : List Form → Bool
@@ -135,6 +150,15 @@ key_tests above key =
     (first_of (nat_lt (count_by is_key above) max_keys) why.Limit
     None)))))
 
+-- a shard and a place in its order; after the fault before it; and room for one more fault
+abbrev pub fault_tests : List Form → FaultForm → Why
+fault_tests above fault =
+    number_test 0 last_shard fault.shard
+    (number_test 0 last_access fault.access
+    (first_of (ascends above fault) why.Order
+    (first_of (nat_lt (count_by is_fault above) max_faults) why.Limit
+    None)))
+
 -- a section has room for one more operation
 abbrev pub op_limit : List Form → Why
 op_limit above = first_of (nat_lt (count_by is_operation above) max_ops) why.Limit None
@@ -168,6 +192,7 @@ size_of above bio = number_in bio.units * (512 * sectors_under bio.key above)
 abbrev pub tests_of : List Form → Form → Why
 tests_of above (Disk blocks) = number_test 1 max_blocks blocks None
 tests_of above (Key key) = key_tests above key
+tests_of above (Fault fault) = fault_tests above fault
 tests_of above Thread = first_of (not (is_open above)) why.Order (first_of (nat_lt (count_by is_thread above) max_threads) why.Limit None)
 tests_of above (Write bio text) = bio_tests above bio (first_of (is_text (size_of above bio) text) why.Hex (bio_limits above bio))
 tests_of above (Read bio) = bio_tests above bio (bio_limits above bio)

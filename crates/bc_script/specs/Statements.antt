@@ -1,6 +1,7 @@
 -- What one line states: the line that states it, whether it fits after the lines that have been read, and what is read with it.
 -- The contracts of private functions speak of this; no public one does.
-use Rattle.std.specs.Prelude.{◌≡◌, ◌+◌, ◌<◌, ◌≤◌, Bool, true, false, List, [], ◌∷◌, ◌++◌, codes, length, sum_by, Some, IsSome, Result, MatchResult, ⊤}
+use Rattle.std.specs.Prelude.{◌≡◌, ℕ, ◌+◌, ◌-◌, ◌<◌, ◌≤◌, Bool, true, false, List, [], ◌∷◌, ◌++◌, codes, length, slice_get, sum_by, Some, IsSome, Result, MatchResult, ⊤}
+use Rattle.std.specs.Option.{option_map_or}
 use Rattle.bc_text.specs.Lines.{TextLine}
 use Rattle.bc_script.specs.declared.op.Op.{Op}
 use Rattle.bc_script.specs.declared.sort.Sort.{Sort}
@@ -11,9 +12,9 @@ use Rattle.bc_script.specs.declared.statement.Statement.TheVariants as statement
 use Rattle.bc_script.specs.declared.statement.Unread.{Unread}
 use Rattle.bc_script.specs.declared.statement.Unread.TheVariants as unread
 use Rattle.bc_script.specs.declared.named_key.NamedKey.{NamedKey}
-use Rattle.bc_script.specs.Script.{IsDiskSize, IsNamedKey, IsOp, bare_keys, open_after, unit_count, unit_count_of_section, max_keys, max_threads, max_ops, max_units}
-use Rattle.bc_script.specs.ScriptText.{version_line, disk_line, fallback_line, key_line, thread_line, op_line, end_line, mode_text}
-use Rattle.bc_script.specs.Forms.{Form, Version, Disk, Fallback, Key, Thread, Write, Read, Evict, Reset, Plug, Unplug, End, TextForm, Fill, Hex, sort_of, dashes_agree}
+use Rattle.bc_script.specs.Script.{IsDiskSize, IsNamedKey, IsFault, IsOp, is_before, bare_keys, open_after, unit_count, unit_count_of_section, max_keys, max_faults, max_threads, max_ops, max_units}
+use Rattle.bc_script.specs.ScriptText.{version_line, disk_line, fallback_line, key_line, fault_line, thread_line, op_line, end_line, mode_text}
+use Rattle.bc_script.specs.Forms.{Form, Version, Disk, Fallback, Key, Fault, Thread, Write, Read, Evict, Reset, Plug, Unplug, End, TextForm, Fill, Hex, sort_of, dashes_agree}
 use Rattle.bc_script.specs.Order.{may_follow}
 use Rattle.bc_script.specs.ScriptErrors.{Why, tests_of}
 use Rattle.bc_script.specs.NamedKeys.{IsNoName}
@@ -32,6 +33,7 @@ form_line Version = codes "blkcrypt" ∷ codes "1" ∷ []
 form_line (Disk blocks) = codes "disk" ∷ blocks ∷ []
 form_line Fallback = codes "fallback" ∷ codes "on" ∷ []
 form_line (Key key) = codes "key" ∷ key.name ∷ mode_text key.mode ∷ key.unit ∷ key.dun_bytes ∷ key.digits ∷ []
+form_line (Fault fault) = codes "fault" ∷ fault.shard ∷ fault.access ∷ []
 form_line Thread = codes "thread" ∷ []
 form_line (Write bio text) = codes "write" ∷ bio.key ∷ bio.sector ∷ bio.units ∷ bio.number ∷ text_line text
 form_line (Read bio) = codes "read" ∷ bio.key ∷ bio.sector ∷ bio.units ∷ bio.number ∷ []
@@ -49,6 +51,7 @@ line_of keys statements.Version = version_line
 line_of keys (statements.Disk blocks) = disk_line blocks
 line_of keys statements.Fallback = fallback_line true
 line_of keys (statements.Key named) = key_line named
+line_of keys (statements.Fault fault) = fault_line fault
 line_of keys statements.Thread = thread_line
 line_of keys (statements.Operation op) = op_line keys op
 line_of keys statements.End = end_line
@@ -59,6 +62,7 @@ sort_of_statement statements.Version = sorts.Version
 sort_of_statement (statements.Disk blocks) = sorts.Disk
 sort_of_statement statements.Fallback = sorts.Fallback
 sort_of_statement (statements.Key named) = sorts.Key
+sort_of_statement (statements.Fault fault) = sorts.Fault
 sort_of_statement statements.Thread = sorts.Thread
 sort_of_statement (statements.Operation op) = sorts.Operation
 sort_of_statement statements.End = sorts.End
@@ -68,6 +72,16 @@ pub record FitsKey (p : Progress) (named : NamedKey) : Type 0 where
   pub valid : IsNamedKey named
   pub fresh : IsNoName p.keys named.name
   pub room : length p.keys < max_keys
+
+-- whether a fault comes after the last of these, if there is one
+abbrev pub is_after : List (ℕ × ℕ) → ℕ × ℕ → Bool
+is_after faults fault = option_map_or (λ (last : ℕ × ℕ). is_before last fault) (slice_get faults (length faults - 1)) true
+
+-- a valid fault, which comes after those that have been read, and for which there is room
+pub record FitsFault (p : Progress) (fault : ℕ × ℕ) : Type 0 where
+  pub valid : IsFault fault
+  pub ascends : is_after p.faults fault ≡ true
+  pub room : length p.faults < max_faults
 
 -- a valid operation, which opens no plug twice and closes none that isn't open, and for which there is room
 pub record FitsOp (p : Progress) (op : Op) : Type 0 where
@@ -97,13 +111,15 @@ Fits p statements.Version = ⊤
 Fits p (statements.Disk blocks) = IsDiskSize blocks
 Fits p statements.Fallback = ⊤
 Fits p (statements.Key named) = FitsKey p named
+Fits p (statements.Fault fault) = FitsFault p fault
 Fits p statements.Thread = IsClosed p × (length (sections_read p) < max_threads)
 Fits p (statements.Operation op) = FitsOp p op
 Fits p statements.End = IsClosed p
 
 -- the section that is being read has ended, with a line of this sort
 abbrev pub with_section_ended : Progress → Sort → Progress
-with_section_ended p sort = record { last = Some sort; blocks = p.blocks; keys = p.keys; threads = sections_read p; section = [] }
+with_section_ended p sort =
+    record { last = Some sort; blocks = p.blocks; keys = p.keys; faults = p.faults; threads = sections_read p; section = [] }
 
 -- what has been read with the statement
 abbrev pub with_statement : Progress → Statement → Progress
@@ -111,6 +127,7 @@ with_statement p statements.Version = record p { last = Some sorts.Version }
 with_statement p (statements.Disk blocks) = record p { last = Some sorts.Disk; blocks = blocks }
 with_statement p statements.Fallback = record p { last = Some sorts.Fallback }
 with_statement p (statements.Key named) = record p { last = Some sorts.Key; keys = p.keys ++ named ∷ [] }
+with_statement p (statements.Fault fault) = record p { last = Some sorts.Fault; faults = p.faults ++ fault ∷ [] }
 with_statement p statements.Thread = with_section_ended p sorts.Thread
 with_statement p (statements.Operation op) = record p { last = Some sorts.Operation; section = p.section ++ op ∷ [] }
 with_statement p statements.End = with_section_ended p sorts.End

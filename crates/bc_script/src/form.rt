@@ -20,6 +20,13 @@ pub(crate) struct KeyForm<'a> {
     pub(crate) digits: &'a [u8],
 }
 
+/// The fields of a planned fault's line.
+#[derive(Clone, Copy)]
+pub(crate) struct FaultForm<'a> {
+    pub(crate) shard: &'a [u8],
+    pub(crate) access: &'a [u8],
+}
+
 /// The fields of a bio.
 #[derive(Clone, Copy)]
 pub(crate) struct BioForm<'a> {
@@ -45,6 +52,7 @@ pub(crate) enum Form<'a> {
     Disk(&'a [u8]),
     Fallback,
     Key(KeyForm<'a>),
+    Fault(FaultForm<'a>),
     Thread,
     Write(BioForm<'a>, TextForm<'a>),
     Read(BioForm<'a>),
@@ -68,6 +76,7 @@ impl<'a> Form<'a> {
             Form::Disk(_) => Sort::Disk,
             Form::Fallback => Sort::Fallback,
             Form::Key(_) => Sort::Key,
+            Form::Fault(_) => Sort::Fault,
             Form::Thread => Sort::Thread,
             Form::End => Sort::End,
             _ => Sort::Operation,
@@ -103,6 +112,8 @@ fn form_of_word<'a>(word: &[u8], fields: Parts<'a>) -> Option<Form<'a>>
         alone(Form::Thread, fields)
     } else if is(word, b"key") {
         with_key(fields)
+    } else if is(word, b"fault") {
+        with_fault(fields)
     } else if is(word, b"blkcrypt") {
         with_word(b"1", Form::Version, fields)
     } else if is(word, b"disk") {
@@ -180,6 +191,14 @@ fn with_key(mut fields: Parts) -> Option<Form>
         dun_bytes,
         digits,
     }))
+}
+
+fn with_fault(mut fields: Parts) -> Option<Form>
+    ensures { option_map form_lent result ≡ specs.with_fault fields.entry }
+{
+    let shard = fields.next()?;
+    let access = one(fields)?;
+    Some(Form::Fault(FaultForm { shard, access }))
 }
 
 /// Takes the fields of a bio.

@@ -27,6 +27,13 @@ pub const MAX_FAULTS: usize = 1024;
 /// The most shards of a disk, which has one at least.
 pub const MAX_SHARDS: usize = 64;
 
+/// The last shard that a disk may have, from 0.
+pub const LAST_SHARD: u32 = MAX_SHARDS as u32 - 1;
+
+/// The last place in a shard's order at which a fault may be planned, from 0. No shard's order has more places, since all
+/// bios together have at most as many data units.
+pub const LAST_ACCESS: u32 = MAX_UNITS - 1;
+
 /// The most sections of a script.
 pub const MAX_THREADS: usize = 16;
 

@@ -17,8 +17,9 @@ pub(crate) fn may_follow(last: Option<Sort>, sort: Sort) -> bool
         Some(Sort::Version) => sort == Sort::Disk,
         Some(Sort::Disk) => sort == Sort::Fallback,
         Some(Sort::Fallback) | Some(Sort::Key) => {
-            sort == Sort::Key || sort == Sort::Thread || sort == Sort::End
+            sort == Sort::Key || sort == Sort::Fault || sort == Sort::Thread || sort == Sort::End
         }
+        Some(Sort::Fault) => sort == Sort::Fault || sort == Sort::Thread || sort == Sort::End,
         Some(Sort::Thread) | Some(Sort::Operation) => {
             sort == Sort::Operation || sort == Sort::Thread || sort == Sort::End
         }
@@ -35,8 +36,7 @@ pub(crate) fn is_unbuilt(last: Option<Sort>, line: &Parts) -> bool
     };
     match last {
         Some(Sort::Disk) => is_without_fallback(line.again()),
-        Some(Sort::Fallback) => is(word, b"device") || is(word, b"fault"),
-        Some(Sort::Key) => is(word, b"fault"),
+        Some(Sort::Fallback) => is(word, b"device"),
         _ => false,
     }
 }

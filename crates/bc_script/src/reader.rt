@@ -9,7 +9,7 @@ ghost use Rattle.bc_script.specs.Order.{may_follow};
 ghost use Rattle.bc_script.specs.ScriptErrors.{error_at, error_at_end, is_end};
 ghost use Rattle.bc_text.specs.Lines.{is_nothing};
 ghost use Rattle.bc_script.specs.Progress.{IsProgress, lines_read, forms_read, is_in_section, with_section};
-ghost use Rattle.bc_script.specs.Statements.{Fits, FitsKey, FitsOp, IsClosed, EndsSection, HasRoomFor, sort_of_statement, with_statement, with_section_ended};
+ghost use Rattle.bc_script.specs.Statements.{Fits, FitsKey, FitsFault, FitsOp, IsClosed, EndsSection, HasRoomFor, sort_of_statement, with_statement, with_section_ended};
 ghost use Rattle.bc_script.specs.Reading.{Took, IsWhole, ReportsNext, left_section};
 
 mod line;
@@ -34,6 +34,7 @@ pub(crate) struct Reader {
     last: Option<Sort>,
     blocks: u32,
     keys: NamedKeys,
+    faults: Vec<(u16, u32)>,
     /// The sections that have ended.
     threads: Vec<Items<Op>>,
     /// The section that is being read.
@@ -50,9 +51,9 @@ impl Model for Reader {
 
     ghost Value = { Progress };
 
-    ghost view = { λ r. record { last = r.last; blocks = r.blocks; keys = r.keys; threads = r.threads.items; section = r.section.items } };
+    ghost view = { λ r. record { last = r.last; blocks = r.blocks; keys = r.keys; faults = r.faults.items; threads = r.threads.items; section = r.section.items } };
 
-    ghost invariant = { λ r. IsReading (record { last = r.last; blocks = r.blocks; keys = r.keys; threads = r.threads.items; section = r.section.items }) r.lines r.plugged r.ops r.units };
+    ghost invariant = { λ r. IsReading (record { last = r.last; blocks = r.blocks; keys = r.keys; faults = r.faults.items; threads = r.threads.items; section = r.section.items }) r.lines r.plugged r.ops r.units };
 }
 
 impl Reader {
@@ -65,6 +66,7 @@ impl Reader {
             last: None,
             blocks: 0,
             keys: NamedKeys::new(alloc),
+            faults: Vec::new(alloc),
             threads: Vec::new(alloc),
             section: Vec::new(alloc),
             plugged: false,
@@ -126,6 +128,7 @@ impl Reader {
                 Ok(())
             }
             Statement::Key(named) => self.add_key(alloc, named),
+            Statement::Fault(fault) => self.add_fault(fault),
             Statement::Thread => self.end_section(alloc, Sort::Thread),
             Statement::Operation(op) => self.add_operation(op),
             Statement::End => self.end_section(alloc, Sort::End),
@@ -169,6 +172,17 @@ impl Reader {
         Ok(())
     }
 
+    fn add_fault(&mut self, fault: (u16, u32)) -> Result<(), AllocError>
+        requires follows { may_follow self.old.last sorts.Fault ≡ true }
+        requires fits { FitsFault self.old fault }
+        ensures { OnOk result (self.new ≡ with_statement self.old (statements.Fault fault)) }
+    {
+        self.faults.push(fault)?;
+        self.last = Some(Sort::Fault);
+        self.lines += 1;
+        Ok(())
+    }
+
     fn add_operation(&mut self, op: Op) -> Result<(), AllocError>
         requires follows { may_follow self.old.last sorts.Operation ≡ true }
         requires fits { FitsOp self.old op }
@@ -201,7 +215,7 @@ impl Reader {
     }
 
     /// The script, whose last line has been read, and which has nothing after it but this.
-    pub(crate) fn finish(self, alloc: Global, rest: Parts) -> Result<Script, ParseError>
+    pub(crate) fn finish(self, rest: Parts) -> Result<Script, ParseError>
         ensures ok { IfOk result (IsWhole self rest.entry) }
         ensures bad { IfErr result (ReportsNext self (error_at_end (forms_read self) rest.entry)) }
     {
@@ -211,11 +225,11 @@ impl Reader {
                 why: ScriptWhy::End,
             }));
         }
-        Ok(self.into_script(alloc))
+        Ok(self.into_script())
     }
 
     /// The script whose last line has been read.
-    fn into_script(self, alloc: Global) -> Script
+    fn into_script(self) -> Script
         requires { self.last ≡ Some sorts.End }
         ensures valid { IsScript result }
         ensures lines { script_lines result ≡ lines_read self }
@@ -223,10 +237,16 @@ impl Reader {
         let Reader {
             blocks,
             keys,
+            faults,
             threads,
             ..
         } = self;
-        Script::new(alloc, blocks, keys.into_items(), Items::from_vec(threads))
+        Script::new(
+            blocks,
+            keys.into_items(),
+            Items::from_vec(faults),
+            Items::from_vec(threads),
+        )
     }
 }
 

@@ -1,14 +1,13 @@
 //! What a script says.
 
-ghost use Rattle.std.specs.Prelude.{◌≡◌, true, []};
+ghost use Rattle.std.specs.Prelude.{◌≡◌, true};
 
 use crate::named_key::NamedKey;
 use crate::op::Op;
 use bc_base::Items;
-use std::alloc::Global;
 use std::marker::Model;
 
-/// A script: a disk, its keys, and for each thread the section of its operations. It keeps the rules of the script
+/// A script: a disk, its keys, the faults that are planned, and for each thread the section of its operations. It keeps the rules of the script
 /// language by its type, so each script has a text.
 #[derive(Drop)]
 pub struct Script {
@@ -34,19 +33,19 @@ impl Script {
 
     /// A script that keeps the rules.
     pub(crate) fn new(
-        alloc: Global,
         blocks: u32,
         keys: Items<NamedKey>,
+        faults: Items<(u16, u32)>,
         threads: Items<Items<Op>>,
     ) -> Script
-        requires { specs.IsScript (record { blocks = blocks; fallback = true; keys = keys; faults = []; threads = threads }) }
-        ensures { result ≡ record { blocks = blocks; fallback = true; keys = keys; faults = []; threads = threads } }
+        requires { specs.IsScript (record { blocks = blocks; fallback = true; keys = keys; faults = faults; threads = threads }) }
+        ensures { result ≡ record { blocks = blocks; fallback = true; keys = keys; faults = faults; threads = threads } }
     {
         Script {
             blocks,
             fallback: true,
             keys,
-            faults: Items::new(alloc),
+            faults,
             threads,
         }
     }
@@ -75,8 +74,8 @@ impl Script {
         self.keys.as_slice()
     }
 
-    /// The faults that are planned, each by its shard and its place in the shard's order, both from 0. There are none in
-    /// each script for now.
+    /// The faults that are planned, in ascending order: each by its shard, 0 to 63, and its place in the shard's order, 0 to
+    /// 65535. One on a shard that the disk doesn't have, or at a place that isn't reached, is without effect.
     pub fn faults(&self) -> &[(u16, u32)]
         ensures value { result.now ≡ self.now.faults }
         ensures rules { specs.IsScript self.now }

@@ -35,7 +35,8 @@ pub enum ScriptWhy {
     /// No key is like this.
     #[error("key")]
     Key(KeyError),
-    /// A plug is opened twice, or closed without being open, or still open where its section ends.
+    /// A fault doesn't come after the one before it; or a plug is opened twice, or closed without being open, or still open
+    /// where its section ends.
     #[error("order")]
     Order,
     /// The devices don't fit one another, or the disk.

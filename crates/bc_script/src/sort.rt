@@ -11,6 +11,8 @@ pub(crate) enum Sort {
     Fallback,
     /// A key.
     Key,
+    /// A planned fault.
+    Fault,
     /// The beginning of a section.
     Thread,
     /// An operation of a section.

@@ -14,6 +14,8 @@ pub(crate) enum Statement {
     Disk(u32),
     Fallback,
     Key(NamedKey),
+    /// A shard, and a place in its order.
+    Fault((u16, u32)),
     Thread,
     Operation(Op),
     End,

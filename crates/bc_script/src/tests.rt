@@ -202,14 +202,17 @@ fn lines_that_are_not_built(rt: HostRuntime) -> Result<(), Fail> {
         rt.alloc(),
         HEAD,
         bad(4, ScriptWhy::NotBuilt),
-        &["device 0 1 1 1 0 8\n", "fault 0 1\n", "fault\n"],
+        &["device 0 1 1 1 0 8\n", "device\n"],
     )?;
     fail_after(
         &rt,
         rt.alloc(),
         HEAD,
         bad(5, ScriptWhy::Word),
-        &["thread\ndevice 0 1 1 1 0 8\n", "thread\nfault 0 1\n"],
+        &[
+            "thread\ndevice 0 1 1 1 0 8\n",
+            "fault 0 1\ndevice 0 1 1 1 0 8\n",
+        ],
     )?;
     fail_after(
         &rt,
@@ -226,21 +229,97 @@ fn lines_that_are_not_built(rt: HostRuntime) -> Result<(), Fail> {
         &prefix,
         bad(5, ScriptWhy::Word),
         &["device 0 1 1 1 0 8\n"],
-    )?;
-    fail_after(
-        &rt,
-        rt.alloc(),
-        &prefix,
-        bad(5, ScriptWhy::NotBuilt),
-        &["fault 0 1\n"],
-    )?;
-    fail_after(
-        &rt,
-        rt.alloc(),
-        &prefix,
-        bad(6, ScriptWhy::Word),
-        &["thread\nfault 0 1\n"],
     )
+}
+
+/// Line 4, directly after the first three ones.
+#[test]
+fn the_lines_of_faults(rt: HostRuntime) -> Result<(), Fail> {
+    fail_after(
+        &rt,
+        rt.alloc(),
+        HEAD,
+        bad(4, ScriptWhy::Number),
+        &[
+            "fault 64 0\n",
+            "fault 0 65536\n",
+            "fault 65536 0\n",
+            "fault 0 4294967296\n",
+            "fault 00 0\n",
+            "fault 0 \n",
+            "fault  0\n",
+        ],
+    )?;
+    fail_after(
+        &rt,
+        rt.alloc(),
+        HEAD,
+        bad(4, ScriptWhy::Word),
+        &["fault\n", "fault 0\n", "fault 0 0 0\n", "faults 0 0\n"],
+    )?;
+    fail_after(
+        &rt,
+        rt.alloc(),
+        HEAD,
+        bad(5, ScriptWhy::Order),
+        &[
+            "fault 0 0\nfault 0 0\n",
+            "fault 0 10\nfault 0 9\n",
+            "fault 1 0\nfault 0 65535\n",
+        ],
+    )?;
+    let alloc = rt.alloc();
+    let key = format!(in alloc; "fault 0 0\nkey a aes-256-xts 512 8 {DIGITS}\n")?;
+    fail_after(
+        &rt,
+        rt.alloc(),
+        HEAD,
+        bad(5, ScriptWhy::Word),
+        &["thread\nfault 0 0\n", "fault 0 0\nplug\n", &key],
+    )?;
+    pass_after(
+        &rt,
+        rt.alloc(),
+        HEAD,
+        &[
+            "fault 0 0\nend\n",
+            "fault 0 9\nfault 0 10\nfault 63 65535\nthread\nend\n",
+        ],
+    )
+}
+
+/// 1024 faults are read, each in its place, and printed as they were written; one more is one too many.
+#[test]
+fn as_many_faults_as_there_may_be(rt: HostRuntime) -> Result<(), Fail> {
+    let alloc = rt.alloc();
+    let mut text = format!(in alloc; "{HEAD}")?;
+    for shard in 0u16..16 {
+        for access in 0u32..64 {
+            let line = format!(in alloc; "fault {shard} {access}\n")?;
+            text.push_str(&line)?;
+        }
+    }
+    fail_after(
+        &rt,
+        rt.alloc(),
+        &text,
+        bad(1028, ScriptWhy::Limit),
+        &["fault 16 0\n"],
+    )?;
+    fail_after(
+        &rt,
+        rt.alloc(),
+        &text,
+        bad(1028, ScriptWhy::Order),
+        &["fault 15 63\n"],
+    )?;
+    text.push_str("end\n")?;
+    let script = parse(alloc, text.as_bytes())?;
+    assert_eq!(rt; script.faults().len(), 1024);
+    assert_eq!(rt; script.faults().get(65).copied(), Some((1u16, 1u32)));
+    let printed = print(alloc, &script)?;
+    assert_eq!(rt; printed.as_slice(), text.as_bytes());
+    Ok(())
 }
 
 /// Line 6, after a key `a` with data units of 512 bytes.

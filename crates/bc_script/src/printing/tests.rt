@@ -116,7 +116,12 @@ fn a_planned_fault_has_its_line(rt: HostRuntime) -> Result<(), Fail> {
 #[test]
 fn a_script_without_a_key_is_printed(rt: HostRuntime) -> Result<(), Fail> {
     let alloc = rt.alloc();
-    let script = Script::new(alloc, 16384, Items::new(alloc), Items::new(alloc));
+    let script = Script::new(
+        16384,
+        Items::new(alloc),
+        Items::new(alloc),
+        Items::new(alloc),
+    );
     let text = print(alloc, &script)?;
     assert_eq!(rt;
         text.as_slice(),

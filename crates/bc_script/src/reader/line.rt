@@ -6,20 +6,21 @@ ghost use Rattle.bc_bio.specs.Extent.{unit_sectors};
 ghost use Rattle.bc_script.specs.declared.script_error.ScriptWhy.TheVariants as why;
 ghost use Rattle.bc_script.specs.declared.statement.Statement.TheVariants as statements;
 ghost use Rattle.bc_script.specs.Name.{is_name};
-ghost use Rattle.bc_script.specs.Script.{IsContext, bare_keys, unit_count_of_section, max_blocks, max_bio_units, max_bio_sectors, max_ops, max_units};
+ghost use Rattle.bc_script.specs.Script.{IsContext, bare_keys, is_before, unit_count_of_section, max_blocks, max_bio_units, max_bio_sectors, max_ops, max_units};
 ghost use Rattle.bc_script.specs.ScriptText.{dash};
 ghost use Rattle.bc_script.specs.Forms as forms;
 ghost use Rattle.bc_script.specs.ScriptErrors.{error_at, is_declared, is_number};
 ghost use Rattle.bc_script.specs.Progress.{IsProgress, forms_read, sections_read};
 ghost use Rattle.bc_script.specs.Says.{SaysNumber};
-ghost use Rattle.bc_script.specs.Lent.{key_lent, bio_lent, text_lent, form_lent};
-ghost use Rattle.bc_script.specs.Statements.{IsNext, DashesAgree, ReadsForm, Reports, Refuses};
+ghost use Rattle.bc_script.specs.Lent.{key_lent, fault_lent, bio_lent, text_lent, form_lent};
+ghost use Rattle.bc_script.specs.Statements.{IsNext, DashesAgree, ReadsForm, Reports, Refuses, is_after};
 ghost use Rattle.bc_script.specs.BioFields.{IsNewName, IsDeclared, SaysKey, SaysBio, RefusesBio, context_with};
 
 use super::{Reader, is_end, is_in_section};
-use crate::form::{self, BioForm, Form, KeyForm, TextForm};
+use crate::form::{self, BioForm, FaultForm, Form, KeyForm, TextForm};
 use crate::limits::{
-    MAX_BIO_SECTORS, MAX_BIO_UNITS, MAX_BLOCKS, MAX_KEYS, MAX_OPS, MAX_THREADS, MAX_UNITS,
+    LAST_ACCESS, LAST_SHARD, MAX_BIO_SECTORS, MAX_BIO_UNITS, MAX_BLOCKS, MAX_FAULTS, MAX_KEYS,
+    MAX_OPS, MAX_THREADS, MAX_UNITS,
 };
 use crate::name::Name;
 use crate::named_key::NamedKey;
@@ -74,6 +75,7 @@ impl Reader {
             Form::Disk(blocks) => disk(blocks),
             Form::Fallback => Ok(Statement::Fallback),
             Form::Key(key) => self.key(key),
+            Form::Fault(fault) => self.fault(fault),
             Form::Thread => self.thread(),
             Form::Write(bio, text) => self.write(alloc, bio, text),
             Form::Read(bio) => self.read(bio),
@@ -117,6 +119,21 @@ impl Reader {
             Some(name) => Ok(name),
             None => Err(Unread::Bad(ScriptWhy::Name)),
         }
+    }
+
+    fn fault(&self, form: FaultForm) -> Result<Statement, Unread>
+        ensures { ReadsForm self.now (forms.Fault (fault_lent form.entry)) result }
+    {
+        let shard = field::number(form.shard, 0, LAST_SHARD)?;
+        let access = field::number(form.access, 0, LAST_ACCESS)?;
+        let fault = (shard as u16, access);
+        if !is_after(self.faults.as_slice(), fault) {
+            return Err(Unread::Bad(ScriptWhy::Order));
+        }
+        if self.faults.len() >= MAX_FAULTS {
+            return Err(Unread::Bad(ScriptWhy::Limit));
+        }
+        Ok(Statement::Fault(fault))
     }
 
     fn thread(&self) -> Result<Statement, Unread>
@@ -306,6 +323,23 @@ fn disk(blocks: &[u8]) -> Result<Statement, Unread>
         (Refuses (is_number 1 max_blocks blocks.now) why.Number) }
 {
     Ok(Statement::Disk(field::number(blocks, 1, MAX_BLOCKS)?))
+}
+
+/// Whether a fault comes after the last of these, if there is one.
+fn is_after(faults: &[(u16, u32)], fault: (u16, u32)) -> bool
+    ensures { result ≡ is_after faults.now fault }
+{
+    match faults.last() {
+        Some(last) => is_before(*last, fault),
+        None => true,
+    }
+}
+
+/// Whether the first fault comes before the second.
+fn is_before(first: (u16, u32), second: (u16, u32)) -> bool
+    ensures { result ≡ is_before first second }
+{
+    first.0 < second.0 || (first.0 == second.0 && first.1 < second.1)
 }
 
 /// A key and a number make a context.
