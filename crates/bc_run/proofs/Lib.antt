@@ -1,17 +1,2 @@
-pub mod EqualParts
-pub mod Units
-pub mod Image
-pub mod Written
-pub mod Sections
-pub mod Steps
-pub mod Names
-pub mod Traces
-pub mod UnitLength
-pub mod Placed
-pub mod Told
-pub mod Lawful
-pub mod Counts
-pub mod Printing
 pub mod Words
 pub mod Equal
-pub mod OneReport
