@@ -1,9 +1,8 @@
 -- The keyed disk along the names of a shard's order is what its entries leave and tell.
-use Rattle.std.proofs.Common.{◌≡◌, ℕ, zero, suc, ◌+◌, ◌<◌, ◌≤◌, Bool, true, false, cond, List, [], ◌∷◌, ◌++◌, length, map, refl, sym, ap, subst, ◌∙◌, arith, Option, Some, None}
-use Rattle.std.specs.Prelude.{◌==◌, filter_map, slice_get, zip}
+use Rattle.std.proofs.Common.{◌≡◌, ℕ, zero, suc, ◌+◌, ◌<◌, Bool, true, false, cond, List, [], ◌∷◌, ◌++◌, map, refl, sym, ap, subst, ◌∙◌, arith, Option, Some}
+use Rattle.std.specs.Prelude.{filter_map, slice_get, zip}
 use Rattle.std.specs.List.{AllByRecursion, cons_option}
 use Rattle.std.specs.Option.{option_map_or}
-use Rattle.bc_key.specs.KeyData.{KeyData}
 use Rattle.bc_bio.specs.declared.access.Access.{Access}
 use Rattle.bc_bio.specs.declared.access.Access.TheVariants.{Read, Write}
 use Rattle.bc_bio.specs.declared.context.Context.{Context}
@@ -12,7 +11,7 @@ use Rattle.bc_bio.specs.PlannedUnit.{PlannedUnit}
 use Rattle.bc_medium.specs.declared.entry.Entry.{Entry}
 use Rattle.bc_medium.specs.declared.unit_name.UnitName.{UnitName}
 use Rattle.bc_medium.specs.Places.{shard_of}
-use Rattle.bc_medium.specs.KeyedDisk.{Sectors, UnitAnswer, Faulted, Text, Performed, bytes_at, with_bytes, enciphered, deciphered, meets_fault, accessed, performed, disk_along, answers_along}
+use Rattle.bc_medium.specs.KeyedDisk.{Sectors, UnitAnswer, Faulted, Text, bytes_at, with_bytes, enciphered, deciphered, meets_fault, accessed, performed, disk_along, answers_along}
 use Rattle.bc_medium.specs.Entries.{name_of_entry, unit_of, performed_by, left_by, told_by}
 use Rattle.bc_medium.specs.Outcome.{Run, unit_named}
 use Rattle.bc_medium.specs.Growth.{IsEntryOf}
@@ -41,19 +40,22 @@ module _ (run : Run) (shards shard : ℕ) where
   same_access : (act : Access) (a b : Sectors) (first : ℕ) (context : Option Context) (u v : PlannedUnit) → u.sector ≡ first → u.context ≡ context → v.sector ≡ first → v.context ≡ context
       → (act ≡ Write → u.bytes ≡ v.bytes) → Agree a b → ((i : ℕ) → i < unit_sectors run.keys context → shard_of shards (first + i) ≡ shard)
       → Agree (accessed act run.keys a u).disk (accessed act run.keys b v).disk × ((accessed act run.keys a u).answer ≡ (accessed act run.keys b v).answer)
-  same_access Write a b first context u v us uc vs vc bytes same lies =
-      ((λ s p.
-      ap (λ (x : List ℕ). with_bytes (λ _. x) u.sector (enciphered run.keys u.context u.bytes) s) (same s p)
-      ∙ ap (λ (n : ℕ). with_bytes b n (enciphered run.keys u.context u.bytes) s) (us ∙ sym vs)
-      ∙ ap (λ (c : Option Context). with_bytes b v.sector (enciphered run.keys c u.bytes) s) (uc ∙ sym vc)
-      ∙ ap (λ (l : List ℕ). with_bytes b v.sector (enciphered run.keys v.context l) s) (bytes refl)), refl)
-  same_access Read a b first context u v us uc vs vc bytes same lies =
-      (same,
-      ap (λ (n : ℕ). Text (deciphered run.keys u.context (bytes_at a n (unit_sectors run.keys u.context)))) us
-      ∙ ap (λ (c : Option Context). Text (deciphered run.keys c (bytes_at a first (unit_sectors run.keys c)))) uc
-      ∙ ap (λ (raw : List ℕ). Text (deciphered run.keys context raw)) (bytes_at-agree a b first (unit_sectors run.keys context) (λ i lt. same (first + i) (lies i lt)))
-      ∙ sym (ap (λ (n : ℕ). Text (deciphered run.keys v.context (bytes_at b n (unit_sectors run.keys v.context)))) vs
-      ∙ ap (λ (c : Option Context). Text (deciphered run.keys c (bytes_at b first (unit_sectors run.keys c)))) vc))
+  same_access Write a b first context u v us uc vs vc bytes same lies = (
+    (λ s p.
+        ap (λ (x : List ℕ). with_bytes (λ _. x) u.sector (enciphered run.keys u.context u.bytes) s) (same s p)
+        ∙ ap (λ (n : ℕ). with_bytes b n (enciphered run.keys u.context u.bytes) s) (us ∙ sym vs)
+        ∙ ap (λ (c : Option Context). with_bytes b v.sector (enciphered run.keys c u.bytes) s) (uc ∙ sym vc)
+        ∙ ap (λ (l : List ℕ). with_bytes b v.sector (enciphered run.keys v.context l) s) (bytes refl)),
+    refl,
+  )
+  same_access Read a b first context u v us uc vs vc bytes same lies = (
+    same,
+    ap (λ (n : ℕ). Text (deciphered run.keys u.context (bytes_at a n (unit_sectors run.keys u.context)))) us
+        ∙ ap (λ (c : Option Context). Text (deciphered run.keys c (bytes_at a first (unit_sectors run.keys c)))) uc
+        ∙ ap (λ (raw : List ℕ). Text (deciphered run.keys context raw)) (bytes_at-agree a b first (unit_sectors run.keys context) (λ i lt. same (first + i) (lies i lt)))
+        ∙ sym (ap (λ (n : ℕ). Text (deciphered run.keys v.context (bytes_at b n (unit_sectors run.keys v.context)))) vs
+        ∙ ap (λ (c : Option Context). Text (deciphered run.keys c (bytes_at b first (unit_sectors run.keys c)))) vc),
+  )
 
   same_step : (a b : Sectors) (place : ℕ) (u : PlannedUnit) (e : Entry) → IsEntryOf e.at.caller u e → LiesIn u → e.failed ≡ meets_fault run.faults shard place → Agree a b
       → Agree (performed run.keys run.faults shard place a u).disk (performed_by run.keys b e).disk × ((performed run.keys run.faults shard place a u).answer ≡ (performed_by run.keys b e).answer)
@@ -85,7 +87,8 @@ module _ (run : Run) (shards shard : ℕ) where
       (λ i x is. failed (suc i) x is ∙ (let n : place + suc i ≡ place + 1 + i = omega arith in ap (meets_fault run.faults shard) n)) in
       subst (λ (o : Option PlannedUnit). Agree (disk_along run.keys run.faults shard place a (cons_option o us)) (left_by run.keys then.disk es)
       × (zip (name_of_entry e ∷ map name_of_entry es) (answers_along run.keys run.faults shard place a (cons_option o us)) ≡ (name_of_entry e, then.answer) ∷ told_by run.keys then.disk es))
-      (sym known.0.1)
-      (rest.0,
-      ap (λ (x : UnitAnswer). (name_of_entry e, x) ∷ zip (map name_of_entry es) (answers_along run.keys run.faults shard (place + 1) now.disk us)) both.1
-      ∙ ap (λ (l : List (UnitName × UnitAnswer)). (name_of_entry e, then.answer) ∷ l) rest.1)
+      (sym known.0.1) (
+        rest.0,
+        ap (λ (x : UnitAnswer). (name_of_entry e, x) ∷ zip (map name_of_entry es) (answers_along run.keys run.faults shard (place + 1) now.disk us)) both.1
+            ∙ ap (λ (l : List (UnitName × UnitAnswer)). (name_of_entry e, then.answer) ∷ l) rest.1,
+      )

@@ -1,11 +1,11 @@
 -- From what each thread has seen: what the run of the keyed disk along the closed orders answers, and what it leaves.
-use Rattle.std.proofs.Common.{◌≡◌, ℕ, zero, suc, ◌+◌, ◌*◌, ◌<◌, ◌≤◌, ◌⊎◌, inl, inr, Bool, true, false, cond, List, [], ◌∷◌, ◌++◌, length, map, refl, sym, ap, subst, ◌∙◌, arith, Option, Some, None}
-use Rattle.std.specs.Prelude.{◌==◌, ◌&&◌, ◌/◌, not, nat_lt, filter, filter_map, flat_map, find, slice_get, slice_index_or, zip, All, MatchOption}
-use Rattle.std.specs.List.{AllZip, AllByRecursion, list_any, range_with_len, cons_option}
+use Rattle.std.proofs.Common.{◌≡◌, ℕ, ◌+◌, ◌*◌, ◌<◌, ◌≤◌, inl, inr, Bool, true, false, cond, List, [], ◌∷◌, ◌++◌, length, map, refl, sym, ap, subst, ◌∙◌, arith, Option, Some, None}
+use Rattle.std.specs.Prelude.{◌==◌, ◌&&◌, ◌/◌, not, filter, filter_map, flat_map, slice_get, zip}
+use Rattle.std.specs.List.{AllZip, AllByRecursion, list_any, cons_option}
 use Rattle.std.specs.Option.{option_map, option_map_or}
 use Rattle.std.proofs.Math.Logic.{⊎_elim}
-use Rattle.std.proofs.lemmas.Bool.{cases_Bool, true≢false, eq-eqb, ne_eqb, eqb-true, cases_eq, cases_lt, and_parts, false_from_ne_true, lt-ltb}
-use Rattle.std.proofs.lemmas.Option.{none-some, same_Some}
+use Rattle.std.proofs.lemmas.Bool.{true≢false, eq-eqb, ne_eqb, eqb-true, cases_lt, and_parts, false_from_ne_true, lt-ltb}
+use Rattle.std.proofs.lemmas.Option.{same_Some}
 use Rattle.std.proofs.lemmas.Nat.{mod_below}
 use Rattle.std.proofs.lemmas.List.{length-map}
 use Rattle.bc_base.specs.Story.{own, IsFront}
@@ -20,18 +20,18 @@ use Rattle.bc_medium.specs.Places.{shard_of}
 use Rattle.bc_medium.specs.KeyedDisk.{Sectors, meets_fault, UnitAnswer, Faulted, Written, Text, image_sectors, bytes_at, accessed, disk_along, answers_along}
 use Rattle.bc_medium.specs.Entries.{caller_of, name_of_entry, unit_of, performed_by, left_by, told_by, IsTold}
 use Rattle.bc_medium.specs.LawfulOrders.{name_of, is_same, is_attempted, is_earlier}
-use Rattle.bc_medium.specs.Outcome.{Run, is_named, unit_named, units_on, disk_of, answers_on, answers_of, final_image, is_fault, is_unit_of, answer_text, unit_answer, answers_of_bio, fault_of, without_fault, bio_answer, BioAnswer, Wrote, Bytes, Fault}
+use Rattle.bc_medium.specs.Outcome.{Run, unit_named, disk_of, answers_on, answers_of, final_image, is_fault, is_unit_of, answer_text, unit_answer, answers_of_bio, fault_of, without_fault, bio_answer, BioAnswer, Wrote, Bytes, Fault}
 use Rattle.bc_compose.proofs.Image.{image_of-image_sectors}
 use Rattle.bc_script.specs.Script.{Script, keys_of}
 use Rattle.bc_base.specs.Lists.{list_at}
 use Rattle.bc_medium.specs.Growth.{IsEntryOf, failed_names, attempted_by, lies_in, Knows}
 use Rattle.bc_compose.specs.SectionDone.{IsBioAnswer}
 use Rattle.bc_compose.specs.Closed.{ShardsClosed, StoresClosed}
-use Rattle.bc_compose.proofs.Lists.{In, in_at, place_of, all_at, all_from_in, in_map, in_of_map, in_filter, in_of_filter, beside, beside_left, any_from, map_beside, slice_get_append}
+use Rattle.bc_compose.proofs.Lists.{In, in_at, all_at, all_from_in, in_map, in_filter, in_of_filter, beside, beside_left, any_from, slice_get_append}
 use Rattle.bc_compose.proofs.Names.{Apart, finds}
 use Rattle.bc_compose.proofs.Distinct.{Distinct, distinct_filter, distinct_from_own, distinct_same, distinct_units, same_names, same_itself, find_the, find_some, find_none, in_of_range, in_range}
-use Rattle.bc_compose.proofs.Along.{Known, LiesIn, Agree, along}
-use Rattle.bc_compose.proofs.Orders.{HasMade, named, by_thread, placed, made_by, stands, at_map}
+use Rattle.bc_compose.proofs.Along.{Known, Agree, along}
+use Rattle.bc_compose.proofs.Orders.{HasMade, named, by_thread, placed, made_by, at_map}
 
 -- ---- entries and answers
 
@@ -60,9 +60,11 @@ told_append keys disk (e ∷ es) more =
 pub still_told : (keys : List KeyData) (disk : Sectors) (caller : ℕ) (seen order : List Entry) (name : UnitName) (answer : UnitAnswer)
     → IsFront caller_of caller seen order → IsTold (told_by keys disk seen) name answer → IsTold (told_by keys disk order) name answer
 still_told keys disk caller seen order name answer front told =
-    let more = front.begins.0 in
-    (told.0, subst (λ (l : List (UnitName × UnitAnswer)). slice_get l told.0 ≡ Some (name, answer)) (sym (ap (told_by keys disk) front.begins.1 ∙ told_append keys disk seen more))
-    (slice_get_append (told_by keys disk seen) (told_by keys (left_by keys disk seen) more) told.0 (name, answer) told.1))
+    let more = front.begins.0 in (
+      told.0,
+      subst (λ (l : List (UnitName × UnitAnswer)). slice_get l told.0 ≡ Some (name, answer)) (sym (ap (told_by keys disk) front.begins.1 ∙ told_append keys disk seen more))
+          (slice_get_append (told_by keys disk seen) (told_by keys (left_by keys disk seen) more) told.0 (name, answer) told.1),
+    )
 
 -- an entry that failed is told so, and no other
 told_failed : (keys : List KeyData) (disk : Sectors) (es : List Entry) (x : UnitName × UnitAnswer) → In x (told_by keys disk es) → is_fault x.1 ≡ true → (e : Entry) × In e es × (name_of_entry e ≡ x.0) × (e.failed ≡ true)
@@ -77,6 +79,7 @@ told_failed keys disk (e ∷ es) x at' faulty =
     went : (act : Access) (u : PlannedUnit) → is_fault (accessed act keys disk u).answer ≡ false
     went Write u = refl
     went Read u = refl
+
     failed : (e : Entry) → is_fault (performed_by keys disk e).answer ≡ true → e.failed ≡ true
     failed e is =
         (elim e.failed as (λ (t : Bool). is_fault (cond t (record { disk = disk; answer = Faulted }) (accessed e.access keys disk (unit_of e))).answer ≡ true → t ≡ true) [
@@ -346,6 +349,7 @@ module _ (script : Script) (faults : List (ℕ × ℕ)) (shards callers : ℕ) (
       texts_of : (texts : List (List ℕ)) → flat_map answer_text (map (λ text. Text text) texts) ≡ flat_map (λ text. text) texts
       texts_of [] = refl
       texts_of (text ∷ texts) = ap (λ (l : List ℕ). text ++ l) (texts_of texts)
+
       each : (us : List PlannedUnit) (texts : List (List ℕ)) → AllZip (λ u text. Knows (keys_of script) shards base thread (seen thread) u (Text text)) us texts
           → filter_map (λ u. unit_answer run (name_of thread u)) us ≡ map (λ text. Text text) texts
       each [] [] all = refl

@@ -16,6 +16,5 @@ bytes_at-image_sectors image first (suc count) =
     ∙ sym (take-add 512 (512 * count) (drop (512 * first) image))
     ∙ ap (λ (n : ℕ). take n (drop (512 * first) image)) (sym more))
 
-
 pub image_of-image_sectors : (image : List ℕ) (n : ℕ) → length image ≡ 512 * n → bytes_at (image_sectors image) 0 n ≡ image
 image_of-image_sectors image n whole = bytes_at-image_sectors image 0 n ∙ take_all (512 * n) image (omega arith)

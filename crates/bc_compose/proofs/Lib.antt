@@ -8,3 +8,5 @@ mod Along
 mod Orders
 mod Answered
 mod Whole
+mod OneOrder
+mod OneReport

@@ -1,13 +1,13 @@
 -- From what each thread knows: the orders of the closed shards are lawful, and each entry is a unit of the plan.
-use Rattle.std.proofs.Common.{◌≡◌, ℕ, zero, suc, ◌+◌, ◌<◌, ◌≤◌, ◌⊎◌, inl, inr, Bool, true, false, cond, List, [], ◌∷◌, ◌++◌, length, map, refl, sym, ap, subst, ◌∙◌, arith, Option, Some, None}
-use Rattle.std.specs.Prelude.{◌==◌, ◌&&◌, ◌/◌, not, nat_lt, filter, filter_map, find, slice_get, slice_index_or, All, option_and_then}
-use Rattle.std.specs.List.{AllZip, AllByRecursion, list_any}
+use Rattle.std.proofs.Common.{◌≡◌, ℕ, zero, suc, ◌<◌, ◌≤◌, inl, inr, Bool, true, cond, List, [], ◌∷◌, length, map, refl, sym, ap, subst, ◌∙◌, arith, Option, Some, None}
+use Rattle.std.specs.Prelude.{◌==◌, ◌&&◌, ◌/◌, not, nat_lt, filter, filter_map, slice_get, option_and_then}
+use Rattle.std.specs.List.{AllZip, list_any}
 use Rattle.std.proofs.Math.Logic.{⊎_elim}
-use Rattle.std.proofs.lemmas.Bool.{cases_Bool, true≢false, eq-eqb, ne_eqb, eqb-true, cases_eq, cases_lt, and_parts}
-use Rattle.std.proofs.lemmas.Option.{none-some, same_Some, slice_get-map, slice_get-get_or, slice_get_past, slice_get_within}
+use Rattle.std.proofs.lemmas.Bool.{eq-eqb, ne_eqb, eqb-true, cases_lt, and_parts}
+use Rattle.std.proofs.lemmas.Option.{none-some, same_Some, slice_get-get_or}
 use Rattle.std.proofs.lemmas.Nat.{mod_below}
-use Rattle.std.proofs.lemmas.List.{get_or_past, get_or-map, length-map}
-use Rattle.bc_base.specs.Story.{own, IsFront}
+use Rattle.std.proofs.lemmas.List.{get_or_past, length-map}
+use Rattle.bc_base.specs.Story.{own}
 use Rattle.bc_bio.specs.PlannedUnit.{PlannedUnit}
 use Rattle.bc_medium.specs.declared.entry.Entry.{Entry}
 use Rattle.bc_medium.specs.declared.unit_name.UnitName.{UnitName}
@@ -18,7 +18,7 @@ use Rattle.bc_medium.specs.LawfulOrders.{name_of, is_attempted, is_earlier, at_p
 use Rattle.bc_base.specs.Lists.{list_at}
 use Rattle.bc_medium.specs.Growth.{IsEntryOf, failed_names, attempted_by, lies_in}
 use Rattle.bc_compose.specs.Closed.{ShardsClosed}
-use Rattle.bc_compose.proofs.Lists.{In, in_at, place_of, in_map, in_of_map, in_filter, in_of_filter, beside, beside_left, any_in, any_from, same_tests, filter-map, map-map, filter_same_in, filter_swap, filter_beside, map_beside, own_seen, slice_get_append, all_at}
+use Rattle.bc_compose.proofs.Lists.{In, in_at, place_of, in_map, in_of_map, in_filter, in_of_filter, any_in, any_from, same_tests, filter-map, filter_same_in, filter_swap, filter_beside, map_beside, own_seen, all_at}
 
 -- what each thread has made: the part of `SectionDone` that the orders stand on
 pub record HasMade (shards thread : ℕ) (issued : List PlannedUnit) (seen : List (List Entry)) (made : List Entry) : Type 0 where
@@ -50,7 +50,7 @@ fault_meets faults shard place at' =
     any_from (λ fault. (fault.0 == shard) && (fault.1 == place)) faults (shard, place) at'
     (rw (eq-eqb shard shard refl, eq-eqb place place refl) refl)
 
-in_filter_map : {X Y : Type 0} (f : X → Option Y) (xs : List X) (x : X) (y : Y) → In x xs → f x ≡ Some y → In y (filter_map f xs)
+pub in_filter_map : {X Y : Type 0} (f : X → Option Y) (xs : List X) (x : X) (y : Y) → In x xs → f x ≡ Some y → In y (filter_map f xs)
 in_filter_map f [] x y at' e = absurd at'
 in_filter_map f (z ∷ zs) x y at' e =
     ⊎_elim
@@ -61,6 +61,7 @@ in_filter_map f (z ∷ zs) x y at' e =
     cons : {Y : Type 0} → Option Y → List Y → List Y
     cons None ys = ys
     cons (Some y) ys = y ∷ ys
+
     behind : {Y : Type 0} (y : Y) (ys : List Y) (o : Option Y) → In y ys → In y (cons o ys)
     behind y ys None h = h
     behind y ys (Some w) h = inr h
@@ -80,7 +81,7 @@ in_of_filter_map f (x ∷ xs) y at' =
     cons (Some y) ys = y ∷ ys
 
 -- the list at a place
-at_is : {A : Type 0} (lists : List (List A)) (n : ℕ) (list : List A) → slice_get lists n ≡ Some list → list_at lists n ≡ list
+pub at_is : {A : Type 0} (lists : List (List A)) (n : ℕ) (list : List A) → slice_get lists n ≡ Some list → list_at lists n ≡ list
 at_is [] n list e = absurd (none-some list e)
 at_is (l ∷ ls) zero list e = same_Some l list e
 at_is (l ∷ ls) (suc n) list e = at_is ls n list e
@@ -88,7 +89,7 @@ at_is (l ∷ ls) (suc n) list e = at_is ls n list e
 get_at : {A : Type 0} (lists : List (List A)) (n : ℕ) → n < length lists → slice_get lists n ≡ Some (list_at lists n)
 get_at lists n within = slice_get-get_or lists n [] within
 
-within_of : {A : Type 0} (xs : List A) (n : ℕ) (x : A) → slice_get xs n ≡ Some x → n < length xs
+pub within_of : {A : Type 0} (xs : List A) (n : ℕ) (x : A) → slice_get xs n ≡ Some x → n < length xs
 within_of [] n x e = absurd (none-some x e)
 within_of (y ∷ ys) zero x e = omega arith
 within_of (y ∷ ys) (suc n) x e = let r = within_of ys n x e in omega arith
@@ -184,6 +185,7 @@ module _ (faults : List (ℕ × ℕ)) (shards callers : ℕ) (some : 1 ≤ shard
                 let e = get_of_map name_of_entry l.0 place f (subst (λ o. slice_get o place ≡ Some f) (sym l.2) found) in
                 (e.0, subst (λ n. shard < n) closed.one_for_each within, subst (λ o. slice_get o place ≡ Some e.0) (sym (at_is orders shard l.0 l.1)) e.1, e.2)
           ]) refl is
+
       place_is : (shard place : ℕ) (e : Entry) → shard < shards → slice_get (list_at orders shard) place ≡ Some e → at_place names (shard, place) ≡ Some (name_of_entry e)
       place_is shard place e within is =
           let order : slice_get names shard ≡ Some (map name_of_entry (list_at orders shard)) =

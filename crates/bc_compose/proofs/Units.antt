@@ -1,6 +1,6 @@
 -- The units of a section: each has its operation's number, no two have one name, and those of an operation are its bio's.
 -- (Taken over from bc_run's proofs.)
-use Rattle.std.proofs.Common.{◌≡◌, ℕ, zero, suc, ◌+◌, ◌<◌, ◌≤◌, ◌⊎◌, inl, inr, Bool, false, cond, List, [], ◌∷◌, ◌++◌, length, map, append-nil, refl, ap, ◌∙◌, arith, Option, Some, None}
+use Rattle.std.proofs.Common.{◌≡◌, ℕ, zero, suc, ◌+◌, ◌≤◌, Bool, false, cond, List, [], ◌∷◌, ◌++◌, map, append-nil, refl, ap, ◌∙◌, arith, Option, Some, None}
 use Rattle.std.specs.Prelude.{◌==◌, ◌&&◌, filter, flat_map, is_none}
 use Rattle.std.specs.List.{range_with_len, enumerate_from, AllByRecursion}
 use Rattle.std.proofs.Math.Logic.{⊎_elim}
@@ -50,7 +50,7 @@ apart_append (u ∷ us) vs ps qs cross =
 
 -- the units of a bio, from number first on
 module _ (keys : List KeyData) (op : ℕ) (operation : Op) (bio : Extent) where
-  later_units : (first n : ℕ) → AllByRecursion (λ u. first ≤ u.unit) (map (unit_at keys op operation bio) (range_with_len first n))
+  pub later_units : (first n : ℕ) → AllByRecursion (λ u. first ≤ u.unit) (map (unit_at keys op operation bio) (range_with_len first n))
   later_units first zero = tt
   later_units first (suc n) =
       (omega arith, all_of (λ (u : PlannedUnit). first + 1 ≤ u.unit) (λ (u : PlannedUnit). first ≤ u.unit) (map (unit_at keys op operation bio) (range_with_len (first + 1) n)) (λ u low. omega arith) (later_units (first + 1) n))
@@ -118,7 +118,6 @@ module _ (script : Script) where
 
   pub apart_section : (section : List Op) → Apart (units_of_section script section)
   apart_section section = apart_from 0 section
-
 
 -- ---- the units of one operation among its section's
 

@@ -1,13 +1,12 @@
 -- From what each thread knows when its section is done, and what the closed shards tell: the report is a lawful run's.
-use Rattle.std.proofs.Common.{◌≡◌, ℕ, zero, suc, ◌+◌, ◌*◌, ◌/◌, ◌<◌, ◌≤◌, ◌⊎◌, inl, inr, Bool, true, false, cond, List, [], ◌∷◌, ◌++◌, length, map, refl, sym, ap, subst, ◌∙◌, arith, Option, Some, None}
-use Rattle.std.specs.Prelude.{◌==◌, filter, flat_map, slice_get, All, MatchOption, IsSomeAnd, ⊤}
-use Rattle.std.specs.List.{AllZip, AllByRecursion, enumerate_from, range_with_len}
+use Rattle.std.proofs.Common.{◌≡◌, ℕ, zero, suc, ◌+◌, ◌*◌, ◌/◌, ◌<◌, ◌≤◌, inl, inr, Bool, true, false, cond, List, [], ◌∷◌, ◌++◌, length, map, refl, sym, ap, subst, ◌∙◌, arith, Option, Some, None}
+use Rattle.std.specs.Prelude.{◌==◌, filter, flat_map, All, MatchOption, IsSomeAnd}
+use Rattle.std.specs.List.{AllZip, enumerate_from, range_with_len}
 use Rattle.std.specs.Option.{option_map_or}
 use Rattle.std.proofs.Math.Logic.{⊎_elim}
 use Rattle.std.proofs.lemmas.List.{length-map}
 use Rattle.std.proofs.lemmas.List.Elements.{All-from_recursion}
 use Rattle.bc_base.specs.Lists.{list_at}
-use Rattle.bc_key.specs.KeyData.{KeyData}
 use Rattle.bc_bio.specs.declared.access.Access.TheVariants.{Read, Write}
 use Rattle.bc_bio.specs.declared.refusal.Refusal.{Refusal}
 use Rattle.bc_bio.specs.declared.extent.Extent.{Extent}
@@ -24,8 +23,8 @@ use Rattle.bc_medium.specs.LawfulOrders.{LawfulOrders, entries_of, attempted_on}
 use Rattle.bc_medium.specs.Outcome.{Run, final_image, bio_answer, BioAnswer}
 use Rattle.bc_script.specs.declared.op.Op.{Op}
 use Rattle.bc_script.specs.declared.op.Op.TheVariants as ops
-use Rattle.bc_script.specs.Script.{Script, IsScript, keys_of}
-use Rattle.bc_script.specs.Bios.{bio_of, refusal_of}
+use Rattle.bc_script.specs.Script.{Script, keys_of}
+use Rattle.bc_script.specs.Bios.{refusal_of}
 use Rattle.bc_script.specs.Plan.{plan_of, units_of, units_of_section}
 use Rattle.bc_script.specs.Way.{way_of}
 use Rattle.bc_report.specs.declared.answer.Answer.{Answer}
@@ -38,7 +37,7 @@ use Rattle.bc_report.specs.Evictions.{IsEvictionAnswer, HaveEvictionAnswers}
 use Rattle.bc_report.specs.Ways.{way_in, HasWay, HaveWays}
 use Rattle.bc_report.specs.LawfulRun.{LawfulRun}
 use Rattle.bc_report.specs.SerialRun.{serial_order, IsSerial}
-use Rattle.bc_compose.specs.SectionDone.{SectionDone, IsReply, IsBioAnswer, SaysItsWay}
+use Rattle.bc_compose.specs.SectionDone.{IsReply, IsBioAnswer, SaysItsWay}
 use Rattle.bc_compose.specs.Closed.{line_of}
 use Rattle.bc_compose.specs.Composed.{AreSectionsOf, FollowOneAnother}
 use Rattle.bc_compose.proofs.Lists.{In, all_at, all_from_in, in_of_map, map-map}
@@ -243,7 +242,7 @@ module _ (sizes : UnitsHaveSizes) (blocks : UnitsLieInBlocks) (unrefused : Unref
     answers = subst (λ (run : Run). HasAnswers script run report.threads) run_is answers_hold;
     image_left =
         image_left script script.faults shards callers done.some plan few seen made orders done.shards_closed has_made image base done.stores_closed.opening apart one left done.stores_closed
-            (done.stores_closed.size ∙ long)
+        (done.stores_closed.size ∙ long)
         ∙ ap final_image run_is;
     ways = subst (λ (run : Run). HaveWays run report.shards) run_is ways_hold;
     evictions = evictions_hold;

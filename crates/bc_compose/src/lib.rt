@@ -5,4 +5,4 @@
 
 mod laws;
 
-pub use laws::{sections_make_a_lawful_run, sections_in_turn_make_a_serial_run, serial_runs_agree};
+pub use laws::{sections_in_turn_make_a_serial_run, sections_make_a_lawful_run, serial_runs_agree};
