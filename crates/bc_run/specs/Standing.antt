@@ -1,6 +1,6 @@
 -- What holds of the shards of a run by one caller, and what one attempt of a data unit does to them. The contracts of
 -- private functions speak of this; no public one does.
-use Rattle.std.specs.Prelude.{◌≡◌, ◌↔◌, ℕ, ◌+◌, ◌*◌, ◌<◌, ◌≤◌, ◌==◌, Bool, true, false, List, [], ◌∷◌, length, map, filter, replicate, slice_get, Option, Some, None, ⊤}
+use Rattle.std.specs.Prelude.{◌≡◌, ◌↔◌, ℕ, ◌+◌, ◌*◌, ◌<◌, ◌≤◌, ◌==◌, Bool, true, false, List, [], ◌∷◌, ◌++◌, length, map, filter, replicate, slice_get, Option, Some, None, ⊤}
 use Rattle.std.specs.List.{range_with_len}
 use Rattle.std.specs.Option.{option_map_or}
 use Rattle.bc_base.specs.declared.place.Place.{Place}
@@ -76,6 +76,26 @@ pub record IsCourse (script : Script) (keys : List KeyData) (shards : List (Shar
 -- the sectors of each shard at the opening
 abbrev pub sectors_at : List (ShardData RamData) → ℕ → Sectors
 sectors_at shards shard = option_map_or (λ s. contents s.start) (slice_get shards shard) (λ sector. [])
+
+-- a script that is being carried out by one caller: over which shards, whose section it is, and how many data units more
+-- may be attempted
+pub record CourseData : Type 0 where
+  pub script : Script
+  pub shards : List (ShardData RamData)
+  pub thread : ℕ
+  pub left : ℕ
+
+-- the same as the device of the thread whose section it is
+abbrev pub device_of : CourseData → DeviceData
+device_of course = record {
+  script = course.script;
+  shards = length course.shards;
+  base = sectors_at course.shards;
+  thread = course.thread;
+  seen = orders_of course.shards;
+  alone = true;
+  spare = course.left;
+}
 
 -- ---- data units
 
@@ -156,10 +176,9 @@ pub record AttemptsUnit (old new : DeviceData) (u : PlannedUnit) (answer : UnitA
 -- ---- the whole run
 
 -- a run begins: nothing was attempted yet, and each shard has its own sectors of the image
-pub record IsBegun (script : Script) (image : List ℕ) (shards : ℕ) (device : DeviceData) : Type 0 where
-  pub script_is : device.script ≡ script
-  pub shards_are : device.shards ≡ shards
-  pub untouched : (shard : ℕ) → list_at device.seen shard ≡ []
-  pub alone : device.alone ≡ true
-  pub opening : (s : ℕ) → device.base (shard_of shards s) s ≡ image_sectors image s
-  pub spare : device.spare ≡ max_units
+pub record IsBegun (script : Script) (image : List ℕ) (shards : ℕ) (course : CourseData) : Type 0 where
+  pub script_is : course.script ≡ script
+  pub shards_are : length course.shards ≡ shards
+  pub untouched : (shard : ℕ) → list_at (orders_of course.shards) shard ≡ []
+  pub opening : (s : ℕ) → sectors_at course.shards (shard_of shards s) s ≡ image_sectors image s
+  pub left : course.left ≡ max_units

@@ -10,7 +10,7 @@ ghost use Rattle.bc_script.specs.Script.{keys_of, IsText, max_bio_units, max_bio
 ghost use Rattle.bc_script.specs.Bios.{refusal_of};
 ghost use Rattle.bc_script.specs.Plan.{unit_at};
 ghost use Rattle.bc_run.specs.Sections.{CarriesOne};
-ghost use Rattle.bc_run.specs.Standing.{IsPerformable, AttemptsUnit, answer_of_write, answer_of_read, at_of};
+ghost use Rattle.bc_run.specs.Standing.{IsPerformable, AttemptsUnit, answer_of_write, answer_of_read, at_of, device_of};
 
 use crate::ciphers::Ciphers;
 use crate::read_answer::answer_of;
@@ -37,22 +37,11 @@ pub(crate) struct Course<'s> {
 }
 
 impl<'s> Model for Course<'s> {
-    ghost use Rattle.std.specs.Prelude.{length, true};
-    ghost use Rattle.bc_medium.specs.Shards.{orders_of};
-    ghost use Rattle.bc_run.specs.Sections.{DeviceData};
-    ghost use Rattle.bc_run.specs.Standing.{sectors_at, IsCourse};
+    ghost use Rattle.bc_run.specs.Standing.{CourseData, IsCourse};
 
-    ghost Value = { DeviceData };
+    ghost Value = { CourseData };
 
-    ghost view = { λ c. record {
-      script = c.script.now;
-      shards = length c.shards;
-      base = sectors_at c.shards;
-      thread = c.thread;
-      seen = orders_of c.shards;
-      alone = true;
-      spare = c.left;
-    } };
+    ghost view = { λ c. record { script = c.script.now; shards = c.shards; thread = c.thread; left = c.left } };
 
     ghost invariant = { λ c. IsCourse c.script.now c.ciphers c.shards c.left };
 }
@@ -101,9 +90,9 @@ impl Course<'_> {
         requires performable { IsPerformable self.old.script bio.now }
         requires text { IsText (keys_of self.old.script) bio.now.context bio.now.units text.now }
         requires room { length room.old ≡ 131072 }
-        requires spare { bio.now.units ≤ self.old.spare }
+        requires spare { bio.now.units ≤ self.old.left }
         ensures room { length room.new ≡ length room.old }
-        ensures carries { IfOk result (CarriesOne self.old self.new
+        ensures carries { IfOk result (CarriesOne (device_of self.old) (device_of self.new)
             (op, Op.Write bio.now.context bio.now.sector bio.now.units text.now)) }
     {
         for unit in 0..bio.units {
@@ -129,9 +118,9 @@ impl Course<'_> {
         requires text { IsText (keys_of self.old.script) bio.now.context bio.now.units text.now }
         requires unit { unit < bio.now.units }
         requires room { length room.old ≡ 131072 }
-        requires spare { 1 ≤ self.old.spare }
+        requires spare { 1 ≤ self.old.left }
         ensures room { length room.new ≡ length room.old }
-        ensures attempts { IfOk result (λ went. AttemptsUnit self.old self.new
+        ensures attempts { IfOk result (λ went. AttemptsUnit (device_of self.old) (device_of self.new)
             (unit_at (keys_of self.old.script) op (Op.Write bio.now.context bio.now.sector bio.now.units text.now) bio.now unit)
             (answer_of_write went)) }
     {
@@ -155,9 +144,9 @@ impl Course<'_> {
         requires access { bio.now.access ≡ Access.Read }
         requires performable { IsPerformable self.old.script bio.now }
         requires room { length room.old ≡ 131072 }
-        requires spare { bio.now.units ≤ self.old.spare }
+        requires spare { bio.now.units ≤ self.old.left }
         ensures room { length room.new ≡ length room.old }
-        ensures carries { CarriesOne self.old self.new
+        ensures carries { CarriesOne (device_of self.old) (device_of self.new)
             (op, Op.Read bio.now.context bio.now.sector bio.now.units) result }
     {
         let size = bio.unit_bytes(self.ciphers.keys());
@@ -176,9 +165,9 @@ impl Course<'_> {
         requires performable { IsPerformable self.old.script bio.now }
         requires unit { unit < bio.now.units }
         requires length { length place.old ≡ 512 * unit_sectors (keys_of self.old.script) bio.now.context }
-        requires spare { 1 ≤ self.old.spare }
+        requires spare { 1 ≤ self.old.left }
         ensures length { length place.new ≡ length place.old }
-        ensures attempts { AttemptsUnit self.old self.new
+        ensures attempts { AttemptsUnit (device_of self.old) (device_of self.new)
             (unit_at (keys_of self.old.script) op (Op.Read bio.now.context bio.now.sector bio.now.units) bio.now unit)
             (answer_of_read place.new result) }
     {

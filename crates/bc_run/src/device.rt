@@ -10,6 +10,7 @@ ghost use Rattle.bc_run.specs.Sections.{DeviceData, CarriesOne, CarriesSection};
 
 use bc_bio::{Extent, Refusal};
 use bc_key::KeyNo;
+use bc_medium::order_laws;
 use bc_report::Answer;
 use bc_script::Op;
 
@@ -62,6 +63,7 @@ pub(crate) fn carry_out<R, E, D: Device<R, E>>(
     requires room { length section.now ≤ vec_capacity answers.old }
     ensures { OnOk result (CarriesSection (D.facts device.old) (D.facts device.new) section.now answers.new.items) }
 {
+    order_laws();
     for (op, operation) in section.iter().enumerate() {
         let answer = carry_out_one(rt, device, op as u32, operation)?;
         answers.push_reserved(answer);

@@ -22,9 +22,9 @@ pub(crate) struct Direct<'s> {
 
 impl<'s> Model for Direct<'s> {
     ghost use Rattle.std.specs.Prelude.{◌≡◌, length};
-    ghost use Rattle.bc_run.specs.Sections.{DeviceData};
+    ghost use Rattle.bc_run.specs.Standing.{CourseData};
 
-    ghost Value = { DeviceData };
+    ghost Value = { CourseData };
 
     ghost view = { λ d. d.course };
 
@@ -41,7 +41,9 @@ impl Direct<'_> {
 }
 
 impl Device<(), AllocError> for Direct<'_> {
-    ghost facts = { λ d. d };
+    ghost use Rattle.bc_run.specs.Standing.{device_of};
+
+    ghost facts = { λ d. device_of d };
 
     fn refusal(&self, bio: &Extent) -> Option<Refusal> {
         self.course.refusal(bio)

@@ -2,13 +2,14 @@
 
 ghost use Rattle.std.specs.Prelude.{◌≡◌, ℕ, ◌*◌, ◌^◌, ◌<◌, ◌≤◌, [], length, map, sum_by, IfOk};
 ghost use Rattle.bc_base.specs.Lists.{Each, list_at};
+ghost use Rattle.bc_medium.specs.Shards.{orders_of};
 ghost use Rattle.bc_script.specs.Script.{keys_of, IsSection, unit_count_of_section};
 ghost use Rattle.bc_report.specs.LawfulRun.{LawfulRun};
 ghost use Rattle.bc_report.specs.SerialRun.{IsSerial};
 ghost use Rattle.bc_report.specs.Report.{IsEntry, IsPart};
 ghost use Rattle.bc_compose.specs.Closed.{line_of};
 ghost use Rattle.bc_run.specs.Sections.{CarriesSection, SectionsDone};
-ghost use Rattle.bc_run.specs.Standing.{IsBegun};
+ghost use Rattle.bc_run.specs.Standing.{IsBegun, device_of};
 
 use crate::ciphers::Ciphers;
 use crate::course::Course;
@@ -17,7 +18,7 @@ use crate::direct::Direct;
 use crate::opening::stores_of;
 use bc_base::{Items, RamStore, SECTOR_BYTES};
 use bc_compose::{sections_in_turn_make_a_serial_run, sections_make_a_lawful_run};
-use bc_medium::{Entry, Shards};
+use bc_medium::{Entry, Shards, UnitAt};
 use bc_report::{Answer, Line, Report};
 use bc_script::limits::{MAX_BIO_SECTORS, MAX_UNITS};
 use bc_script::{Op, Script};
@@ -108,9 +109,9 @@ fn carry_sections_out(
     sections: &[Items<Op>],
 ) -> Result<Items<Items<Answer>>, AllocError>
     requires sections { sections.now ≡ direct.old.script.threads }
-    requires untouched { (shard : ℕ) → list_at direct.old.seen shard ≡ [] }
-    requires spare { sum_by unit_count_of_section sections.now ≤ direct.old.spare }
-    ensures { IfOk result (SectionsDone direct.old direct.new sections.now) }
+    requires untouched { (shard : ℕ) → list_at (orders_of direct.old.shards) shard ≡ [] }
+    requires spare { sum_by unit_count_of_section sections.now ≤ direct.old.left }
+    ensures { IfOk result (SectionsDone (device_of direct.old) (device_of direct.new) sections.now) }
 {
     let mut answers = Vec::with_capacity(alloc, sections.len())?;
     for (thread, section) in sections.iter().enumerate() {
@@ -129,8 +130,9 @@ fn carry_section_out(
 ) -> Result<Items<Answer>, AllocError>
     requires rules { IsSection (keys_of direct.old.script) section.now }
     requires few { length section.now ≤ 65536 }
-    requires spare { unit_count_of_section section.now ≤ direct.old.spare }
-    ensures { IfOk result (CarriesSection (record direct.old { thread = thread }) direct.new section.now) }
+    requires spare { unit_count_of_section section.now ≤ direct.old.left }
+    ensures { IfOk result (CarriesSection
+        (device_of (record direct.old { thread = thread })) (device_of direct.new) section.now) }
 {
     direct.begin(thread);
     let mut answers = Vec::with_capacity(alloc, section.len())?;
@@ -172,10 +174,13 @@ fn line_of(entry: &Entry) -> Line
     ensures line { result ≡ line_of entry.now }
     ensures range { IsEntry result }
 {
+    let UnitAt {
+        caller, tag, unit, ..
+    } = entry.at;
     Line {
-        thread: entry.at.caller,
-        op: entry.at.tag,
-        unit: entry.at.unit,
+        thread: caller,
+        op: tag,
+        unit,
         via: entry.via,
     }
 }
