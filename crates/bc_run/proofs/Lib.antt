@@ -2,6 +2,7 @@ pub mod Lists
 pub mod Growing
 pub mod Carrying
 pub mod Attempting
+pub mod Placing
 pub mod Words
 pub mod Equal
 pub mod EqualParts

@@ -172,7 +172,7 @@ impl Course<'_> {
             (answer_of_read place.new result) }
     {
         let at = unit_of_bio(self.ciphers.keys(), self.thread, op, bio, unit);
-        let went = read_unit(&mut self.shards, &self.ciphers, at, place);
+        let went = read_unit(&mut self.shards, &self.ciphers, &at, place);
         self.left -= 1;
         went
     }

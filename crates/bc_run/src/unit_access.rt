@@ -1,9 +1,11 @@
 //! Data units, written to the shards of a disk and read from them, one at a time.
 
-ghost use Rattle.std.specs.Prelude.{◌≡◌, ◌*◌, ◌+◌, ◌≤◌, length, replicate, slice_range, IfOk};
+ghost use Rattle.std.specs.Prelude.{◌≡◌, ◌*◌, ◌/◌, ◌+◌, ◌≤◌, List, length, replicate, slice_range, IfOk};
 ghost use Rattle.bc_base.specs.RamStores.{owns};
+ghost use Rattle.bc_key.specs.KeyData.{KeyData};
 ghost use Rattle.bc_bio.specs.Extent.{unit_sectors};
 ghost use Rattle.bc_bio.specs.Conditions.{HasKey};
+ghost use Rattle.bc_medium.specs.KeyedDisk.{deciphered};
 ghost use Rattle.bc_medium.specs.Shards.{HaveKeys, Own, HasSpare};
 ghost use Rattle.bc_script.specs.Plan.{text_at};
 ghost use Rattle.bc_run.specs.Standing.{HasUnit, via_of, Attempted, entry_of_write, answer_of_write, entry_of_read, answer_of_read};
@@ -35,8 +37,8 @@ pub(crate) fn write_unit(
     ciphers.encipher(at.context, place);
     let via = via_of(at.context);
     match shards.write_unit(ciphers.keys(), at, via, plain, place) {
-        Ok(_) => true,
-        Err(_) => false,
+        Ok(_) => return true,
+        Err(_) => return false,
     }
 }
 
@@ -45,22 +47,39 @@ pub(crate) fn write_unit(
 pub(crate) fn read_unit(
     shards: &mut Shards<RamStore>,
     ciphers: &Ciphers,
-    at: UnitAt,
+    at: &UnitAt,
     place: &mut [u8],
 ) -> bool
-    requires key { HasKey ciphers.now at.context }
+    requires key { HasKey ciphers.now at.now.context }
     requires keys { HaveKeys ciphers.now shards.old }
-    requires room { length place.old ≡ 512 * unit_sectors ciphers.now at.context }
-    requires sectors { Own owns shards.old at.sector (unit_sectors ciphers.now at.context) }
-    requires spare { HasSpare shards.old at.sector }
-    ensures { Attempted ciphers.now shards.old shards.new (entry_of_read at result) (answer_of_read place.new result) }
+    requires room { length place.old ≡ 512 * unit_sectors ciphers.now at.now.context }
+    requires sectors { Own owns shards.old at.now.sector (unit_sectors ciphers.now at.now.context) }
+    requires spare { HasSpare shards.old at.now.sector }
+    ensures length { length place.new ≡ length place.old }
+    ensures attempted { Attempted ciphers.now shards.old shards.new (entry_of_read at.now result)
+        (answer_of_read place.new result) }
 {
-    match shards.read_unit(at, via_of(at.context), place) {
-        Ok(_) => {
-            ciphers.decipher(at.context, place);
-            true
-        }
-        Err(_) => false,
+    if !read_raw(shards, at, place) {
+        return false;
+    }
+    ciphers.decipher(at.context, place);
+    true
+}
+
+/// Reads a data unit as it stands. Tells whether it met no fault.
+fn read_raw(shards: &mut Shards<RamStore>, at: &UnitAt, place: &mut [u8]) -> bool
+    requires whole { length place.old ≡ 512 * (length place.old / 512) }
+    requires sectors { Own owns shards.old at.now.sector (length place.old / 512) }
+    requires spare { HasSpare shards.old at.now.sector }
+    ensures length { length place.new ≡ length place.old }
+    ensures attempted { (keys : List KeyData) → HaveKeys keys shards.old
+        → length place.old ≡ 512 * unit_sectors keys at.now.context
+        → Attempted keys shards.old shards.new (entry_of_read at.now result)
+            (answer_of_read (deciphered keys at.now.context place.new) result) }
+{
+    match shards.read_unit(*at, via_of(at.context), place) {
+        Ok(_) => return true,
+        Err(_) => return false,
     }
 }
 
