@@ -3,6 +3,7 @@ pub mod Growing
 pub mod Carrying
 pub mod Attempting
 pub mod Placing
+pub mod Ready
 pub mod Words
 pub mod Equal
 pub mod EqualParts

@@ -5,7 +5,7 @@ use Rattle.std.specs.List.{AllZip, AllByRecursion, list_any, enumerate_from, ran
 use Rattle.std.proofs.Math.Logic.{⊎_elim}
 use Rattle.std.proofs.lemmas.Bool.{true≢false, eq-eqb, cases_Bool}
 use Rattle.std.proofs.lemmas.Option.{none-some, same_Some, get_or_from_slice_get, slice_get_within}
-use Rattle.std.proofs.lemmas.List.{take_more}
+use Rattle.std.proofs.lemmas.List.{take_more, length-take}
 use Rattle.std.proofs.lemmas.List.Elements.{filter-append}
 use Rattle.bc_base.specs.Lists.{At, EachFrom, list_at}
 
@@ -271,3 +271,6 @@ range_push n (suc m) =
     plus m = omega arith
     over : (n m : ℕ) → n + 1 + m ≡ n + suc m
     over n m = omega arith
+
+pub take_within : {X : Type 0} (xs : List X) (n : ℕ) → n ≤ length xs → length (take n xs) ≡ n
+take_within xs n le = omega (arith, length-take n xs)

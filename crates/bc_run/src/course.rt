@@ -16,9 +16,9 @@ use crate::ciphers::Ciphers;
 use crate::read_answer::answer_of;
 use crate::unit_access::{read_unit, text_of_unit, write_unit};
 use bc_base::{BLOCK_SECTORS, RamStore};
-use bc_bio::{Extent, Refusal};
+use bc_bio::{Extent, Refusal, bio_laws};
 use bc_key::Keys;
-use bc_medium::{Shards, UnitAt};
+use bc_medium::{Shards, UnitAt, order_laws};
 use bc_report::Answer;
 use bc_script::{Script, Text};
 use std::alloc::{AllocError, Global};
@@ -95,6 +95,7 @@ impl Course<'_> {
         ensures carries { IfOk result (CarriesOne (device_of self.old) (device_of self.new)
             (op, Op.Write bio.now.context bio.now.sector bio.now.units text.now)) }
     {
+        order_laws();
         for unit in 0..bio.units {
             if !self.write_unit(alloc, op, bio, text, unit, room)? {
                 return Ok(Answer::Fault(unit as u32));
@@ -124,6 +125,7 @@ impl Course<'_> {
             (unit_at (keys_of self.old.script) op (Op.Write bio.now.context bio.now.sector bio.now.units text.now) bio.now unit)
             (answer_of_write went)) }
     {
+        bio_laws();
         let keys = self.ciphers.keys();
         let size = bio.unit_bytes(keys);
         let at = unit_of_bio(keys, self.thread, op, bio, unit);
@@ -149,6 +151,7 @@ impl Course<'_> {
         ensures carries { CarriesOne (device_of self.old) (device_of self.new)
             (op, Op.Read bio.now.context bio.now.sector bio.now.units) result }
     {
+        order_laws();
         let size = bio.unit_bytes(self.ciphers.keys());
         for unit in 0..bio.units {
             let start = unit as usize * size;
@@ -171,6 +174,7 @@ impl Course<'_> {
             (unit_at (keys_of self.old.script) op (Op.Read bio.now.context bio.now.sector bio.now.units) bio.now unit)
             (answer_of_read place.new result) }
     {
+        bio_laws();
         let at = unit_of_bio(self.ciphers.keys(), self.thread, op, bio, unit);
         let went = read_unit(&mut self.shards, &self.ciphers, &at, place);
         self.left -= 1;
