@@ -218,7 +218,7 @@ carries_more stays a b c section i operation answers answers' answer lt read mor
     (λ (no : ⊥). absurd no) at') p q))
 
 -- the units of the operations so far and of the next one are among the section's
-units_at : (n : ℕ) (section : List Op) → units_in (enumerate_from n section) ≡ unit_count_of_section section
+pub units_at : (n : ℕ) (section : List Op) → units_in (enumerate_from n section) ≡ unit_count_of_section section
 units_at n [] = refl
 units_at n (operation ∷ section) = sum_by-cons (λ (x : ℕ × Op). unit_count x.1) (n, operation) (enumerate_from (n + 1) section) ∙ ap (λ m. unit_count operation + m) (units_at (n + 1) section) ∙ sym (sum_by-cons unit_count operation section)
 

@@ -4,6 +4,9 @@ pub mod Carrying
 pub mod Attempting
 pub mod Placing
 pub mod Ready
+pub mod Turns
+pub mod Openings
+pub mod Beginning
 pub mod Words
 pub mod Equal
 pub mod EqualParts

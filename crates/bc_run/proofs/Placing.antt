@@ -79,11 +79,12 @@ stand_more script old new e k n m le p less stand shard z at =
     (at_changed old k shard s' z here))
   where
     lowered : (z : ShardData RamData) → Stands script (length old) n shard z → Stands script (length old) m shard z
-    lowered z is = record { keys = is.keys; owned = is.owned; planned = is.planned; spare = let l = is.spare in omega arith; few = is.few }
+    lowered z is = record { keys = is.keys; owned = is.owned; blocks = is.blocks; planned = is.planned; spare = let l = is.spare in omega arith; few = is.few }
     changed : (s s' : ShardData RamData) → GoesOn (keys_of script) e s s' → Stands script (length old) n k s → Stands script (length old) m k s'
     changed s s' g is = record {
       keys = g.keys_are;
       owned = λ sector inside lies. ap (λ (r : RamData). owns r sector) g.start ∙ is.owned sector inside lies;
+      blocks = ap (λ (r : RamData). r.blocks) g.start ∙ is.blocks;
       planned = ap (λ (r : RamData). r.calls) g.start ∙ is.planned;
       spare = let l = is.spare in let t = g.spare in omega arith;
       few = let l = is.few in let t = g.spare in omega (arith, ap length g.entries, length-append s.entries (e ∷ []));

@@ -63,6 +63,7 @@ pub record SectionsDone (old now : DeviceData) (sections : List (List Op)) (answ
   pub seen : List (List (List Entry))
   pub same : now ≡ record old { thread = now.thread; seen = now.seen; spare = now.spare }
   pub each_made : length made ≡ length sections
+  pub each_seen : length seen ≡ length sections
   pub each_answered : length answers ≡ length sections
   pub each_done : (t : ℕ) → t < length sections
       → SectionDone old.script old.shards old.base t (list_at sections t) (list_at seen t) (list_at answers t) (list_at made t)

@@ -58,6 +58,7 @@ pub record AreOpenings (script : Script) (image : List ℕ) (shards : ℕ) (stor
 pub record Stands (script : Script) (shards left shard : ℕ) (s : ShardData RamData) : Type 0 where
   pub keys : HasKeys (keys_of script) s
   pub owned : (sector : ℕ) → sector < sectors_in script → shard_of shards sector ≡ shard → owns s.start sector ≡ true
+  pub blocks : s.start.blocks ≡ script.blocks
   pub planned : s.start.calls ≡ no_calls (planned_on script.faults shard)
   pub spare : left ≤ s.spare
   pub few : length s.entries + s.spare ≤ max_units

@@ -3,7 +3,7 @@
 ghost use Rattle.std.specs.Prelude.{◌≡◌, ℕ, ◌*◌, ◌^◌, ◌<◌, ◌≤◌, [], length, map, sum_by, IfOk};
 ghost use Rattle.bc_base.specs.Lists.{Each, list_at};
 ghost use Rattle.bc_medium.specs.Shards.{orders_of};
-ghost use Rattle.bc_script.specs.Script.{keys_of, IsSection, unit_count_of_section};
+ghost use Rattle.bc_script.specs.Script.{IsScript, keys_of, IsSection, unit_count_of_section, max_ops};
 ghost use Rattle.bc_report.specs.LawfulRun.{LawfulRun};
 ghost use Rattle.bc_report.specs.SerialRun.{IsSerial};
 ghost use Rattle.bc_report.specs.Report.{IsEntry, IsPart};
@@ -18,7 +18,7 @@ use crate::direct::Direct;
 use crate::opening::stores_of;
 use bc_base::{Items, RamStore, SECTOR_BYTES};
 use bc_compose::{sections_in_turn_make_a_serial_run, sections_make_a_lawful_run};
-use bc_medium::{Entry, Shards, UnitAt};
+use bc_medium::{Entry, Shards, UnitAt, Via};
 use bc_report::{Answer, Line, Report};
 use bc_script::limits::{MAX_BIO_SECTORS, MAX_UNITS};
 use bc_script::{Op, Script};
@@ -108,6 +108,7 @@ fn carry_sections_out(
     direct: &mut Direct,
     sections: &[Items<Op>],
 ) -> Result<Items<Items<Answer>>, AllocError>
+    requires rules { IsScript direct.old.script }
     requires sections { sections.now ≡ direct.old.script.threads }
     requires untouched { (shard : ℕ) → list_at (orders_of direct.old.shards) shard ≡ [] }
     requires spare { sum_by unit_count_of_section sections.now ≤ direct.old.left }
@@ -129,7 +130,7 @@ fn carry_section_out(
     section: &[Op],
 ) -> Result<Items<Answer>, AllocError>
     requires rules { IsSection (keys_of direct.old.script) section.now }
-    requires few { length section.now ≤ 65536 }
+    requires few { length section.now ≤ max_ops }
     requires spare { unit_count_of_section section.now ≤ direct.old.left }
     ensures { IfOk result (CarriesSection
         (device_of (record direct.old { thread = thread })) (device_of direct.new) section.now) }
@@ -164,24 +165,38 @@ fn lines_of_shard(alloc: Global, entries: &[Entry]) -> Result<Items<Line>, Alloc
 {
     let mut lines = Vec::with_capacity(alloc, entries.len())?;
     for entry in entries {
-        lines.push(line_of(entry))?;
+        lines.push(line_of(entry.at, entry.via))?;
     }
     Ok(Items::from_vec(lines))
 }
 
-/// How a report says an entry.
-fn line_of(entry: &Entry) -> Line
-    ensures line { result ≡ line_of entry.now }
+/// How a report says a unit and its way.
+fn line_of(at: UnitAt, via: Via) -> Line
+    ensures line { result ≡ record { thread = at.caller; op = at.tag; unit = at.unit; via = via } }
     ensures range { IsEntry result }
 {
-    let UnitAt {
-        caller, tag, unit, ..
-    } = entry.at;
+    if let Via::Inline {
+        device,
+        slot,
+        event,
+    } = via
+    {
+        return Line {
+            thread: at.caller,
+            op: at.tag,
+            unit: at.unit,
+            via: Via::Inline {
+                device,
+                slot,
+                event,
+            },
+        };
+    }
     Line {
-        thread: caller,
-        op: tag,
-        unit,
-        via: entry.via,
+        thread: at.caller,
+        op: at.tag,
+        unit: at.unit,
+        via,
     }
 }
 
