@@ -7,6 +7,7 @@ pub mod Ready
 pub mod Turns
 pub mod Openings
 pub mod Beginning
+pub mod Ending
 pub mod Words
 pub mod Equal
 pub mod EqualParts
