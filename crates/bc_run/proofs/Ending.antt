@@ -1,6 +1,6 @@
 -- A run ends: the shards are closed, and the sections make a lawful run.
 use Rattle.std.proofs.Common.{◌≡◌, ℕ, zero, suc, ◌-◌, ◌+◌, ◌*◌, ◌/◌, ◌%◌, ◌<◌, ◌≤◌, ◌^◌, ◌⊎◌, inl, inr, Bool, true, false, cond, List, [], ◌∷◌, ◌++◌, length, map, refl, sym, ap, subst, ◌∙◌, arith, Option, Some, None}
-use Rattle.std.specs.Prelude.{◌↔◌, ◌==◌, ◌&&◌, filter, flat_map, Contains, IsSomeAnd, slice_get, slice_index_or, nat_lt}
+use Rattle.std.specs.Prelude.{◌↔◌, ◌==◌, ◌&&◌, ◌||◌, filter, flat_map, Contains, IsSomeAnd, slice_get, slice_index_or, nat_lt}
 use Rattle.std.specs.List.{AllByRecursion, list_any, range_with_len}
 use Rattle.std.proofs.Math.Logic.{⊎_elim}
 use Rattle.std.proofs.lemmas.Bool.{eq-eqb, ne_eqb, eqb-true, true≢false, cases_lt, and_right, ltb-true, false_from_ne_true}
@@ -58,13 +58,13 @@ planned_met [] shard place c = let lt = c.1 in absurd (omega arith)
 planned_met (f ∷ faults) shard place c =
     (elim (f.0 == shard) as (λ (b : Bool). (f.0 == shard) ≡ b → meets_fault (f ∷ faults) shard place ≡ true) [
       | true ↦ λ here. ⊎_elim
-          (λ (e : f.1 ≡ place). rw (here, eq-eqb f.1 place e) refl)
+          (λ (e : f.1 ≡ place). ap (λ (b : Bool). (b && (f.1 == place)) || meets_fault faults shard place) here ∙ ap (λ (b : Bool). b || meets_fault faults shard place) (eq-eqb f.1 place e))
           (λ (more : Contains (planned_on faults shard) place). or_right ((f.0 == shard) && (f.1 == place)) (planned_met faults shard place more))
           (contains_parts f.1 place (planned_on faults shard) (subst (λ l. Contains (map (λ fault. fault.1) l) place) (kept here) c))
       | false ↦ λ other. or_right ((f.0 == shard) && (f.1 == place)) (planned_met faults shard place (subst (λ l. Contains (map (λ fault. fault.1) l) place) (passed other) c))
     ]) refl
   where
-    or_right : (a : Bool) {b : Bool} → b ≡ true → (cond a true b) ≡ true
+    or_right : (a : Bool) {b : Bool} → b ≡ true → (a || b) ≡ true
     or_right true e = refl
     or_right false e = e
     kept : (f.0 == shard) ≡ true → filter (λ fault. fault.0 == shard) (f ∷ faults) ≡ f ∷ filter (λ fault. fault.0 == shard) faults
@@ -75,18 +75,19 @@ planned_met (f ∷ faults) shard place c =
 met_planned : (faults : List (ℕ × ℕ)) (shard place : ℕ) → meets_fault faults shard place ≡ true → Contains (planned_on faults shard) place
 met_planned [] shard place e = absurd (true≢false (sym e))
 met_planned (f ∷ faults) shard place e =
+    let rest : meets_fault faults shard place ≡ true → Contains (planned_on faults shard) place = met_planned faults shard place in
     (elim (f.0 == shard) as (λ (b : Bool). (f.0 == shard) ≡ b → Contains (map (λ fault. fault.1) (filter (λ fault. fault.0 == shard) (f ∷ faults))) place) [
-      | true ↦ λ here. subst (λ l. Contains (map (λ fault. fault.1) l) place) (sym (kept here)) (first (f.1 == place) refl here)
-      | false ↦ λ other. subst (λ l. Contains (map (λ fault. fault.1) l) place) (sym (kept other)) (met_planned faults shard place (sym (ap (λ (b : Bool). cond (b && (f.1 == place)) true (meets_fault faults shard place)) other) ∙ e))
+      | true ↦ λ here. subst (λ l. Contains (map (λ fault. fault.1) l) place) (sym (kept here)) (first rest (f.1 == place) refl here)
+      | false ↦ λ other. subst (λ l. Contains (map (λ fault. fault.1) l) place) (sym (kept other)) (rest (sym (ap (λ (b : Bool). (b && (f.1 == place)) || meets_fault faults shard place) other) ∙ e))
     ]) refl
   where
     kept : {b : Bool} → (f.0 == shard) ≡ b → filter (λ fault. fault.0 == shard) (f ∷ faults) ≡ cond b (f ∷ filter (λ fault. fault.0 == shard) faults) (filter (λ fault. fault.0 == shard) faults)
     kept e = ap (λ (b : Bool). cond b (f ∷ filter (λ fault. fault.0 == shard) faults) (filter (λ fault. fault.0 == shard) faults)) e
-    first : (b : Bool) → (f.1 == place) ≡ b → (f.0 == shard) ≡ true → Contains (f.1 ∷ planned_on faults shard) place
-    first true is here = (0, omega arith, eqb-true f.1 place is)
-    first false is here =
-        contains_next f.1 place (planned_on faults shard) (met_planned faults shard place
-        (sym (ap (λ (b : Bool). cond (b && (f.1 == place)) true (meets_fault faults shard place)) here ∙ ap (λ (b : Bool). cond b true (meets_fault faults shard place)) is) ∙ e))
+    first : (meets_fault faults shard place ≡ true → Contains (planned_on faults shard) place) → (b : Bool) → (f.1 == place) ≡ b → (f.0 == shard) ≡ true → Contains (f.1 ∷ planned_on faults shard) place
+    first rest true is here = (0, omega arith, eqb-true f.1 place is)
+    first rest false is here =
+        contains_next f.1 place (planned_on faults shard) (rest
+        (sym (ap (λ (b : Bool). (b && (f.1 == place)) || meets_fault faults shard place) here ∙ ap (λ (b : Bool). b || meets_fault faults shard place) is) ∙ e))
 
 -- ---- entries of one caller among those of all
 
@@ -183,7 +184,7 @@ module _ (script : Script) (rules : IsScript script) (image : List ℕ) (n : ℕ
   seen_of : ℕ → List (List Entry)
   seen_of t = slice_index_or done.seen t []
 
-  made_of : ℕ → List Entry
+  abbrev pub made_of : ℕ → List Entry
   made_of t = list_at done.made t
 
   shards_closed : ShardsClosed script.faults n (length script.threads) (λ t. list_at done.seen t) orders

@@ -274,3 +274,7 @@ range_push n (suc m) =
 
 pub take_within : {X : Type 0} (xs : List X) (n : ℕ) → n ≤ length xs → length (take n xs) ≡ n
 take_within xs n le = omega (arith, length-take n xs)
+
+pub each_of_map : {A B : Type 0} (f : A → B) (P : B → Type 0) (xs : List A) → AllByRecursion P (map f xs) → AllByRecursion (λ x. P (f x)) xs
+each_of_map f P [] all = tt
+each_of_map f P (x ∷ xs) all = (all.0, each_of_map f P xs all.1)
