@@ -7,9 +7,10 @@ use Rattle.bc_script.specs.Script.{Script}
 use Rattle.bc_script.specs.declared.script_error.ScriptError.{ScriptError}
 use Rattle.bc_script.specs.ScriptText.{Says, NoScriptHas}
 use Rattle.bc_script.specs.ScriptErrors.{error_of}
-use Rattle.bc_run.specs.Report.{Report}
-use Rattle.bc_run.specs.ReportText.{report_text}
-use Rattle.bc_run.specs.LawfulRun.{LawfulRun, IsSerial}
+use Rattle.bc_report.specs.Report.{Report}
+use Rattle.bc_report.specs.ReportText.{report_text}
+use Rattle.bc_report.specs.LawfulRun.{LawfulRun}
+use Rattle.bc_report.specs.SerialRun.{IsSerial}
 
 -- the words are the one command that there is
 abbrev pub IsCommand : List (List ℕ) → Type 0

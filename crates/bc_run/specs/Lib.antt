@@ -1,11 +1,6 @@
-pub mod Report
-pub mod ReportText
-pub mod RunOf
-pub mod Answers
-pub mod Ways
-pub mod LawfulRun
 pub mod Command
 pub mod Statuses
 pub mod Laws
 pub mod Stages
-pub mod Serial
+pub mod Sections
+pub mod Standing

@@ -1,225 +1,200 @@
-//! A script that is being carried out: operation after operation, section after section.
+//! A script that is being carried out: the shards of its disk, and the thread whose turn it is.
 
-ghost use Rattle.std.specs.Prelude.{◌≡◌, ℕ, ◌+◌, ◌*◌, ◌≤◌, ◌++◌, List, [], ◌∷◌, map, length, flat_map, Some, None, IfOk, OnOk};
-ghost use Rattle.std.specs.List.{enumerate_from};
+ghost use Rattle.std.specs.Prelude.{◌≡◌, ◌*◌, ◌<◌, ◌≤◌, length, None, IfOk, IsTrue, not};
 ghost use Rattle.bc_bio.specs.declared.access.Access.{Access};
-ghost use Rattle.bc_bio.specs.Extent.{unit_sectors, context_after, end_of};
-ghost use Rattle.bc_bio.specs.Conditions.{HasKey, IsAccepted};
+ghost use Rattle.bc_bio.specs.Extent.{unit_sectors, context_after};
+ghost use Rattle.bc_bio.specs.Conditions.{HasKey, IsPlaced};
 ghost use Rattle.bc_bio.specs.BioUnits.{context_wrapped};
 ghost use Rattle.bc_script.specs.declared.op.Op.{Op};
-ghost use Rattle.bc_script.specs.Script.{keys_of, sectors_in, IsOp, IsSection};
+ghost use Rattle.bc_script.specs.Script.{keys_of, IsText, max_bio_units, max_bio_sectors};
 ghost use Rattle.bc_script.specs.Bios.{refusal_of};
-ghost use Rattle.bc_script.specs.Plan.{units_of, units_of_bio, units_of_section};
-ghost use Rattle.bc_medium.specs.KeyedDisk.{image_sectors};
-ghost use Rattle.bc_medium.specs.Outcome.{answer_text};
-ghost use Rattle.bc_run.specs.Answers.{read_answer};
-ghost use Rattle.bc_run.specs.Serial.{disk_after, unit_answers, first_units, IsPerformable, bio_answer_over, answer_over, answers_over, section_answers, serial_units, entry_of, entries_in, IsUnderway};
+ghost use Rattle.bc_script.specs.Plan.{unit_at};
+ghost use Rattle.bc_run.specs.Sections.{CarriesOne};
+ghost use Rattle.bc_run.specs.Standing.{IsPerformable, AttemptsUnit, answer_of_write, answer_of_read, at_of, device_of};
 
 use crate::ciphers::Ciphers;
-use crate::entries::{Entry, note_units};
 use crate::read_answer::answer_of;
-use crate::report::Answer;
-use crate::unit_access::{read_units, write_units};
-use bc_base::{BLOCK_SECTORS, Items};
-use bc_bio::{Access, Extent, Refusal};
-use bc_script::{Op, Script, Text};
+use crate::unit_access::{read_unit, text_of_unit, write_unit};
+use bc_base::{BLOCK_SECTORS, RamStore};
+use bc_bio::{Extent, Refusal, bio_laws};
+use bc_key::Keys;
+use bc_medium::{Shards, UnitAt, order_laws};
+use bc_report::Answer;
+use bc_script::{Script, Text};
 use std::alloc::{AllocError, Global};
+use std::marker::Model;
 
 /// A script that is being carried out.
 #[derive(Drop)]
 pub(crate) struct Course<'s> {
     pub(crate) script: &'s Script,
     pub(crate) ciphers: Ciphers,
-    pub(crate) shards: u16,
-    pub(crate) image: Vec<u8>,
-    /// The units that were performed, in order.
-    pub(crate) entries: Vec<Entry>,
-    /// Room for all bytes of a bio.
-    pub(crate) room: Vec<u8>,
+    pub(crate) shards: Shards<RamStore>,
+    /// Whose section it is.
+    pub(crate) thread: u16,
+    /// How many data units more may be attempted.
+    pub(crate) left: u32,
 }
 
-/// Why a bio is refused, if it is.
-fn refusal_of(script: &Script, ciphers: &Ciphers, bio: &Extent) -> Option<Refusal>
-    requires keys { ciphers.now ≡ keys_of script.now }
-    requires key { HasKey ciphers.now bio.now.context }
-    ensures refusal { result ≡ refusal_of script.now bio.now }
-    ensures accepted { result ≡ None → IsAccepted ciphers.now (sectors_in script.now) bio.now }
-    ensures no_wrap { result ≡ None → (i : ℕ) → i ≤ bio.now.units → context_wrapped i bio.now.context ≡ context_after i bio.now.context }
-{
-    match bio.check(ciphers.keys(), BLOCK_SECTORS * script.blocks()) {
-        Ok(()) => None,
-        Err(error) => Some(Refusal::Bio(error)),
-    }
-}
+impl<'s> Model for Course<'s> {
+    ghost use Rattle.bc_run.specs.Standing.{CourseData, IsCourse};
 
-/// Reads the data units of a bio, and returns what they are answered.
-fn read_bio(image: &[u8], ciphers: &Ciphers, bio: &Extent, room: &mut [u8]) -> Answer
-    requires access { bio.now.access ≡ Access.Read }
-    requires performable { IsPerformable ciphers.now bio.now }
-    requires on_disk { 512 * end_of ciphers.now bio.now ≤ length image.now }
-    requires room { bio.now.units * (512 * unit_sectors ciphers.now bio.now.context) ≤ length room.old }
-    ensures room { length room.new ≡ length room.old }
-    ensures answer { (op : ℕ) → result ≡ read_answer (flat_map answer_text (unit_answers ciphers.now (image_sectors image.now) (first_units ciphers.now op (Op.Read bio.now.context bio.now.sector bio.now.units) bio.now bio.now.units))) }
-{
-    let length = bio.units as usize * bio.unit_bytes(ciphers.keys());
-    read_units(image, ciphers, bio, &mut room[..length]);
-    answer_of(&room[..length])
+    ghost Value = { CourseData };
+
+    ghost view = { λ c. record { script = c.script.now; shards = c.shards; thread = c.thread; left = c.left } };
+
+    ghost invariant = { λ c. IsCourse c.script.now c.ciphers c.shards c.left };
 }
 
 impl Course<'_> {
-    /// Carries one operation out, and returns its answer.
-    fn carry_out(&mut self, thread: u16, op: u32, operation: &Op) -> Result<Answer, AllocError>
-        requires underway { IsUnderway self.old.script.now self.old.ciphers self.old.shards self.old.image.items self.old.room.items }
-        requires rules { IsOp (keys_of self.old.script.now) operation.now }
-        ensures underway { OnOk result (IsUnderway self.new.script.now self.new.ciphers self.new.shards self.new.image.items self.new.room.items) }
-        ensures script { OnOk result (self.new.script.now ≡ self.old.script.now) }
-        ensures shards { OnOk result (self.new.shards ≡ self.old.shards) }
-        ensures disk { OnOk result (image_sectors self.new.image.items ≡ disk_after (keys_of self.old.script.now) (image_sectors self.old.image.items) (units_of self.old.script.now (op, operation.now))) }
-        ensures entries { OnOk result (self.new.entries.items ≡ self.old.entries.items ++ map (entry_of self.old.shards thread) (units_of self.old.script.now (op, operation.now))) }
-        ensures answer { IfOk result (λ answer. answer ≡ answer_over self.old.script.now (image_sectors self.old.image.items) (op, operation.now)) }
+    /// Begins the section of a thread.
+    pub(crate) fn begin(&mut self, thread: u16)
+        ensures { self.new ≡ record self.old { thread = thread } }
     {
-        match operation {
-            Op::Write {
-                context,
-                sector,
-                units,
-                text,
-            } => {
-                let bio = Extent {
-                    access: Access::Write,
-                    context: *context,
-                    sector: *sector,
-                    units: u64::from(*units),
-                };
-                self.write(thread, op, &bio, text)
-            }
-            Op::Read {
-                context,
-                sector,
-                units,
-            } => {
-                let bio = Extent {
-                    access: Access::Read,
-                    context: *context,
-                    sector: *sector,
-                    units: u64::from(*units),
-                };
-                self.read(thread, op, &bio)
-            }
-            Op::Evict(_) => Ok(Answer::Evicted),
-            Op::Reset(_) => Ok(Answer::Reset),
-            Op::Plug => Ok(Answer::Plug),
-            Op::Unplug => Ok(Answer::Unplug),
+        self.thread = thread;
+    }
+
+    /// Why a bio is refused, if it is.
+    pub(crate) fn refusal(&self, bio: &Extent) -> Option<Refusal>
+        requires key { HasKey (keys_of self.now.script) bio.now.context }
+        ensures refusal { result ≡ refusal_of self.now.script bio.now }
+    {
+        match bio.check(self.ciphers.keys(), BLOCK_SECTORS * self.script.blocks()) {
+            Ok(()) => None,
+            Err(error) => Some(Refusal::Bio(error)),
         }
     }
 
-    /// Carries a bio out that writes, and returns its answer.
-    fn write(
+    /// Whether a bio is accepted, so that it can be performed.
+    pub(crate) fn accepts(&self, bio: &Extent) -> bool
+        requires key { HasKey (keys_of self.now.script) bio.now.context }
+        requires units { bio.now.units ≤ max_bio_units }
+        requires sectors { bio.now.units * unit_sectors (keys_of self.now.script) bio.now.context ≤ max_bio_sectors }
+        ensures yes { IsTrue result → IsPerformable self.now.script bio.now }
+        ensures no { IsTrue (not result) → refusal_of self.now.script bio.now ≡ None → ⊥ }
+    {
+        bio.check(self.ciphers.keys(), BLOCK_SECTORS * self.script.blocks())
+            .is_ok()
+    }
+
+    /// Writes the data units of a bio, one after the other, until one meets a fault.
+    pub(crate) fn write(
         &mut self,
-        thread: u16,
+        alloc: Global,
         op: u32,
         bio: &Extent,
         text: &Text,
+        room: &mut [u8],
     ) -> Result<Answer, AllocError>
-        requires underway { IsUnderway self.old.script.now self.old.ciphers self.old.shards self.old.image.items self.old.room.items }
         requires access { bio.now.access ≡ Access.Write }
-        requires rules { IsOp (keys_of self.old.script.now) (Op.Write bio.now.context bio.now.sector bio.now.units text.now) }
-        ensures underway { OnOk result (IsUnderway self.new.script.now self.new.ciphers self.new.shards self.new.image.items self.new.room.items) }
-        ensures script { OnOk result (self.new.script.now ≡ self.old.script.now) }
-        ensures shards { OnOk result (self.new.shards ≡ self.old.shards) }
-        ensures disk { OnOk result (image_sectors self.new.image.items ≡ disk_after (keys_of self.old.script.now) (image_sectors self.old.image.items) (units_of_bio self.old.script.now op (Op.Write bio.now.context bio.now.sector bio.now.units text.now) bio.now)) }
-        ensures entries { OnOk result (self.new.entries.items ≡ self.old.entries.items ++ map (entry_of self.old.shards thread) (units_of_bio self.old.script.now op (Op.Write bio.now.context bio.now.sector bio.now.units text.now) bio.now)) }
-        ensures answer { IfOk result (λ answer. answer ≡ bio_answer_over self.old.script.now (image_sectors self.old.image.items) op (Op.Write bio.now.context bio.now.sector bio.now.units text.now) bio.now) }
+        requires performable { IsPerformable self.old.script bio.now }
+        requires text { IsText (keys_of self.old.script) bio.now.context bio.now.units text.now }
+        requires room { length room.old ≡ 131072 }
+        requires spare { bio.now.units ≤ self.old.left }
+        ensures room { length room.new ≡ length room.old }
+        ensures carries { IfOk result (CarriesOne (device_of self.old) (device_of self.new)
+            (op, Op.Write bio.now.context bio.now.sector bio.now.units text.now)) }
     {
-        if let Some(refusal) = refusal_of(self.script, &self.ciphers, bio) {
-            return Ok(Answer::Refused(refusal));
+        order_laws();
+        for unit in 0..bio.units {
+            if !self.write_unit(alloc, op, bio, text, unit, room)? {
+                return Ok(Answer::Fault(unit as u32));
+            }
         }
-        note_units(
-            &mut self.entries,
-            self.shards,
-            &self.ciphers,
-            thread,
-            op,
-            bio,
-        )?;
-        write_units(self.image.as_mut_slice(), &self.ciphers, bio, text);
         Ok(Answer::Wrote)
     }
 
-    /// Carries a bio out that reads, and returns its answer.
-    fn read(&mut self, thread: u16, op: u32, bio: &Extent) -> Result<Answer, AllocError>
-        requires underway { IsUnderway self.old.script.now self.old.ciphers self.old.shards self.old.image.items self.old.room.items }
-        requires access { bio.now.access ≡ Access.Read }
-        requires rules { IsOp (keys_of self.old.script.now) (Op.Read bio.now.context bio.now.sector bio.now.units) }
-        ensures underway { OnOk result (IsUnderway self.new.script.now self.new.ciphers self.new.shards self.new.image.items self.new.room.items) }
-        ensures script { OnOk result (self.new.script.now ≡ self.old.script.now) }
-        ensures shards { OnOk result (self.new.shards ≡ self.old.shards) }
-        ensures disk { OnOk result (image_sectors self.new.image.items ≡ disk_after (keys_of self.old.script.now) (image_sectors self.old.image.items) (units_of_bio self.old.script.now op (Op.Read bio.now.context bio.now.sector bio.now.units) bio.now)) }
-        ensures entries { OnOk result (self.new.entries.items ≡ self.old.entries.items ++ map (entry_of self.old.shards thread) (units_of_bio self.old.script.now op (Op.Read bio.now.context bio.now.sector bio.now.units) bio.now)) }
-        ensures answer { IfOk result (λ answer. answer ≡ bio_answer_over self.old.script.now (image_sectors self.old.image.items) op (Op.Read bio.now.context bio.now.sector bio.now.units) bio.now) }
+    /// Writes data unit number `unit` of a bio. Tells whether it met no fault.
+    fn write_unit(
+        &mut self,
+        alloc: Global,
+        op: u32,
+        bio: &Extent,
+        text: &Text,
+        unit: u64,
+        room: &mut [u8],
+    ) -> Result<bool, AllocError>
+        requires access { bio.now.access ≡ Access.Write }
+        requires performable { IsPerformable self.old.script bio.now }
+        requires text { IsText (keys_of self.old.script) bio.now.context bio.now.units text.now }
+        requires unit { unit < bio.now.units }
+        requires room { length room.old ≡ 131072 }
+        requires spare { 1 ≤ self.old.left }
+        ensures room { length room.new ≡ length room.old }
+        ensures attempts { IfOk result (λ went. AttemptsUnit (device_of self.old) (device_of self.new)
+            (unit_at (keys_of self.old.script) op (Op.Write bio.now.context bio.now.sector bio.now.units text.now) bio.now unit)
+            (answer_of_write went)) }
     {
-        if let Some(refusal) = refusal_of(self.script, &self.ciphers, bio) {
-            return Ok(Answer::Refused(refusal));
-        }
-        note_units(
-            &mut self.entries,
-            self.shards,
+        bio_laws();
+        let keys = self.ciphers.keys();
+        let size = bio.unit_bytes(keys);
+        let at = unit_of_bio(keys, self.thread, op, bio, unit);
+        let plain = text_of_unit(alloc, text, size, unit as usize)?;
+        let went = write_unit(
+            &mut self.shards,
             &self.ciphers,
-            thread,
-            op,
-            bio,
-        )?;
-        let answer = read_bio(
-            self.image.as_slice(),
-            &self.ciphers,
-            bio,
-            self.room.as_mut_slice(),
+            at,
+            plain,
+            &mut room[..size],
         );
-        Ok(answer)
+        self.left -= 1;
+        Ok(went)
     }
 
-    /// Carries a section out, and returns the answers of its operations.
-    fn carry_out_section(
-        &mut self,
-        alloc: Global,
-        thread: u16,
-        section: &[Op],
-    ) -> Result<Items<Answer>, AllocError>
-        requires underway { IsUnderway self.old.script.now self.old.ciphers self.old.shards self.old.image.items self.old.room.items }
-        requires rules { IsSection (keys_of self.old.script.now) section.now }
-        requires few { length section.now ≤ 65536 }
-        ensures underway { OnOk result (IsUnderway self.new.script.now self.new.ciphers self.new.shards self.new.image.items self.new.room.items) }
-        ensures script { OnOk result (self.new.script.now ≡ self.old.script.now) }
-        ensures shards { OnOk result (self.new.shards ≡ self.old.shards) }
-        ensures disk { OnOk result (image_sectors self.new.image.items ≡ disk_after (keys_of self.old.script.now) (image_sectors self.old.image.items) (units_of_section self.old.script.now section.now)) }
-        ensures entries { OnOk result (self.new.entries.items ≡ self.old.entries.items ++ map (entry_of self.old.shards thread) (units_of_section self.old.script.now section.now)) }
-        ensures answers { IfOk result (λ answers. answers ≡ answers_over self.old.script.now (image_sectors self.old.image.items) (enumerate_from 0 section.now)) }
+    /// Reads the data units of a bio, one after the other, until one meets a fault.
+    pub(crate) fn read(&mut self, op: u32, bio: &Extent, room: &mut [u8]) -> Answer
+        requires access { bio.now.access ≡ Access.Read }
+        requires performable { IsPerformable self.old.script bio.now }
+        requires room { length room.old ≡ 131072 }
+        requires spare { bio.now.units ≤ self.old.left }
+        ensures room { length room.new ≡ length room.old }
+        ensures carries { CarriesOne (device_of self.old) (device_of self.new)
+            (op, Op.Read bio.now.context bio.now.sector bio.now.units) result }
     {
-        let mut answers = Vec::with_capacity(alloc, section.len())?;
-        for (op, operation) in section.iter().enumerate() {
-            let answer = self.carry_out(thread, op as u32, operation)?;
-            answers.push(answer)?;
+        order_laws();
+        let size = bio.unit_bytes(self.ciphers.keys());
+        for unit in 0..bio.units {
+            let start = unit as usize * size;
+            if !self.read_unit(op, bio, unit, &mut room[start..start + size]) {
+                return Answer::Fault(unit as u32);
+            }
         }
-        Ok(Items::from_vec(answers))
+        answer_of(&room[..bio.units as usize * size])
     }
 
-    /// Carries all sections out, one after the other, and returns the answers of each.
-    pub(crate) fn carry_out_all(
-        &mut self,
-        alloc: Global,
-    ) -> Result<Items<Items<Answer>>, AllocError>
-        requires underway { IsUnderway self.old.script.now self.old.ciphers self.old.shards self.old.image.items self.old.room.items }
-        ensures length { OnOk result (length self.new.image.items ≡ length self.old.image.items) }
-        ensures disk { OnOk result (image_sectors self.new.image.items ≡ disk_after (keys_of self.old.script.now) (image_sectors self.old.image.items) (serial_units self.old.script.now self.old.script.now.threads)) }
-        ensures entries { OnOk result (self.new.entries.items ≡ self.old.entries.items ++ flat_map (entries_in self.old.script.now self.old.shards) (enumerate_from 0 self.old.script.now.threads)) }
-        ensures answers { IfOk result (λ answers. answers ≡ section_answers self.old.script.now (image_sectors self.old.image.items) self.old.script.now.threads) }
+    /// Reads data unit number `unit` of a bio into its place. Tells whether it met no fault.
+    fn read_unit(&mut self, op: u32, bio: &Extent, unit: u64, place: &mut [u8]) -> bool
+        requires access { bio.now.access ≡ Access.Read }
+        requires performable { IsPerformable self.old.script bio.now }
+        requires unit { unit < bio.now.units }
+        requires length { length place.old ≡ 512 * unit_sectors (keys_of self.old.script) bio.now.context }
+        requires spare { 1 ≤ self.old.left }
+        ensures length { length place.new ≡ length place.old }
+        ensures attempts { AttemptsUnit (device_of self.old) (device_of self.new)
+            (unit_at (keys_of self.old.script) op (Op.Read bio.now.context bio.now.sector bio.now.units) bio.now unit)
+            (answer_of_read place.new result) }
     {
-        let sections = self.script.threads();
-        let mut answers = Vec::with_capacity(alloc, sections.len())?;
-        for (thread, section) in sections.iter().enumerate() {
-            let answered = self.carry_out_section(alloc, thread as u16, section.as_slice())?;
-            answers.push(answered)?;
-        }
-        Ok(Items::from_vec(answers))
+        bio_laws();
+        let at = unit_of_bio(self.ciphers.keys(), self.thread, op, bio, unit);
+        let went = read_unit(&mut self.shards, &self.ciphers, &at, place);
+        self.left -= 1;
+        went
+    }
+}
+
+/// Data unit number `unit` of a thread's bio, where it lies.
+fn unit_of_bio(keys: &Keys, thread: u16, op: u32, bio: &Extent, unit: u64) -> UnitAt
+    requires placed { IsPlaced keys.now.keys bio.now }
+    requires unit { unit < bio.now.units }
+    requires few { bio.now.units ≤ 256 }
+    requires no_wrap { context_wrapped unit bio.now.context ≡ context_after unit bio.now.context }
+    ensures { (operation : Op) → result ≡ at_of thread (unit_at keys.now.keys op operation bio.now unit) }
+{
+    UnitAt {
+        caller: thread,
+        tag: op,
+        unit: unit as u32,
+        sector: bio.sector_at(keys, unit),
+        context: bio.context_at(unit),
     }
 }

@@ -1,6 +1,7 @@
-//! The law of a run by one caller.
+//! The laws of runs by one caller.
 
-ghost use Rattle.bc_run.specs.Laws.{SerialRunsAgree, WrittenTextsAgree};
+ghost use Rattle.bc_compose.specs.Composed.{SerialRunsAgree};
+ghost use Rattle.bc_run.specs.Laws.{WrittenTextsAgree};
 
 use bc_script::no_proper_prefix;
 
@@ -10,5 +11,6 @@ pub fn serial_runs_agree()
     ensures reports { SerialRunsAgree }
     ensures texts { WrittenTextsAgree }
 {
+    bc_compose::serial_runs_agree();
     no_proper_prefix();
 }

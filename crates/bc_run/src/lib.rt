@@ -2,8 +2,8 @@
 //!
 //! [`run`] does all that the program does, over a source and a sink. [`serial`] carries a script out over an image,
 //! one operation after the other. What both promise is a lawful run: the report and the image are those of a keyed
-//! disk that performs single data units in the orders that the report lists. [`serial_runs_agree`] is the law that
-//! there is one such report and one such image.
+//! disk that performs single data units in the orders that the report lists, and fails where the script plans it.
+//! [`serial_runs_agree`] is the law that there is one such report and one such image.
 //!
 //! A run over memory, whose sink then holds the report (`report_of` of the crate `uses`):
 //!
@@ -18,32 +18,27 @@
 mod program;
 mod status;
 
-// the report and its text
-mod report;
-mod report_text;
-mod via;
-
-// a script carried out by one caller
+// a section's operations, and what carries them out
 mod course;
-mod entries;
-mod one_caller;
+mod device;
+mod direct;
 mod read_answer;
 mod unit_access;
+
+// all sections, one after the other
+mod one_caller;
+mod opening;
 
 // the keys of a script, each with its cipher
 mod ciphers;
 
-// the law of a run
+// the laws of runs
 mod laws;
 
-pub use bc_medium::UnitName;
 pub use laws::serial_runs_agree;
 pub use one_caller::{Finished, serial};
 pub use program::run;
-pub use report::{Answer, Line, Report};
-pub use report_text::print;
 pub use status::Status;
-pub use via::Via;
 
 #[cfg(test)]
 mod tests;

@@ -1,15 +1,27 @@
 //! A script carried out by one caller.
 
-ghost use Rattle.std.specs.Prelude.{◌≡◌, ◌*◌, ◌≤◌, length, IfOk};
-ghost use Rattle.bc_run.specs.LawfulRun.{LawfulRun, IsSerial};
+ghost use Rattle.std.specs.Prelude.{◌≡◌, ℕ, ◌*◌, ◌^◌, ◌<◌, ◌≤◌, [], length, map, sum_by, IfOk};
+ghost use Rattle.bc_base.specs.Lists.{Each, list_at};
+ghost use Rattle.bc_medium.specs.Shards.{orders_of};
+ghost use Rattle.bc_script.specs.Script.{IsScript, keys_of, IsSection, unit_count_of_section, max_ops};
+ghost use Rattle.bc_report.specs.LawfulRun.{LawfulRun};
+ghost use Rattle.bc_report.specs.SerialRun.{IsSerial};
+ghost use Rattle.bc_report.specs.Report.{IsEntry, IsPart};
+ghost use Rattle.bc_compose.specs.Closed.{line_of};
+ghost use Rattle.bc_run.specs.Sections.{CarriesSection, SectionsDone};
+ghost use Rattle.bc_run.specs.Standing.{IsBegun, device_of};
 
 use crate::ciphers::Ciphers;
 use crate::course::Course;
-use crate::entries::lines_by_shard;
-use crate::report::Report;
-use bc_base::SECTOR_BYTES;
-use bc_script::Script;
+use crate::device::carry_out;
+use crate::direct::Direct;
+use crate::opening::stores_of;
+use bc_base::{Items, RamStore, SECTOR_BYTES};
+use bc_compose::{sections_in_turn_make_a_serial_run, sections_make_a_lawful_run};
+use bc_medium::{Entry, Shards, UnitAt, Via};
+use bc_report::{Answer, Line, Report};
 use bc_script::limits::{MAX_BIO_SECTORS, MAX_UNITS};
+use bc_script::{Op, Script};
 use std::alloc::{AllocError, Global};
 
 /// What [`serial`] gives back.
@@ -25,7 +37,8 @@ pub struct Finished {
 const BIO_BYTES: usize = MAX_BIO_SECTORS as usize * SECTOR_BYTES;
 
 /// Carries a script out by one caller: the section of thread 0, then that of thread 1, and so on. The data units of a bio
-/// that isn't refused are performed one after the other, and a plugged bio is submitted at once.
+/// that isn't refused are attempted one after the other, until one meets a fault that the script plans; a plugged bio is
+/// submitted at once.
 ///
 /// `image` is the disk as the run finds it: 4096 bytes for each block of the script's disk, as
 /// [`Script::blocks`](bc_script::Script::blocks) counts them. `shards` is 1 to 64, and block `b` lies in shard
@@ -34,8 +47,7 @@ const BIO_BYTES: usize = MAX_BIO_SECTORS as usize * SECTOR_BYTES;
 ///
 /// # Errors
 ///
-/// `AllocError` where memory runs out; the image is then dropped. All memory but that of the answers is taken before the
-/// first operation.
+/// `AllocError` where memory runs out; the image is then dropped.
 pub fn serial(
     alloc: Global,
     script: &Script,
@@ -48,21 +60,144 @@ pub fn serial(
         LawfulRun script.now image.items shards finished.report finished.image.items) }
     ensures serial { IfOk result (λ finished. IsSerial script.now finished.report) }
 {
-    let mut course = Course {
-        script,
-        ciphers: Ciphers::of_keys(alloc, script.keys())?,
-        shards,
-        image,
-        entries: Vec::with_capacity(alloc, MAX_UNITS as usize)?,
-        room: vec![in alloc; 0; BIO_BYTES]?,
-    };
-    let answers = course.carry_out_all(alloc)?;
-    let lines = lines_by_shard(alloc, course.entries.as_slice(), shards)?;
-    let Course { image, .. } = course;
+    let mut direct = begin(alloc, script, image, shards)?;
+    let answers = carry_sections_out(alloc, &mut direct, script.threads())?;
+    let Direct { course, .. } = direct;
+    let Course { shards, .. } = course;
+    let (stores, orders) = shards.close();
+    let image = RamStore::join(alloc, &stores, script.blocks())?;
+    let lines = lines_of_shards(alloc, orders.as_slice())?;
+    sections_make_a_lawful_run();
+    sections_in_turn_make_a_serial_run();
     Ok(Finished {
         image,
-        report: Report::new(answers, lines),
+        report: Report::new(answers, lines, Items::new(alloc)),
     })
+}
+
+/// Opens the shards of an image for a script.
+fn begin<'s>(
+    alloc: Global,
+    script: &'s Script,
+    image: Vec<u8>,
+    shards: u16,
+) -> Result<Direct<'s>, AllocError>
+    requires length { length image.items ≡ 4096 * script.now.blocks }
+    requires shards { (1 ≤ shards) × (shards ≤ 64) }
+    ensures { IfOk result (IsBegun script.now image.items shards) }
+{
+    let stores = stores_of(alloc, script, image.as_slice(), shards)?;
+    let quotas = vec![in alloc; MAX_UNITS; usize::from(shards)]?;
+    let course = Course {
+        script,
+        ciphers: Ciphers::of_keys(alloc, script.keys())?,
+        shards: Shards::open(alloc, stores, quotas)?,
+        thread: 0,
+        left: MAX_UNITS,
+    };
+    Ok(Direct {
+        course,
+        room: vec![in alloc; 0; BIO_BYTES]?,
+        alloc,
+    })
+}
+
+/// Carries all sections out, one after the other, and returns the answers of each.
+fn carry_sections_out(
+    alloc: Global,
+    direct: &mut Direct,
+    sections: &[Items<Op>],
+) -> Result<Items<Items<Answer>>, AllocError>
+    requires rules { IsScript direct.old.script }
+    requires sections { sections.now ≡ direct.old.script.threads }
+    requires untouched { (shard : ℕ) → list_at (orders_of direct.old.shards) shard ≡ [] }
+    requires spare { sum_by unit_count_of_section sections.now ≤ direct.old.left }
+    ensures { IfOk result (SectionsDone (device_of direct.old) (device_of direct.new) sections.now) }
+{
+    let mut answers = Vec::with_capacity(alloc, sections.len())?;
+    for (thread, section) in sections.iter().enumerate() {
+        let answered = carry_section_out(alloc, direct, thread as u16, section.as_slice())?;
+        answers.push(answered)?;
+    }
+    Ok(Items::from_vec(answers))
+}
+
+/// Carries the section of a thread out, and returns the answers of its operations.
+fn carry_section_out(
+    alloc: Global,
+    direct: &mut Direct,
+    thread: u16,
+    section: &[Op],
+) -> Result<Items<Answer>, AllocError>
+    requires rules { IsSection (keys_of direct.old.script) section.now }
+    requires few { length section.now ≤ max_ops }
+    requires spare { unit_count_of_section section.now ≤ direct.old.left }
+    ensures { IfOk result (CarriesSection
+        (device_of (record direct.old { thread = thread })) (device_of direct.new) section.now) }
+{
+    direct.begin(thread);
+    let mut answers = Vec::with_capacity(alloc, section.len())?;
+    carry_out(&(), direct, section, &mut answers)?;
+    Ok(Items::from_vec(answers))
+}
+
+/// The lines of the entries of each shard.
+fn lines_of_shards(
+    alloc: Global,
+    orders: &[Vec<Entry>],
+) -> Result<Items<Items<Line>>, AllocError>
+    requires few { Each (λ order. length order.items < 2 ^ 32) orders.now }
+    ensures lines { IfOk result (λ lines. lines ≡ map (λ order. map line_of order.items) orders.now) }
+    ensures ranges { IfOk result (Each (IsPart IsEntry)) }
+{
+    let mut lists = Vec::with_capacity(alloc, orders.len())?;
+    for order in orders {
+        let lines = lines_of_shard(alloc, order.as_slice())?;
+        lists.push(lines)?;
+    }
+    Ok(Items::from_vec(lists))
+}
+
+/// The lines of the entries of one shard, in order.
+fn lines_of_shard(alloc: Global, entries: &[Entry]) -> Result<Items<Line>, AllocError>
+    ensures lines { IfOk result (λ lines. lines ≡ map line_of entries.now) }
+    ensures ranges { IfOk result (Each IsEntry) }
+{
+    let mut lines = Vec::with_capacity(alloc, entries.len())?;
+    for entry in entries {
+        lines.push(line_of(entry.at, entry.via))?;
+    }
+    Ok(Items::from_vec(lines))
+}
+
+/// How a report says a unit and its way.
+fn line_of(at: UnitAt, via: Via) -> Line
+    ensures line { result ≡ record { thread = at.caller; op = at.tag; unit = at.unit; via = via } }
+    ensures range { IsEntry result }
+{
+    if let Via::Inline {
+        device,
+        slot,
+        event,
+    } = via
+    {
+        return Line {
+            thread: at.caller,
+            op: at.tag,
+            unit: at.unit,
+            via: Via::Inline {
+                device,
+                slot,
+                event,
+            },
+        };
+    }
+    Line {
+        thread: at.caller,
+        op: at.tag,
+        unit: at.unit,
+        via,
+    }
 }
 
 #[cfg(test)]

@@ -5,7 +5,7 @@ ghost use Rattle.std.specs.String.{string_bytes};
 ghost use Rattle.std.specs.Io.KnownBytes.{Consumes, Appends, IsAtEnd, Keeps};
 ghost use Rattle.bc_base.specs.Outside.{Rose, HasCause, AppendsPrefix};
 ghost use Rattle.bc_script.specs.ScriptText.{Says, NoScriptHas};
-ghost use Rattle.bc_run.specs.ReportText.{report_text};
+ghost use Rattle.bc_report.specs.ReportText.{report_text};
 ghost use Rattle.bc_script.specs.declared.limits.TheConstants.{MAX_TEXT};
 ghost use Rattle.bc_run.specs.Command.{IsCommand, IsTextOf, IsReportOf, zeros_for};
 ghost use Rattle.bc_run.specs.Statuses.{EndsBy};
@@ -13,10 +13,9 @@ ghost use Rattle.bc_run.specs.Stages.{status_of, IsNotRead};
 ghost use Rattle.bc_script.specs.Script as specs;
 
 use crate::one_caller::serial;
-use crate::report::Report;
-use crate::report_text::print;
 use crate::status::Status;
 use bc_base::{BLOCK_BYTES, ReadError, Sink, Source, read_all, write_all};
+use bc_report::{Report, print};
 use bc_script::limits::MAX_TEXT;
 use bc_script::{ParseError, Script, parse};
 use std::alloc::{AllocError, Global};
@@ -24,7 +23,7 @@ use std::alloc::{AllocError, Global};
 /// Runs the command that the words say, and returns how that ended. The words are those after the program's name.
 ///
 /// The command `serial` reads a script from `script` to its end, at most 16 MiB, carries it out over an image of zeros
-/// with one shard (see [`serial`]), and writes the text of its report to `out` (see [`print`]). Nothing is written before
+/// with one shard (see [`serial`]), and writes the text of its report to `out` (see [`print`](bc_report::print)). Nothing is written before
 /// the whole report stands. `folder` and `gate` aren't used by this command; the folder stays as it was.
 ///
 /// # Errors

@@ -2,14 +2,16 @@
 
 ghost use Rattle.std.specs.Prelude.{◌≡◌, ◌==◌, ◌≤◌, ℕ, List, ◌∷◌, length};
 ghost use Rattle.std.specs.List.{list_all};
-ghost use Rattle.bc_run.specs.Answers.{read_answer};
+ghost use Rattle.bc_report.specs.Answers.{read_answer};
+ghost use Rattle.bc_report.specs.Report.{IsAnswer};
 
-use crate::report::Answer;
+use bc_report::Answer;
 use sha2::{Digest, Sha256};
 
 /// The answer of a read of these bytes.
 pub(crate) fn answer_of(bytes: &[u8]) -> Answer
-    ensures { result ≡ read_answer bytes.now }
+    ensures answer { result ≡ read_answer bytes.now }
+    ensures range { IsAnswer result }
 {
     match bytes {
         [] => Answer::ReadSum(Sha256::digest(bytes)),

@@ -1,119 +1,130 @@
-//! The data units of a bio, written into the image and read from it.
+//! Data units, written to the shards of a disk and read from them, one at a time.
 
-ghost use Rattle.std.specs.Prelude.{◌≡◌, ◌+◌, ◌*◌, ◌≤◌, ◌<◌, ◌^◌, ℕ, length, flat_map, slice_range};
-ghost use Rattle.bc_bio.specs.declared.access.Access.{Access};
-ghost use Rattle.bc_bio.specs.Extent.{unit_sectors, context_after, end_of};
+ghost use Rattle.std.specs.Prelude.{◌≡◌, ◌*◌, ◌/◌, ◌+◌, ◌≤◌, List, length, replicate, slice_range, IfOk};
+ghost use Rattle.bc_base.specs.RamStores.{owns};
+ghost use Rattle.bc_key.specs.KeyData.{KeyData};
+ghost use Rattle.bc_bio.specs.Extent.{unit_sectors};
 ghost use Rattle.bc_bio.specs.Conditions.{HasKey};
-ghost use Rattle.bc_script.specs.declared.op.Op.{Op};
-ghost use Rattle.bc_script.specs.Script.{IsText};
+ghost use Rattle.bc_medium.specs.KeyedDisk.{deciphered};
+ghost use Rattle.bc_medium.specs.Shards.{HaveKeys, Own, HasSpare};
 ghost use Rattle.bc_script.specs.Plan.{text_at};
-ghost use Rattle.bc_medium.specs.KeyedDisk.{image_sectors, bytes_at, with_bytes, enciphered, deciphered};
-ghost use Rattle.bc_medium.specs.Outcome.{answer_text};
-ghost use Rattle.bc_run.specs.Serial.{disk_after, unit_answers, first_units, HasUnit, IsPerformable};
+ghost use Rattle.bc_run.specs.Standing.{HasUnit, via_of, Attempted, entry_of_write, answer_of_write, entry_of_read, answer_of_read};
 
 use crate::ciphers::Ciphers;
-use bc_base::SECTOR_BYTES;
-use bc_bio::{Context, Extent};
+use bc_base::RamStore;
+use bc_bio::Context;
+use bc_medium::{Shards, UnitAt, Via};
 use bc_script::Text;
+use std::alloc::{AllocError, Global};
 
-/// Writes each data unit of a bio, in order.
-pub(crate) fn write_units(image: &mut [u8], ciphers: &Ciphers, bio: &Extent, text: &Text)
-    requires access { bio.now.access ≡ Access.Write }
-    requires performable { IsPerformable ciphers.now bio.now }
-    requires on_disk { 512 * end_of ciphers.now bio.now ≤ length image.old }
-    requires text { IsText ciphers.now bio.now.context bio.now.units text.now }
-    ensures length { length image.new ≡ length image.old }
-    ensures disk { (op : ℕ) → image_sectors image.new ≡ disk_after ciphers.now (image_sectors image.old) (first_units ciphers.now op (Op.Write bio.now.context bio.now.sector bio.now.units text.now) bio.now bio.now.units) }
+/// Writes a data unit, whose bytes in the clear are `plain`; `place` has room for as many. Tells whether it met no fault.
+pub(crate) fn write_unit(
+    shards: &mut Shards<RamStore>,
+    ciphers: &Ciphers,
+    at: UnitAt,
+    plain: Vec<u8>,
+    place: &mut [u8],
+) -> bool
+    requires key { HasKey ciphers.now at.context }
+    requires keys { HaveKeys ciphers.now shards.old }
+    requires length { length plain.items ≡ 512 * unit_sectors ciphers.now at.context }
+    requires room { length place.old ≡ 512 * unit_sectors ciphers.now at.context }
+    requires sectors { Own owns shards.old at.sector (unit_sectors ciphers.now at.context) }
+    requires spare { HasSpare shards.old at.sector }
+    ensures { Attempted ciphers.now shards.old shards.new (entry_of_write at plain.items result) (answer_of_write result) }
 {
-    for unit in 0..bio.units {
-        write_unit(image, ciphers, bio, text, unit);
+    place.copy_from_slice(&plain);
+    ciphers.encipher(at.context, place);
+    let via = via_of(at.context);
+    match shards.write_unit(ciphers.keys(), at, via, plain, place) {
+        Ok(_) => return true,
+        Err(_) => return false,
     }
 }
 
-/// Writes data unit number `unit` of a bio.
-fn write_unit(image: &mut [u8], ciphers: &Ciphers, bio: &Extent, text: &Text, unit: u64)
-    requires performable { IsPerformable ciphers.now bio.now }
-    requires on_disk { 512 * end_of ciphers.now bio.now ≤ length image.old }
-    requires text { IsText ciphers.now bio.now.context bio.now.units text.now }
-    requires unit { unit < bio.now.units }
-    ensures length { length image.new ≡ length image.old }
-    ensures disk { image_sectors image.new ≡ with_bytes (image_sectors image.old) (bio.now.sector + unit * unit_sectors ciphers.now bio.now.context)
-        (enciphered ciphers.now (context_after unit bio.now.context) (text_at text.now (512 * unit_sectors ciphers.now bio.now.context) unit)) }
-{
-    let keys = ciphers.keys();
-    let start = SECTOR_BYTES * bio.sector_at(keys, unit) as usize;
-    let end = start + bio.unit_bytes(keys);
-    let context = bio.context_at(unit);
-    put_enciphered(
-        &mut image[start..end],
-        ciphers,
-        context,
-        text,
-        unit as usize,
-    );
-}
-
-/// Makes data unit number `unit` of a text, and enciphers it in its place.
-fn put_enciphered(
-    place: &mut [u8],
+/// Reads a data unit, deciphered, into its place. Tells whether it met no fault; where it met one the bytes of the place
+/// mean nothing.
+pub(crate) fn read_unit(
+    shards: &mut Shards<RamStore>,
     ciphers: &Ciphers,
-    context: Option<Context>,
-    text: &Text,
-    unit: usize,
-)
-    requires key { HasKey ciphers.now context }
-    requires length { length place.old ≡ 512 * unit_sectors ciphers.now context }
-    requires text { HasUnit text.now (length place.old) unit }
-    ensures { place.new ≡ enciphered ciphers.now context (text_at text.now (length place.old) unit) }
+    at: &UnitAt,
+    place: &mut [u8],
+) -> bool
+    requires key { HasKey ciphers.now at.now.context }
+    requires keys { HaveKeys ciphers.now shards.old }
+    requires room { length place.old ≡ 512 * unit_sectors ciphers.now at.now.context }
+    requires sectors { Own owns shards.old at.now.sector (unit_sectors ciphers.now at.now.context) }
+    requires spare { HasSpare shards.old at.now.sector }
+    ensures length { length place.new ≡ length place.old }
+    ensures attempted { Attempted ciphers.now shards.old shards.new (entry_of_read at.now result)
+        (answer_of_read place.new result) }
 {
-    put_text(place, text, unit);
-    ciphers.encipher(context, place);
+    if !read_raw(shards, at, place) {
+        return false;
+    }
+    ciphers.decipher(at.context, place);
+    true
 }
 
-/// Puts data unit number `unit` of a text into its place, in the clear.
-fn put_text(place: &mut [u8], text: &Text, unit: usize)
-    requires { HasUnit text.now (length place.old) unit }
-    ensures { place.new ≡ text_at text.now (length place.old) unit }
+/// Reads a data unit as it stands. Tells whether it met no fault.
+fn read_raw(shards: &mut Shards<RamStore>, at: &UnitAt, place: &mut [u8]) -> bool
+    requires whole { length place.old ≡ 512 * (length place.old / 512) }
+    requires sectors { Own owns shards.old at.now.sector (length place.old / 512) }
+    requires spare { HasSpare shards.old at.now.sector }
+    ensures length { length place.new ≡ length place.old }
+    ensures attempted { (keys : List KeyData) → HaveKeys keys shards.old
+        → length place.old ≡ 512 * unit_sectors keys at.now.context
+        → Attempted keys shards.old shards.new (entry_of_read at.now result)
+            (answer_of_read (deciphered keys at.now.context place.new) result) }
+{
+    match shards.read_unit(*at, via_of(at.context), place) {
+        Ok(_) => return true,
+        Err(_) => return false,
+    }
+}
+
+/// The bytes of data unit number `unit` of a text, of `size` bytes each.
+pub(crate) fn text_of_unit(
+    alloc: Global,
+    text: &Text,
+    size: usize,
+    unit: usize,
+) -> Result<Vec<u8>, AllocError>
+    requires { HasUnit text.now size unit }
+    ensures { IfOk result (λ plain. plain.items ≡ text_at text.now size unit) }
 {
     match text {
-        Text::Fill(byte) => place.fill(*byte),
-        Text::Bytes(bytes) => copy_unit(place, bytes.as_slice(), unit),
+        Text::Fill(byte) => fill(alloc, *byte, size),
+        Text::Bytes(bytes) => copy_unit(alloc, bytes.as_slice(), size, unit),
     }
 }
 
-/// Copies data unit number `unit` of these bytes.
-fn copy_unit(place: &mut [u8], bytes: &[u8], unit: usize)
-    requires { length place.old * unit + length place.old ≤ length bytes.now }
-    ensures { place.new ≡ slice_range bytes.now (length place.old * unit) (length place.old * unit + length place.old) }
+fn fill(alloc: Global, byte: u8, size: usize) -> Result<Vec<u8>, AllocError>
+    ensures { IfOk result (λ plain. plain.items ≡ replicate size byte) }
 {
-    let start = place.len() * unit;
-    place.copy_from_slice(&bytes[start..start + place.len()]);
+    Ok(vec![in alloc; byte; size]?)
 }
 
-/// Reads each data unit of a bio, in order, one after the other.
-pub(crate) fn read_units(image: &[u8], ciphers: &Ciphers, bio: &Extent, room: &mut [u8])
-    requires access { bio.now.access ≡ Access.Read }
-    requires performable { IsPerformable ciphers.now bio.now }
-    requires on_disk { 512 * end_of ciphers.now bio.now ≤ length image.now }
-    requires room { length room.old ≡ bio.now.units * (512 * unit_sectors ciphers.now bio.now.context) }
-    ensures { (op : ℕ) → room.new ≡ flat_map answer_text (unit_answers ciphers.now (image_sectors image.now) (first_units ciphers.now op (Op.Read bio.now.context bio.now.sector bio.now.units) bio.now bio.now.units)) }
+/// Copies part number `unit` of these bytes, of `size` bytes each.
+fn copy_unit(
+    alloc: Global,
+    bytes: &[u8],
+    size: usize,
+    unit: usize,
+) -> Result<Vec<u8>, AllocError>
+    requires { size * unit + size ≤ length bytes.now }
+    ensures { IfOk result (λ plain. plain.items ≡ slice_range bytes.now (size * unit) (size * unit + size)) }
 {
-    let size = bio.unit_bytes(ciphers.keys());
-    for unit in 0..bio.units {
-        let start = unit as usize * size;
-        read_unit(image, ciphers, bio, unit, &mut room[start..start + size]);
+    let start = size * unit;
+    Ok(bytes[start..start + size].to_vec(alloc)?)
+}
+
+/// How a data unit under this context goes where there is no device.
+fn via_of(context: Option<Context>) -> Via
+    ensures { result ≡ via_of context }
+{
+    match context {
+        Some(_) => Via::Soft,
+        None => Via::Plain,
     }
-}
-
-/// Reads data unit number `unit` of a bio.
-fn read_unit(image: &[u8], ciphers: &Ciphers, bio: &Extent, unit: u64, place: &mut [u8])
-    requires performable { IsPerformable ciphers.now bio.now }
-    requires on_disk { 512 * end_of ciphers.now bio.now ≤ length image.now }
-    requires unit { unit < bio.now.units }
-    requires length { length place.old ≡ 512 * unit_sectors ciphers.now bio.now.context }
-    ensures { place.new ≡ deciphered ciphers.now (context_after unit bio.now.context) (bytes_at (image_sectors image.now) (bio.now.sector + unit * unit_sectors ciphers.now bio.now.context) (unit_sectors ciphers.now bio.now.context)) }
-{
-    let start = SECTOR_BYTES * bio.sector_at(ciphers.keys(), unit) as usize;
-    place.copy_from_slice(&image[start..start + place.len()]);
-    ciphers.decipher(bio.context_at(unit), place);
 }

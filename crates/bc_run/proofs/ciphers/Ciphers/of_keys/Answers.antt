@@ -1,7 +1,7 @@
 use Rattle.std.proofs.Common.{map, take, sym, ap, ◌∙◌}
 use Rattle.bc_modes.specs.UnitCipher.{parts_of}
 use Rattle.bc_script.specs.declared.named_key.NamedKey.{NamedKey}
-use Rattle.bc_run.proofs.Steps.{map-map}
+use Rattle.bc_run.proofs.Lists.{map-map}
 use Rattle.bc_run.proofs.ciphers.Ciphers.of_keys.Goals as goal
 
 pub invariant_of-result : goal.invariant_of-result

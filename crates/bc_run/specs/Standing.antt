@@ -1,0 +1,185 @@
+-- What holds of the shards of a run by one caller, and what one attempt of a data unit does to them. The contracts of
+-- private functions speak of this; no public one does.
+use Rattle.std.specs.Prelude.{◌≡◌, ◌↔◌, ℕ, ◌+◌, ◌*◌, ◌<◌, ◌≤◌, ◌==◌, Bool, true, false, List, [], ◌∷◌, ◌++◌, length, map, filter, replicate, slice_get, Option, Some, None, ⊤}
+use Rattle.std.specs.List.{range_with_len}
+use Rattle.std.specs.Option.{option_map_or}
+use Rattle.bc_base.specs.declared.place.Place.{Place}
+use Rattle.bc_base.specs.Lists.{At, AllAt, ChangesAt, list_at}
+use Rattle.bc_base.specs.Memory.{Calls, no_calls}
+use Rattle.bc_base.specs.RamStores.{RamData, IsShardOf, owns, contents}
+use Rattle.bc_key.specs.KeyData.{KeyData}
+use Rattle.bc_bio.specs.declared.access.Access.TheVariants.{Read, Write}
+use Rattle.bc_bio.specs.declared.context.Context.{Context}
+use Rattle.bc_bio.specs.declared.extent.Extent.{Extent}
+use Rattle.bc_bio.specs.Extent.{unit_sectors, context_after}
+use Rattle.bc_bio.specs.Conditions.{IsAccepted}
+use Rattle.bc_bio.specs.BioUnits.{context_wrapped}
+use Rattle.bc_bio.specs.PlannedUnit.{PlannedUnit}
+use Rattle.bc_medium.specs.declared.entry.Entry.{Entry}
+use Rattle.bc_medium.specs.declared.unit_at.UnitAt.{UnitAt}
+use Rattle.bc_medium.specs.declared.via.Via.{Via}
+use Rattle.bc_medium.specs.declared.via.Via.TheVariants as vias
+use Rattle.bc_medium.specs.Places.{shard_of}
+use Rattle.bc_medium.specs.KeyedDisk.{Sectors, image_sectors, UnitAnswer, Faulted, Written, Text as Answered}
+use Rattle.bc_medium.specs.Entries.{name_of_entry, told_by, IsTold, written_entry, read_entry, failed_entry}
+use Rattle.bc_medium.specs.Growth.{IsEntryOf, Knows}
+use Rattle.bc_medium.specs.Outcome.{BioAnswer, is_fault}
+use Rattle.bc_medium.specs.ShardOrder.{ShardData, HasKeys}
+use Rattle.bc_medium.specs.Shards.{orders_of, Adds}
+use Rattle.bc_script.specs.declared.op.Op.{Op}
+use Rattle.bc_script.specs.declared.op.Text.{Text}
+use Rattle.bc_script.specs.declared.op.Text.TheVariants.{Fill, Bytes}
+use Rattle.bc_script.specs.Script.{Script, IsScript, keys_of, sectors_in, max_units, max_bio_units, max_bio_sectors}
+use Rattle.bc_script.specs.Bios.{refusal_of}
+use Rattle.bc_script.specs.Plan.{unit_at}
+use Rattle.bc_compose.specs.SectionDone.{SaysItsWay, IsBioAnswer}
+use Rattle.bc_run.specs.Sections.{DeviceData, GoOnBy}
+
+-- ---- stores
+
+-- the places that are planned to fail on a shard
+abbrev pub planned_on : List (ℕ × ℕ) → ℕ → List ℕ
+planned_on faults shard = map (λ fault. fault.1) (filter (λ fault. fault.0 == shard) faults)
+
+-- the store is that of a shard of an image, and fails as the script plans
+pub record IsOpening (script : Script) (image : List ℕ) (shards shard : ℕ) (store : RamData) : Type 0 where
+  pub holds : IsShardOf image shard shards store
+  pub calls : store.calls ≡ no_calls (planned_on script.faults shard)
+
+-- there is such a store for each shard
+pub record AreOpenings (script : Script) (image : List ℕ) (shards : ℕ) (stores : List RamData) : Type 0 where
+  pub count : length stores ≡ shards
+  pub each : (shard : ℕ) → AllAt stores shard (IsOpening script image shards shard)
+
+-- ---- shards
+
+-- a shard of the script's disk: writes had the script's keys, the sectors of its blocks are its own, it fails as planned,
+-- and it has room for so many entries more
+pub record Stands (script : Script) (shards left shard : ℕ) (s : ShardData RamData) : Type 0 where
+  pub keys : HasKeys (keys_of script) s
+  pub owned : (sector : ℕ) → sector < sectors_in script → shard_of shards sector ≡ shard → owns s.start sector ≡ true
+  pub blocks : s.start.blocks ≡ script.blocks
+  pub planned : s.start.calls ≡ no_calls (planned_on script.faults shard)
+  pub spare : left ≤ s.spare
+  pub few : length s.entries + s.spare ≤ max_units
+
+-- each shard is such
+abbrev pub AllStand : Script → ℕ → List (ShardData RamData) → Type 0
+AllStand script left shards = (shard : ℕ) → AllAt shards shard (Stands script (length shards) left shard)
+
+-- a script is being carried out: with its keys' ciphers, over shards of its disk, each with room for so many entries more
+pub record IsCourse (script : Script) (keys : List KeyData) (shards : List (ShardData RamData)) (left : ℕ) : Type 0 where
+  pub rules : IsScript script
+  pub keys_are : keys ≡ keys_of script
+  pub some : 1 ≤ length shards
+  pub stand : AllStand script left shards
+
+-- the sectors of each shard at the opening
+abbrev pub sectors_at : List (ShardData RamData) → ℕ → Sectors
+sectors_at shards shard = option_map_or (λ s. contents s.start) (slice_get shards shard) (λ sector. [])
+
+-- a script that is being carried out by one caller: over which shards, whose section it is, and how many data units more
+-- may be attempted
+pub record CourseData : Type 0 where
+  pub script : Script
+  pub shards : List (ShardData RamData)
+  pub thread : ℕ
+  pub left : ℕ
+
+-- the same as the device of the thread whose section it is
+abbrev pub device_of : CourseData → DeviceData
+device_of course = record {
+  script = course.script;
+  shards = length course.shards;
+  base = sectors_at course.shards;
+  thread = course.thread;
+  seen = orders_of course.shards;
+  alone = true;
+  spare = course.left;
+}
+
+-- ---- data units
+
+-- a bio can be performed: it isn't refused, has no more data units and sectors than a script's may have, and none of its
+-- numbers wraps
+pub record IsPerformable (script : Script) (bio : Extent) : Type 0 where
+  pub unrefused : refusal_of script bio ≡ None
+  pub accepted : IsAccepted (keys_of script) (sectors_in script) bio
+  pub few_units : bio.units ≤ max_bio_units
+  pub few_sectors : bio.units * unit_sectors (keys_of script) bio.context ≤ max_bio_sectors
+  pub no_wrap : (i : ℕ) → i ≤ bio.units → context_wrapped i bio.context ≡ context_after i bio.context
+
+-- a text has bytes for this unit, of so many bytes each
+abbrev pub HasUnit : Text → ℕ → ℕ → Type 0
+HasUnit (Fill byte) size i = ⊤
+HasUnit (Bytes bytes) size i = size * i + size ≤ length bytes
+
+-- the first n units of a bio
+abbrev pub first_units : List KeyData → ℕ → Op → Extent → ℕ → List PlannedUnit
+first_units keys op operation bio n = map (unit_at keys op operation bio) (range_with_len 0 n)
+
+-- how a unit with this context goes where there is no device: by software, or in the clear
+abbrev pub via_of : Option Context → Via
+via_of None = vias.Plain
+via_of (Some context) = vias.Soft
+
+-- a thread's unit, where it lies
+abbrev pub at_of : ℕ → PlannedUnit → UnitAt
+at_of thread u = record { caller = thread; tag = u.tag; unit = u.unit; sector = u.sector; context = u.context }
+
+-- the entry of a write that met no fault, or that met one
+abbrev pub entry_of_write : UnitAt → List ℕ → Bool → Entry
+entry_of_write at plain true = written_entry at (via_of at.context) plain
+entry_of_write at plain false = failed_entry Write at (via_of at.context)
+
+-- what it is answered
+abbrev pub answer_of_write : Bool → UnitAnswer
+answer_of_write true = Written
+answer_of_write false = Faulted
+
+-- the entry of a read that met no fault, or that met one
+abbrev pub entry_of_read : UnitAt → Bool → Entry
+entry_of_read at true = read_entry at (via_of at.context)
+entry_of_read at false = failed_entry Read at (via_of at.context)
+
+-- what it is answered
+abbrev pub answer_of_read : List ℕ → Bool → UnitAnswer
+answer_of_read text true = Answered text
+answer_of_read text false = Faulted
+
+-- a shard goes on by an entry, under these keys if it is a write
+pub record GoesOn (keys : List KeyData) (e : Entry) (s s' : ShardData RamData) : Type 0 where
+  pub start : s'.start ≡ s.start
+  pub keys_are : HasKeys keys s'
+  pub entries : s'.entries ≡ s.entries ++ e ∷ []
+  pub spare : s'.spare + 1 ≡ s.spare
+
+-- one access of the shards: its entry, and what it is answered
+pub record Attempted (keys : List KeyData) (old new : List (ShardData RamData)) (e : Entry) (answer : UnitAnswer)
+    : Type 0 where
+  pub place : Place
+  pub adds : Adds old new e place
+  pub goes_on : ChangesAt old new place.shard (GoesOn keys e)
+  pub told : AllAt new place.shard
+      (λ s. IsTold (told_by keys (contents s.start) s.entries) (name_of_entry e) answer)
+
+-- one data unit was attempted, and its thread knows what it was answered
+pub record AttemptsUnit (old new : DeviceData) (u : PlannedUnit) (answer : UnitAnswer) : Type 0 where
+  pub entry : Entry
+  pub same : new ≡ record old { seen = new.seen; spare = new.spare }
+  pub spare : old.spare ≤ new.spare + 1
+  pub grows : GoOnBy old.shards old.seen new.seen (entry ∷ [])
+  pub is_its : IsEntryOf old.thread u entry
+  pub way : SaysItsWay entry
+  pub failed : entry.failed ≡ is_fault answer
+  pub known : Knows (keys_of old.script) old.shards old.base old.thread new.seen u answer
+
+-- ---- the whole run
+
+-- a run begins: nothing was attempted yet, and each shard has its own sectors of the image
+pub record IsBegun (script : Script) (image : List ℕ) (shards : ℕ) (course : CourseData) : Type 0 where
+  pub script_is : course.script ≡ script
+  pub shards_are : length course.shards ≡ shards
+  pub untouched : (shard : ℕ) → list_at (orders_of course.shards) shard ≡ []
+  pub opening : (s : ℕ) → sectors_at course.shards (shard_of shards s) s ≡ image_sectors image s
+  pub left : course.left ≡ max_units

@@ -1,0 +1,78 @@
+//! The device of a run by one caller: operations act at once, and no other caller comes between.
+
+ghost use Rattle.std.specs.Prelude.{◌≡◌};
+
+use crate::course::Course;
+use crate::device::Device;
+use bc_bio::{Extent, Refusal};
+use bc_key::KeyNo;
+use bc_report::Answer;
+use bc_script::Op;
+use std::alloc::{AllocError, Global};
+use std::marker::Model;
+
+/// Carries operations out on a course.
+#[derive(Drop)]
+pub(crate) struct Direct<'s> {
+    pub(crate) course: Course<'s>,
+    /// Room for all bytes of a bio.
+    pub(crate) room: Vec<u8>,
+    pub(crate) alloc: Global,
+}
+
+impl<'s> Model for Direct<'s> {
+    ghost use Rattle.std.specs.Prelude.{◌≡◌, length};
+    ghost use Rattle.bc_run.specs.Standing.{CourseData};
+
+    ghost Value = { CourseData };
+
+    ghost view = { λ d. d.course };
+
+    ghost invariant = { λ d. length d.room.items ≡ 131072 };
+}
+
+impl Direct<'_> {
+    /// Begins the section of a thread.
+    pub(crate) fn begin(&mut self, thread: u16)
+        ensures { self.new ≡ record self.old { thread = thread } }
+    {
+        self.course.begin(thread);
+    }
+}
+
+impl Device<(), AllocError> for Direct<'_> {
+    ghost use Rattle.bc_run.specs.Standing.{device_of};
+
+    ghost facts = { λ d. device_of d };
+
+    fn refusal(&self, bio: &Extent) -> Option<Refusal> {
+        self.course.refusal(bio)
+    }
+
+    fn submit(
+        &mut self,
+        _rt: &(),
+        op: u32,
+        operation: &Op,
+        bio: &Extent,
+    ) -> Result<Answer, AllocError> {
+        if !self.course.accepts(bio) {
+            unreachable!()
+        }
+        match operation {
+            Op::Write { text, .. } => {
+                self.course
+                    .write(self.alloc, op, bio, text, self.room.as_mut_slice())
+            }
+            _ => Ok(self.course.read(op, bio, self.room.as_mut_slice())),
+        }
+    }
+
+    fn evict(&mut self, _rt: &(), _op: u32, _key: KeyNo) -> Result<Answer, AllocError> {
+        Ok(Answer::Evicted)
+    }
+
+    fn reset(&mut self, _rt: &(), _op: u32, _device: u8) -> Result<Answer, AllocError> {
+        Ok(Answer::Reset)
+    }
+}
