@@ -53,6 +53,7 @@ range_parts first zero n = ap (range_with_len first) (zero_first n) ∙ ap (λ k
   where
     zero_first : (n : ℕ) → 0 + n ≡ n
     zero_first n = omega arith
+
     none : (n : ℕ) → n ≡ n + 0
     none n = omega arith
 range_parts first (suc m) n =
@@ -61,6 +62,7 @@ range_parts first (suc m) n =
   where
     over : (m n : ℕ) → suc m + n ≡ suc (m + n)
     over m n = omega arith
+
     next : (f m : ℕ) → f + 1 + m ≡ f + suc m
     next f m = omega arith
 
@@ -155,17 +157,21 @@ module _ (stays : KnownStays) (a : DeviceData) (seen seen' : List (List Entry)) 
 
   wrote : (us : List PlannedUnit) (u : PlannedUnit) → SoFar a mid Write us Wrote → AttemptsUnit mid end u Written → SoFar a end Write (us ++ u ∷ []) Wrote
   wrote us u p q =
-      step Write us u Wrote Wrote Written p q q.failed
-      (refl, all_append (λ v. Knows (keys_of a.script) a.shards a.base a.thread seen' v Written) us (u ∷ [])
-      (bio_answer_more stays a.script a.shards a.base a.thread seen seen' (fronts Write us u Written q) Write us Wrote p.answer).1 (q.known, tt))
+      step Write us u Wrote Wrote Written p q q.failed (
+        refl,
+        all_append (λ v. Knows (keys_of a.script) a.shards a.base a.thread seen' v Written) us (u ∷ [])
+            (bio_answer_more stays a.script a.shards a.base a.thread seen seen' (fronts Write us u Written q) Write us Wrote p.answer).1 (q.known, tt),
+      )
 
   read : (us : List PlannedUnit) (u : PlannedUnit) (bytes text : List ℕ) → SoFar a mid Read us (Bytes bytes) → AttemptsUnit mid end u (Text text) → SoFar a end Read (us ++ u ∷ []) (Bytes (bytes ++ text))
   read us u bytes text p q =
       let now = bio_answer_more stays a.script a.shards a.base a.thread seen seen' (fronts Read us u (Text text) q) Read us (Bytes bytes) p.answer in
-      step Read us u (Bytes bytes) (Bytes (bytes ++ text)) (Text text) p q q.failed
-      (refl, now.1 ++ text ∷ [],
-      zip_append (λ v t. Knows (keys_of a.script) a.shards a.base a.thread seen' v (Text t)) us (u ∷ []) now.1 (text ∷ []) now.2 (q.known, tt),
-      ap (λ l. l ++ text) now.3 ∙ ap (λ l. flat_map (λ t. t) now.1 ++ l) (sym (append-nil text)) ∙ sym (flat_map-append (λ t. t) now.1 (text ∷ [])))
+      step Read us u (Bytes bytes) (Bytes (bytes ++ text)) (Text text) p q q.failed (
+        refl,
+        now.1 ++ text ∷ [],
+        zip_append (λ v t. Knows (keys_of a.script) a.shards a.base a.thread seen' v (Text t)) us (u ∷ []) now.1 (text ∷ []) now.2 (q.known, tt),
+        ap (λ l. l ++ text) now.3 ∙ ap (λ l. flat_map (λ t. t) now.1 ++ l) (sym (append-nil text)) ∙ sym (flat_map-append (λ t. t) now.1 (text ∷ [])),
+      )
 
   none_failed : (es : List Entry) → AllByRecursion (λ e. e.failed ≡ false) es → failed_names es ≡ []
   none_failed es went = ap (map name_of_entry) (filter_none (λ e. e.failed) es (λ e at. all_at (λ (x : Entry). x.failed ≡ false) es e went at))
@@ -187,33 +193,40 @@ module _ (stays : KnownStays) (a : DeviceData) (seen seen' : List (List Entry)) 
       filter-append (λ v. is_attempted (name ∷ []) (name_of a.thread v)) us (u ∷ vs)
       ∙ ap (λ l. l ++ attempted_by a.thread (name ∷ []) (u ∷ vs)) (filter_all (λ v. is_attempted (name ∷ []) (name_of a.thread v)) us (λ v at. not_before v (before_it keys op operation bio i v at)))
       ∙ ap (λ (t : Bool). us ++ cond t (u ∷ attempted_by a.thread (name ∷ []) vs) (attempted_by a.thread (name ∷ []) vs)) (itself u)
-      ∙ ap (λ l. us ++ u ∷ l) (filter_none (λ v. is_attempted (name ∷ []) (name_of a.thread v)) vs (λ v at. let r = behind_it keys op operation bio i n v at in passed v r.0 r.1)) in
-      (p.made ++ q.entry ∷ [], goes_append a.shards a.thread a.seen seen seen' p.made (q.entry ∷ []) p.goes q.grows,
-      subst (λ l. Attempts a.thread [] l (p.made ++ q.entry ∷ [])) (sym (units_round keys op operation bio i n))
-      (subst (λ m. AllZip (IsEntryOf a.thread) (attempted_by a.thread m (us ++ u ∷ vs)) (p.made ++ q.entry ∷ [])) (sym met)
-      (subst (λ l. AllZip (IsEntryOf a.thread) l (p.made ++ q.entry ∷ [])) (sym tried)
-      (zip_append (IsEntryOf a.thread) us (u ∷ []) p.made (q.entry ∷ []) p.entries (q.is_its, tt)))),
-      all_append SaysItsWay p.made (q.entry ∷ []) p.ways (q.way, tt),
-      (let l = p.spare in let m = q.spare in omega (arith, count i)))
+      ∙ ap (λ l. us ++ u ∷ l) (filter_none (λ v. is_attempted (name ∷ []) (name_of a.thread v)) vs (λ v at. let r = behind_it keys op operation bio i n v at in passed v r.0 r.1)) in (
+        p.made ++ q.entry ∷ [],
+        goes_append a.shards a.thread a.seen seen seen' p.made (q.entry ∷ []) p.goes q.grows,
+        subst (λ l. Attempts a.thread [] l (p.made ++ q.entry ∷ [])) (sym (units_round keys op operation bio i n))
+            (subst (λ m. AllZip (IsEntryOf a.thread) (attempted_by a.thread m (us ++ u ∷ vs)) (p.made ++ q.entry ∷ [])) (sym met)
+            (subst (λ l. AllZip (IsEntryOf a.thread) l (p.made ++ q.entry ∷ [])) (sym tried)
+            (zip_append (IsEntryOf a.thread) us (u ∷ []) p.made (q.entry ∷ []) p.entries (q.is_its, tt)))),
+        all_append SaysItsWay p.made (q.entry ∷ []) p.ways (q.way, tt),
+        (let l = p.spare in let m = q.spare in omega (arith, count i)),
+      )
     where
       count : (i : ℕ) → length (first_units keys op operation bio i) ≡ i
       count i = length-map-range_with_len (unit_at keys op operation bio) 0 i
+
       lt_no : (m n : ℕ) → n ≤ m → nat_lt m n ≡ false
       lt_no m n le = false_from_ne_true (nat_lt m n) (λ t. let lt = ltb-true m n t in absurd (omega arith))
+
       lt_yes : (m n : ℕ) → m < n → nat_lt m n ≡ true
       lt_yes m n lt = lt-ltb m n lt
+
       not_before : (v : PlannedUnit) → v.unit < i → is_attempted (name_of a.thread (unit_at keys op operation bio i) ∷ []) (name_of a.thread v) ≡ true
       not_before v lt = rw (lt_no i v.unit (omega arith)) (ends ((a.thread == a.thread) && (op == v.tag)))
         where
           ends : (t : Bool) → not ((t && false) || false) ≡ true
           ends true = refl
           ends false = refl
+
       itself : (u : PlannedUnit) → is_attempted (name_of a.thread u ∷ []) (name_of a.thread u) ≡ true
       itself u = rw (lt_no u.unit u.unit (omega arith)) (ends ((a.thread == a.thread) && (u.tag == u.tag)))
         where
           ends : (t : Bool) → not ((t && false) || false) ≡ true
           ends true = refl
           ends false = refl
+
       passed : (v : PlannedUnit) → i < v.unit → v.tag ≡ op → is_attempted (name_of a.thread (unit_at keys op operation bio i) ∷ []) (name_of a.thread v) ≡ false
       passed v lt same = rw (eq-eqb a.thread a.thread refl, eq-eqb op v.tag (sym same), lt_yes i v.unit lt) refl
 
@@ -252,6 +265,7 @@ module _ (script : Script) (op : ℕ) (operation : Op) (bio : Extent) (is : bio_
     where
       first_step : units_of script (op, operation) ≡ units_of_bio script op operation bio
       first_step = rw is refl
+
       second_step : units_of_bio script op operation bio ≡ first_units (keys_of script) op operation bio bio.units
       second_step = rw accepted refl
 
@@ -314,8 +328,11 @@ carries_fault stays a b c op operation bio i outcome is accepted count lt small 
       alone = λ _. r.1;
       attempts = subst (λ l. Attempts a.thread [] l r.0) (sym (units_flat a.script op operation bio is accepted)) attempts;
       ways = r.3;
-      replies = (reply_is a.script op operation bio is accepted a.shards a.base a.thread c.seen (Fault i) (answers.Fault i)
-          (i, u, place_in_units keys op operation bio i bio.units lt, refl, q'.known) refl, tt);
+      replies = (
+        reply_is a.script op operation bio is accepted a.shards a.base a.thread c.seen (Fault i) (answers.Fault i)
+            (i, u, place_in_units keys op operation bio i bio.units lt, refl, q'.known) refl,
+        tt,
+      );
       ranges = (small, tt);
     })
   where
@@ -329,6 +346,7 @@ carries_fault stays a b c op operation bio i outcome is accepted count lt small 
       where
         next : (f m : ℕ) → f + 1 + m ≡ f + suc m
         next f m = omega arith
+
     place_in_units : (keys : List KeyData) (op : ℕ) (operation : Op) (bio : Extent) (i n : ℕ) → i < n → At (first_units keys op operation bio n) i (unit_at keys op operation bio i)
     place_in_units keys op operation bio i n lt = subst (λ m. At (first_units keys op operation bio n) i (unit_at keys op operation bio m)) (zero_first i) (at_range (unit_at keys op operation bio) 0 i n lt)
       where

@@ -51,12 +51,16 @@ op_of_unit script (op, operation) u at =
   where
     none : bio_of operation ≡ None → units_of script (op, operation) ≡ []
     none is = rw is refl
+
     some : (bio : Extent) → bio_of operation ≡ Some bio → units_of script (op, operation) ≡ units_of_bio script op operation bio
     some bio is = rw is refl
+
     accepted : (bio : Extent) → refusal_of script bio ≡ None → units_of_bio script op operation bio ≡ map (unit_at (keys_of script) op operation bio) (range_with_len 0 bio.units)
     accepted bio is = rw is refl
+
     refused : (bio : Extent) (refusal : Refusal) → refusal_of script bio ≡ Some refusal → units_of_bio script op operation bio ≡ []
     refused bio refusal is = rw is refl
+
     of_bio : (bio : Extent) (o : Option Refusal) → refusal_of script bio ≡ o → In u (units_of_bio script op operation bio) → u.tag ≡ op
     of_bio bio None is here = ops_of_bio (keys_of script) op operation bio (range_with_len 0 bio.units) u (subst (In u) (accepted bio is) here)
     of_bio bio (Some refusal) is here = absurd (subst (In u) (refused bio refusal is) here)
@@ -190,6 +194,7 @@ carries_refused d op operation bio refusal is refused =
   where
     none : units_of d.script (op, operation) ≡ units_of_bio d.script op operation bio
     none = rw is refl
+
     refused_units : units_of_bio d.script op operation bio ≡ []
     refused_units = rw refused refl
 

@@ -67,8 +67,10 @@ planned_met (f ∷ faults) shard place c =
     or_right : (a : Bool) {b : Bool} → b ≡ true → (a || b) ≡ true
     or_right true e = refl
     or_right false e = e
+
     kept : (f.0 == shard) ≡ true → filter (λ fault. fault.0 == shard) (f ∷ faults) ≡ f ∷ filter (λ fault. fault.0 == shard) faults
     kept e = ap (λ (b : Bool). cond b (f ∷ filter (λ fault. fault.0 == shard) faults) (filter (λ fault. fault.0 == shard) faults)) e
+
     passed : (f.0 == shard) ≡ false → filter (λ fault. fault.0 == shard) (f ∷ faults) ≡ filter (λ fault. fault.0 == shard) faults
     passed e = ap (λ (b : Bool). cond b (f ∷ filter (λ fault. fault.0 == shard) faults) (filter (λ fault. fault.0 == shard) faults)) e
 
@@ -83,6 +85,7 @@ met_planned (f ∷ faults) shard place e =
   where
     kept : {b : Bool} → (f.0 == shard) ≡ b → filter (λ fault. fault.0 == shard) (f ∷ faults) ≡ cond b (f ∷ filter (λ fault. fault.0 == shard) faults) (filter (λ fault. fault.0 == shard) faults)
     kept e = ap (λ (b : Bool). cond b (f ∷ filter (λ fault. fault.0 == shard) faults) (filter (λ fault. fault.0 == shard) faults)) e
+
     first : (meets_fault faults shard place ≡ true → Contains (planned_on faults shard) place) → (b : Bool) → (f.1 == place) ≡ b → (f.0 == shard) ≡ true → Contains (f.1 ∷ planned_on faults shard) place
     first rest true is here = (0, omega arith, eqb-true f.1 place is)
     first rest false is here =

@@ -239,10 +239,13 @@ by_places f xs = go 0 xs (λ k. list_at xs k) (λ k lt. ap (list_at xs) (zero_fi
   where
     zero_first : (n : ℕ) → 0 + n ≡ n
     zero_first n = omega arith
+
     next : (n m : ℕ) → n + suc m ≡ n + 1 + m
     next n m = omega arith
+
     zero_more : (n : ℕ) → n + 0 ≡ n
     zero_more n = omega arith
+
     go : (n : ℕ) (ys : List (List _)) (g : ℕ → List _) → ((k : ℕ) → k < length ys → g (n + k) ≡ list_at ys k) → flat_map (λ k. f (g k)) (range_with_len n (length ys)) ≡ flat_map f ys
     go n [] g same = refl
     go n (y ∷ ys) g same =
@@ -269,6 +272,7 @@ range_push n (suc m) =
   where
     plus : (m : ℕ) → suc m + 1 ≡ suc (m + 1)
     plus m = omega arith
+
     over : (n m : ℕ) → n + 1 + m ≡ n + suc m
     over n m = omega arith
 

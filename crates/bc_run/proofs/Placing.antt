@@ -80,6 +80,7 @@ stand_more script old new e k n m le p less stand shard z at =
   where
     lowered : (z : ShardData RamData) → Stands script (length old) n shard z → Stands script (length old) m shard z
     lowered z is = record { keys = is.keys; owned = is.owned; blocks = is.blocks; planned = is.planned; spare = let l = is.spare in omega arith; few = is.few }
+
     changed : (s s' : ShardData RamData) → GoesOn (keys_of script) e s s' → Stands script (length old) n k s → Stands script (length old) m k s'
     changed s s' g is = record {
       keys = g.keys_are;

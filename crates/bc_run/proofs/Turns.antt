@@ -131,10 +131,13 @@ module _ (a : DeviceData) (alone : IsTrue a.alone) (thread thread' : ℕ) (seen 
     where
       zero_first : (n : ℕ) → n ≡ 0 + n
       zero_first n = omega arith
+
       longer : {X Y : Type 0} (xs : List X) (ys : List Y) (x : X) (y : Y) → length xs ≡ length ys → length (xs ++ x ∷ []) ≡ length (ys ++ y ∷ [])
       longer xs ys x y e = length-append xs (x ∷ []) ∙ ap (λ n. n + 1) e ∙ sym (length-append ys (y ∷ []))
+
       within : {X Y : Type 0} (xs : List X) (ys : List Y) (t : ℕ) → length xs ≡ length ys → t < length ys → t < length xs
       within xs ys t e lt = omega arith
+
       last_one : {X : Type 0} (xs : List X) (x : X) (t : ℕ) → t < length (xs ++ x ∷ []) → length xs ≤ t → t ≡ length xs
       last_one xs x t lt le = omega (arith, length-append xs (x ∷ []))
 

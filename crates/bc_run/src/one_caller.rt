@@ -142,10 +142,7 @@ fn carry_section_out(
 }
 
 /// The lines of the entries of each shard.
-fn lines_of_shards(
-    alloc: Global,
-    orders: &[Vec<Entry>],
-) -> Result<Items<Items<Line>>, AllocError>
+fn lines_of_shards(alloc: Global, orders: &[Vec<Entry>]) -> Result<Items<Items<Line>>, AllocError>
     requires few { Each (λ order. length order.items < 2 ^ 32) orders.now }
     ensures lines { IfOk result (λ lines. lines ≡ map (λ order. map line_of order.items) orders.now) }
     ensures ranges { IfOk result (Each (IsPart IsEntry)) }

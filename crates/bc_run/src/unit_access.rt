@@ -75,7 +75,7 @@ fn read_raw(shards: &mut Shards<RamStore>, at: &UnitAt, place: &mut [u8]) -> boo
     ensures attempted { (keys : List KeyData) → HaveKeys keys shards.old
         → length place.old ≡ 512 * unit_sectors keys at.now.context
         → Attempted keys shards.old shards.new (entry_of_read at.now result)
-            (answer_of_read (deciphered keys at.now.context place.new) result) }
+        (answer_of_read (deciphered keys at.now.context place.new) result) }
 {
     match shards.read_unit(*at, via_of(at.context), place) {
         Ok(_) => return true,
@@ -106,12 +106,7 @@ fn fill(alloc: Global, byte: u8, size: usize) -> Result<Vec<u8>, AllocError>
 }
 
 /// Copies part number `unit` of these bytes, of `size` bytes each.
-fn copy_unit(
-    alloc: Global,
-    bytes: &[u8],
-    size: usize,
-    unit: usize,
-) -> Result<Vec<u8>, AllocError>
+fn copy_unit(alloc: Global, bytes: &[u8], size: usize, unit: usize) -> Result<Vec<u8>, AllocError>
     requires { size * unit + size ≤ length bytes.now }
     ensures { IfOk result (λ plain. plain.items ≡ slice_range bytes.now (size * unit) (size * unit + size)) }
 {

@@ -45,8 +45,12 @@ carry_section_out-requires c =
           (subst (IsSection (keys_of c.args.direct.now.script)) (sym c.as_slice.ensures)
           (all_read (IsSection (keys_of c.args.direct.now.script)) c.args.sections.now c.loop-thread.thread section all c.loop-thread-test.true c.index-sections-thread.is));
       few = omega (arith, ap length c.as_slice.ensures);
-      spare = omega (arith, ap unit_count_of_section c.as_slice.ensures, left_next c.loop-thread.direct.left c.args.direct.now.left c.args.sections.now c.loop-thread.thread section c.loop-thread-test.true c.index-sections-thread.is
-          c.requires.spare c.loop-thread.invariant.left);
+      spare = omega (
+        arith,
+        ap unit_count_of_section c.as_slice.ensures,
+        left_next c.loop-thread.direct.left c.args.direct.now.left c.args.sections.now c.loop-thread.thread section c.loop-thread-test.true c.index-sections-thread.is
+            c.requires.spare c.loop-thread.invariant.left,
+      );
     }
 
 pub overflow_cast-thread : goal.overflow_cast-thread
