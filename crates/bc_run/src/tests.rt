@@ -1,8 +1,7 @@
-ghost use Rattle.std.specs.Prelude.{length, ◌^◌, ◌<◌};
+ghost use Rattle.std.specs.Prelude.{◌<◌};
 
 use super::*;
-use bc_base::{Items, MemSink, MemSource};
-use bc_bio::{BioError, Refusal};
+use bc_base::{MemSink, MemSource};
 use bc_key::KeyError;
 use bc_script::{ScriptError, ScriptWhy};
 use std::alloc::Global;
@@ -48,56 +47,6 @@ fn status_of(
 /// A sink with room for any report of these tests.
 fn sink(alloc: Global) -> Result<MemSink, Fail> {
     Ok(MemSink::new(alloc, 4096, 10, Vec::new(alloc))?)
-}
-
-// ---- the text of a report
-
-fn line(thread: u16, op: u32, unit: u32, via: Via) -> Line {
-    let name = UnitName { thread, op, unit };
-    Line { name, via }
-}
-
-/// A report of two threads, the second without an operation, and two shards, the second without an entry.
-fn report(alloc: Global, answers: Vec<Answer>, entries: Vec<Line>) -> Result<Report, Fail>
-    requires { length entries.items < 2 ^ 32 }
-{
-    let threads = vec![in alloc; Items::from_vec(answers), Items::new(alloc)]?;
-    let shards = vec![in alloc; Items::from_vec(entries), Items::new(alloc)]?;
-    Ok(Report::new(Items::from_vec(threads), Items::from_vec(shards)))
-}
-
-#[test]
-fn a_report_with_each_answer_is_printed(rt: HostRuntime) -> Result<(), Fail> {
-    let alloc = rt.alloc();
-    let mut digest = [0u8; 32];
-    for (i, byte) in digest.iter_mut().enumerate() {
-        *byte = i as u8;
-    }
-    let answers = vec![in alloc;
-        Answer::Wrote,
-        Answer::ReadFill(10),
-        Answer::ReadSum(digest),
-        Answer::Fault(3),
-        Answer::Refused(Refusal::Bio(BioError::Empty)),
-        Answer::Refused(Refusal::Bio(BioError::Misaligned)),
-        Answer::Refused(Refusal::Bio(BioError::Outside)),
-        Answer::Refused(Refusal::Bio(BioError::DunRange)),
-        Answer::Refused(Refusal::Unsupported),
-        Answer::Evicted,
-        Answer::Reset,
-        Answer::Plug,
-        Answer::Unplug,
-    ]?;
-    let entries = vec![in alloc; line(0, 0, 0, Via::Plain), line(15, 65535, 255, Via::Soft)]?;
-    assert_eq!(rt; entries.len(), 2);
-    let text = print(alloc, &report(alloc, answers, entries)?)?;
-    let wanted = b"report 1\nthread 0\ndone\ndone fill 0a\n\
-        done sha256 000102030405060708090a0b0c0d0e0f101112131415161718191a1b1c1d1e1f\n\
-        fault 3\nrefused empty\nrefused misaligned\nrefused outside\nrefused dun\nrefused unsupported\n\
-        evicted\nreset\nplug\nunplug\n\
-        thread 1\nshard 0 2\n0 0 0 plain\n15 65535 255 soft\nshard 1 0\nend\n";
-    assert_eq!(rt; text.as_slice(), wanted.as_slice());
-    Ok(())
 }
 
 // ---- the statuses

@@ -4,7 +4,7 @@
 ghost use Rattle.std.specs.Prelude.{◌≤◌};
 
 use super::*;
-use crate::report_text::print;
+use bc_report::print;
 use bc_script::parse;
 use sha2::{Digest, Sha256};
 use std::test::Fail;
@@ -261,5 +261,78 @@ fn what_submits_no_bio_is_answered_by_its_name(rt: HostRuntime) -> Result<(), Fa
     let wanted =
         b"report 1\nthread 0\nplug\nrefused empty\ndone\nunplug\nevicted\ndone fill 01\nshard 0 2\n0 2 0 soft\n0 5 0 soft\nend\n";
     assert_eq!(rt; report.as_slice(), wanted.as_slice());
+    Ok(())
+}
+
+// ---- planned faults
+
+// The first unit of the second bio fails: its second unit isn't attempted, and the other bios of the plug go on.
+#[test]
+fn a_fault_in_a_plug_ends_its_own_bio_alone(rt: HostRuntime) -> Result<(), Fail> {
+    let report = report_of(
+        rt.alloc(),
+        b"blkcrypt 1\ndisk 1\nfallback on\n\
+        key a aes-256-xts 512 8 000102030405060708090a0b0c0d0e0f101112131415161718191a1b1c1d1e1f202122232425262728292a2b2c2d2e2f303132333435363738393a3b3c3d3e3f\n\
+        fault 0 2\nthread\nplug\nwrite a 0 2 0 fill 11\nwrite a 2 2 2 fill 22\nwrite a 4 1 4 fill 33\nunplug\n\
+        read - 2 1 -\nread a 4 1 4\nend\n",
+    )?;
+    let wanted =
+        b"report 1\nthread 0\nplug\ndone\nfault 0\ndone\nunplug\ndone fill 00\ndone fill 33\nshard 0 6\n\
+        0 1 0 soft\n0 1 1 soft\n0 2 0 soft\n0 3 0 soft\n0 5 0 plain\n0 6 0 soft\nend\n";
+    assert_eq!(rt; report.as_slice(), wanted.as_slice());
+    Ok(())
+}
+
+// Four blocks that are written in turn on three shards, and faults on the first, a middle and the last unit of a bio, on
+// a read, on two shards of one bio, at a place that isn't reached and on a shard that isn't there.
+#[test]
+fn faults_meet_their_own_shard_and_place(rt: HostRuntime) -> Result<(), Fail> {
+    let cases: [(&[u8], u16, &[u8]); 6] = [
+        (
+            b"blkcrypt 1\ndisk 4\nfallback on\nthread\nwrite - 0 1 - fill 01\nwrite - 8 1 - fill 02\n\
+            write - 16 1 - fill 03\nwrite - 24 1 - fill 04\nend\n",
+            3,
+            b"report 1\nthread 0\ndone\ndone\ndone\ndone\nshard 0 2\n0 0 0 plain\n0 3 0 plain\n\
+            shard 1 1\n0 1 0 plain\nshard 2 1\n0 2 0 plain\nend\n",
+        ),
+        (
+            b"blkcrypt 1\ndisk 1\nfallback on\nfault 0 0\nthread\nwrite - 0 3 - fill 01\nread - 0 3 -\nend\n",
+            1,
+            b"report 1\nthread 0\nfault 0\ndone fill 00\nshard 0 4\n0 0 0 plain\n\
+            0 1 0 plain\n0 1 1 plain\n0 1 2 plain\nend\n",
+        ),
+        (
+            b"blkcrypt 1\ndisk 1\nfallback on\nfault 0 2\nfault 0 5\nthread\nwrite - 0 3 - fill 01\nread - 0 2 -\n\
+            read - 2 1 -\nend\n",
+            1,
+            b"report 1\nthread 0\nfault 2\ndone fill 01\nfault 0\nshard 0 6\n0 0 0 plain\n0 0 1 plain\n0 0 2 plain\n\
+            0 1 0 plain\n0 1 1 plain\n0 2 0 plain\nend\n",
+        ),
+        (
+            b"blkcrypt 1\ndisk 1\nfallback on\nfault 0 1\nfault 0 5\nthread\nwrite - 0 3 - fill 01\nread - 0 3 -\n\
+            read - 0 1 -\nend\n",
+            1,
+            b"report 1\nthread 0\nfault 1\ndone sha256 \
+            0472fd63eaf46162bf4afc951c62ffce2a1fb2e0b08060b75e05148706bd94a1\nfault 0\nshard 0 6\n0 0 0 plain\n0 0 1 plain\n\
+            0 1 0 plain\n0 1 1 plain\n0 1 2 plain\n0 2 0 plain\nend\n",
+        ),
+        (
+            b"blkcrypt 1\ndisk 2\nfallback on\nfault 0 1\nfault 1 0\nthread\nwrite - 7 2 - fill 01\nread - 7 1 -\n\
+            read - 8 1 -\nend\n",
+            2,
+            b"report 1\nthread 0\nfault 1\nfault 0\ndone fill 00\nshard 0 2\n0 0 0 plain\n0 1 0 plain\n\
+            shard 1 2\n0 0 1 plain\n0 2 0 plain\nend\n",
+        ),
+        (
+            b"blkcrypt 1\ndisk 1\nfallback on\nfault 0 2\nfault 1 0\nfault 63 0\nthread\nwrite - 0 2 - fill 01\nend\n",
+            1,
+            b"report 1\nthread 0\ndone\nshard 0 2\n0 0 0 plain\n0 0 1 plain\nend\n",
+        ),
+    ];
+    for (text, shards, wanted) in cases {
+        assert!(rt; 1 <= shards && shards <= 64);
+        let finished = finished(rt.alloc(), text, shards)?;
+        assert_eq!(rt; print(rt.alloc(), &finished.report)?.as_slice(), wanted);
+    }
     Ok(())
 }
