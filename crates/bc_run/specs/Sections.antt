@@ -66,8 +66,10 @@ pub record SectionsDone (old now : DeviceData) (sections : List (List Op)) (answ
   pub each_seen : length seen ≡ length sections
   pub each_answered : length answers ≡ length sections
   pub each_done : (t : ℕ) → t < length sections
-      → SectionDone old.script old.shards old.base t (list_at sections t) (list_at seen t) (list_at answers t) (list_at made t)
+      → SectionDone old.script old.shards old.base t (list_at sections t) (list_at seen t) (list_at answers t)
+      (list_at made t)
   pub callers : EachFrom (λ t es. Each (λ e. caller_of e ≡ t) es) 0 made
-  pub fronts : (t shard : ℕ) → t < length sections → StartsWith (list_at now.seen shard) (list_at (list_at seen t) shard)
+  pub fronts : (t shard : ℕ) → t < length sections
+      → StartsWith (list_at now.seen shard) (list_at (list_at seen t) shard)
   pub orders : (shard : ℕ) → list_at now.seen shard ≡ flat_map (filter (lies_in old.shards shard)) made
   pub ranges : Each (Each IsAnswer) answers

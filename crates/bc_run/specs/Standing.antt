@@ -68,7 +68,8 @@ abbrev pub AllStand : Script → ℕ → List (ShardData RamData) → Type 0
 AllStand script left shards = (shard : ℕ) → AllAt shards shard (Stands script (length shards) left shard)
 
 -- a script is being carried out: with its keys' ciphers, over shards of its disk, each with room for so many entries more
-pub record IsCourse (script : Script) (keys : List KeyData) (shards : List (ShardData RamData)) (left : ℕ) : Type 0 where
+pub record IsCourse (script : Script) (keys : List KeyData) (shards : List (ShardData RamData)) (left : ℕ)
+    : Type 0 where
   pub rules : IsScript script
   pub keys_are : keys ≡ keys_of script
   pub some : 1 ≤ length shards

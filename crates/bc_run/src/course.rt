@@ -122,7 +122,8 @@ impl Course<'_> {
         requires spare { 1 ≤ self.old.left }
         ensures room { length room.new ≡ length room.old }
         ensures attempts { IfOk result (λ went. AttemptsUnit (device_of self.old) (device_of self.new)
-            (unit_at (keys_of self.old.script) op (Op.Write bio.now.context bio.now.sector bio.now.units text.now) bio.now unit)
+            (unit_at (keys_of self.old.script) op
+            (Op.Write bio.now.context bio.now.sector bio.now.units text.now) bio.now unit)
             (answer_of_write went)) }
     {
         bio_laws();

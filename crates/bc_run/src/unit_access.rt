@@ -31,7 +31,8 @@ pub(crate) fn write_unit(
     requires room { length place.old ≡ 512 * unit_sectors ciphers.now at.context }
     requires sectors { Own owns shards.old at.sector (unit_sectors ciphers.now at.context) }
     requires spare { HasSpare shards.old at.sector }
-    ensures { Attempted ciphers.now shards.old shards.new (entry_of_write at plain.items result) (answer_of_write result) }
+    ensures { Attempted ciphers.now shards.old shards.new (entry_of_write at plain.items result)
+        (answer_of_write result) }
 {
     place.copy_from_slice(&plain);
     ciphers.encipher(at.context, place);
