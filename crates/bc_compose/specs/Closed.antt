@@ -1,5 +1,5 @@
--- What shards tell when they are closed: one order for each, of which each thread has seen the front, and what each
--- order leaves.
+-- What shards and devices tell when they are closed: one order for each shard and one journal for each device, of which
+-- each thread has seen the front, and what each order leaves.
 use Rattle.std.specs.Prelude.{◌≡◌, ℕ, ◌<◌, List, [], map, length}
 use Rattle.bc_base.specs.Lists.{Each, At, list_at}
 use Rattle.bc_base.specs.Story.{IsFront}
@@ -7,8 +7,11 @@ use Rattle.bc_medium.specs.declared.entry.Entry.{Entry}
 use Rattle.bc_medium.specs.Places.{shard_of}
 use Rattle.bc_medium.specs.KeyedDisk.{Sectors, image_sectors, meets_fault}
 use Rattle.bc_medium.specs.Entries.{caller_of, left_by}
+use Rattle.bc_profile.specs.declared.noted.Noted.{Noted}
+use Rattle.bc_profile.specs.Story.{author_of, events_of}
 use Rattle.bc_script.specs.Script.{Script, keys_of}
 use Rattle.bc_report.specs.declared.line.Line.{Line}
+use Rattle.bc_report.specs.LawfulRun.{HaveLawfulJournals}
 use Rattle.bc_report.specs.Report.{Report}
 
 -- the orders of so many shards and callers: `seen` is what each caller has seen
@@ -34,7 +37,15 @@ pub record StoresClosed (script : Script) (shards : ℕ) (base : ℕ → Sectors
 abbrev pub line_of : Entry → Line
 line_of e = record { thread = e.at.caller; op = e.at.tag; unit = e.at.unit; via = e.via }
 
--- the report says these orders, and no device
-pub record IsReported (orders : List (List Entry)) (report : Report) : Type 0 where
+-- the journals of the script's devices: `noted` is what each caller has seen
+pub record DevicesClosed (script : Script) (callers : ℕ) (noted : ℕ → List (List Noted))
+    (journals : List (List Noted)) : Type 0 where
+  pub fronts : (caller device : ℕ) → caller < callers
+      → IsFront author_of caller (list_at (noted caller) device) (list_at journals device)
+  pub no_strangers : (device : ℕ) → Each (λ n. author_of n < callers) (list_at journals device)
+  pub lawful : HaveLawfulJournals script.targets (map events_of journals)
+
+-- the report says these orders and these journals
+pub record IsReported (orders : List (List Entry)) (journals : List (List Noted)) (report : Report) : Type 0 where
   pub shards : report.shards ≡ map (map line_of) orders
-  pub devices : report.devices ≡ []
+  pub devices : report.devices ≡ map events_of journals

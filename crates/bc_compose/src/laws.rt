@@ -1,10 +1,10 @@
 //! The laws of runs and their sections.
 
-ghost use Rattle.bc_compose.specs.Composed.{SectionsMakeALawfulRun, SectionsInTurnMakeASerialRun, SerialRunsAgree};
+ghost use Rattle.bc_compose.specs.Composed.{SectionsMakeALawfulRun, SectionsInTurnMakeASerialRun, SerialRunsHaveKnownHolders, SerialRunsAgree};
 
 use bc_bio::bio_laws;
 
-/// Does nothing, and states that sections that are done make a lawful run. A caller's proof cites it from this call.
+/// Does nothing, and states that sections that are done make a run that is lawful but for who held a slot. A caller's proof cites it from this call.
 pub fn sections_make_a_lawful_run()
     ensures { SectionsMakeALawfulRun }
 {
@@ -15,6 +15,14 @@ pub fn sections_make_a_lawful_run()
 /// it from this call.
 pub fn sections_in_turn_make_a_serial_run()
     ensures { SectionsInTurnMakeASerialRun }
+{
+    bio_laws();
+}
+
+/// Does nothing, and states that in a serial run it is known who held each slot: none is found held, and all are idle at the
+/// end. A caller's proof cites it from this call.
+pub fn serial_runs_have_known_holders()
+    ensures { SerialRunsHaveKnownHolders }
 {
     bio_laws();
 }

@@ -7,6 +7,9 @@ pub mod Progress
 pub mod RunOf
 pub mod Answers
 pub mod Evictions
+pub mod Programmings
+pub mod Holders
+pub mod Counts
 pub mod Ways
 pub mod LawfulRun
 pub mod SerialRun

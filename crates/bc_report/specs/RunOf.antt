@@ -1,8 +1,8 @@
 -- The run of the keyed disk that a report is of: the script's plan and faults, from an image, along the orders that the
 -- report lists.
-use Rattle.std.specs.Prelude.{ℕ, List, map}
+use Rattle.std.specs.Prelude.{ℕ, List, map, Option, option_map, option_and_then}
 use Rattle.bc_medium.specs.declared.unit_name.UnitName.{UnitName}
-use Rattle.bc_medium.specs.Outcome.{Run}
+use Rattle.bc_medium.specs.Outcome.{Run, unit_named}
 use Rattle.bc_script.specs.Script.{Script, keys_of}
 use Rattle.bc_script.specs.Plan.{plan_of}
 use Rattle.bc_report.specs.declared.line.Line.{Line}
@@ -26,3 +26,7 @@ run_of script image report =
       faults = script.faults;
       orders = orders_of report;
     }
+
+-- the key of a unit of the plan, by number, if the unit has a context
+abbrev pub own_key : Run → UnitName → Option ℕ
+own_key run name = option_and_then (λ u. option_map (λ context. context.key.0) u.context) (unit_named run name)

@@ -243,7 +243,7 @@ module _ (p : Progress) (is : IsProgress p) (rest : TextLine) (last : Option Sor
 
 -- what has been read when the last line has been read
 abbrev pub script_read : Progress → Script
-script_read p = record { blocks = p.blocks; fallback = true; keys = p.keys; faults = p.faults; threads = p.threads }
+script_read p = record { blocks = p.blocks; fallback = true; targets = []; keys = p.keys; faults = p.faults; threads = p.threads }
 
 module _ (p : Progress) (is : IsProgress p) (last : p.last ≡ Some sorts.End) where
   all_sections : sections_read p ≡ p.threads
@@ -255,6 +255,7 @@ module _ (p : Progress) (is : IsProgress p) (last : p.last ≡ Some sorts.End) w
       record {
         blocks = at.0;
         fallback = refl;
+        targets = refl;
         keys = is.keys;
         faults = is.faults;
         threads = record {

@@ -131,7 +131,8 @@ begins_no_other a b c p q e =
     let others : AllByRecursion (IsSection (bare_keys a.keys)) b.threads = subst (λ (ks : List NamedKey). AllByRecursion (IsSection (bare_keys ks)) b.threads) (sym keys.0) q.threads.each in
     let threads = begins_no_other_sections a.keys p.keys a.threads b.threads c p.threads.each others (faults.1 ∙ ap (λ (ks : List NamedKey). sections_and_end ks b.threads []) (sym keys.0)) in
     let fallback = p.fallback ∙ sym q.fallback in
-    (λ i. record { blocks = head.0 i; fallback = fallback i; keys = keys.0 i; faults = faults.0 i; threads = threads.0 i }, threads.1)
+    let targets = p.targets ∙ sym q.targets in
+    (λ i. record { blocks = head.0 i; fallback = fallback i; targets = targets i; keys = keys.0 i; faults = faults.0 i; threads = threads.0 i }, threads.1)
 
 pub no_text_begins_another : (a b : Script) (more : List ℕ) → IsScript a → IsScript b → script_text a ++ more ≡ script_text b → (a ≡ b) × (more ≡ [])
 no_text_begins_another a b more p q e =

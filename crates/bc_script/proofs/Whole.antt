@@ -79,7 +79,7 @@ all_taken p (line ∷ lines) is pass =
 
 -- the script whose last line has been read
 abbrev pub script_read : Progress → Script
-script_read p = record { blocks = p.blocks; fallback = true; keys = p.keys; faults = p.faults; threads = p.threads }
+script_read p = record { blocks = p.blocks; fallback = true; targets = []; keys = p.keys; faults = p.faults; threads = p.threads }
 
 at_the_end : (p : Progress) → IsProgress p → p.last ≡ Some sorts.End → (IsScript (script_read p)) × (script_lines (script_read p) ≡ lines_read p)
 at_the_end p is last =
@@ -90,6 +90,7 @@ at_the_end p is last =
     let valid : IsScript (script_read p) = record {
       blocks = ended.at.0;
       fallback = refl;
+      targets = refl;
       keys = is.keys;
       faults = is.faults;
       threads = record {

@@ -1,11 +1,15 @@
--- The bios of a script's operations, and why one is refused. A bio that is held back by a plug is submitted at once for now.
-use Rattle.std.specs.Prelude.{Option, Some, None}
-use Rattle.std.specs.Option.{option_map}
+-- The bios of a script's operations, and why one is refused.
+use Rattle.std.specs.Prelude.{Bool, true, false, ◌||◌, Option, Some, None, if◌then◌else◌}
+use Rattle.std.specs.Option.{option_map_or}
+use Rattle.bc_key.specs.declared.keys.KeyNo.{KeyNo}
+use Rattle.bc_key.specs.KeyList.{key_at}
 use Rattle.bc_bio.specs.declared.access.Access.TheVariants as access
+use Rattle.bc_bio.specs.declared.context.Context.{Context}
 use Rattle.bc_bio.specs.declared.refusal.Refusal.{Refusal}
 use Rattle.bc_bio.specs.declared.refusal.Refusal.TheVariants as refusals
 use Rattle.bc_bio.specs.declared.extent.Extent.{Extent}
 use Rattle.bc_bio.specs.Check.{check_of}
+use Rattle.bc_stack.specs.Devices.{all_support}
 use Rattle.bc_script.specs.declared.op.Op.{Op}
 use Rattle.bc_script.specs.declared.op.Op.TheVariants as ops
 use Rattle.bc_script.specs.Script.{Script, keys_of, sectors_in}
@@ -18,6 +22,22 @@ bio_of (ops.Read context sector units) =
     Some (record { access = access.Read; context = context; sector = sector; units = units })
 bio_of _ = None
 
--- why a bio is refused, if it is: it isn't well formed
+-- a key is inline where there are devices, and all of them support its configuration
+abbrev pub is_inline : Script → KeyNo → Bool
+is_inline script number =
+    option_map_or (λ key. all_support script.targets key.config) (key_at (keys_of script) number) false
+
+-- a bio is supported that has no context, or whose key is inline, or goes to the fallback
+abbrev pub is_supported : Script → Option Context → Bool
+is_supported script None = true
+is_supported script (Some context) = is_inline script context.key || script.fallback
+
+-- a bio that isn't supported is refused as such
+abbrev pub unsupported_of : Script → Option Context → Option Refusal
+unsupported_of script context = if is_supported script context then None else Some refusals.Unsupported
+
+-- why a bio is refused, if it is: it isn't well formed, and else it isn't supported
 abbrev pub refusal_of : Script → Extent → Option Refusal
-refusal_of script bio = option_map (λ error. refusals.Bio error) (check_of (keys_of script) (sectors_in script) bio)
+refusal_of script bio =
+    option_map_or (λ error. Some (refusals.Bio error)) (check_of (keys_of script) (sectors_in script) bio)
+    (unsupported_of script bio.context)

@@ -3,6 +3,7 @@ pub mod Script
 pub mod Bios
 pub mod Plan
 pub mod Way
+pub mod Windows
 pub mod ScriptText
 pub mod Forms
 pub mod Order

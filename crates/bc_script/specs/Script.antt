@@ -1,4 +1,4 @@
--- What a script says: a disk, its keys, and for each thread the section of its operations; and the rules that each
+-- What a script says: a disk, its devices and keys, and for each thread the section of its operations; and the rules that each
 -- script keeps.
 use Rattle.std.specs.Prelude.{◌≡◌, ◌≢◌, ℕ, ◌*◌, ◌^◌, ◌<◌, ◌≤◌, ◌&&◌, ◌||◌, nat_lt, nat_eq, Bool, true, false, if◌then◌else◌, IsTrue, List, [], ◌∷◌, length, map, sum_by, AllPairs, Option, Some, None, ⊤}
 use Rattle.std.specs.List.{AllByRecursion}
@@ -6,6 +6,7 @@ use Rattle.hex.specs.Hex.{IsBytes}
 use Rattle.bc_key.specs.KeyData.{KeyData, IsValid}
 use Rattle.bc_bio.specs.declared.context.Context.{Context}
 use Rattle.bc_bio.specs.Extent.{unit_sectors}
+use Rattle.bc_stack.specs.declared.target.Target.{Target}
 use Rattle.bc_script.specs.declared.limits.TheConstants as limits
 use Rattle.bc_script.specs.declared.named_key.NamedKey.{NamedKey}
 use Rattle.bc_script.specs.declared.op.Op.{Op}
@@ -14,11 +15,12 @@ use Rattle.bc_script.specs.declared.op.Text.{Text}
 use Rattle.bc_script.specs.declared.op.Text.TheVariants.{Fill, Bytes}
 use Rattle.bc_script.specs.Name.{is_name}
 
--- A script as contracts see it: how many blocks of 4096 bytes its disk has, whether software does what no device can, its
--- keys, the faults that are planned (each by a shard and a place in its order), and its sections.
+-- A script as contracts see it: how many blocks of 4096 bytes its disk has, whether software does what no device can,
+-- its devices, its keys, the faults that are planned (each by a shard and a place in its order), and its sections.
 pub record Script : Type 0 where
   pub blocks : ℕ
   pub fallback : Bool
+  pub targets : List Target
   pub keys : List NamedKey
   pub faults : List (ℕ × ℕ)
   pub threads : List (List Op)
@@ -175,10 +177,12 @@ pub record AreSections (keys : List KeyData) (threads : List (List Op)) : Type 0
   pub few_ops : sum_by length threads ≤ max_ops
   pub few_units : sum_by unit_count_of_section threads ≤ max_units
 
--- What holds of every script. Software does what no device can, as long as the other line isn't built.
+-- What holds of every script. Software does what no device can, and there are no devices, as long as the other lines aren't
+-- built.
 pub record IsScript (script : Script) : Type 0 where
   pub blocks : IsDiskSize script.blocks
   pub fallback : script.fallback ≡ true
+  pub targets : script.targets ≡ []
   pub keys : AreKeys script.keys
   pub faults : AreFaults script.faults
   pub threads : AreSections (keys_of script) script.threads

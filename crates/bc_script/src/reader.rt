@@ -229,7 +229,7 @@ impl Reader {
     }
 
     /// The script, whose last line has been read, and which has nothing after it but this.
-    pub(crate) fn finish(self, rest: Parts) -> Result<Script, ParseError>
+    pub(crate) fn finish(self, alloc: Global, rest: Parts) -> Result<Script, ParseError>
         ensures ok { IfOk result (IsWhole self rest.entry) }
         ensures bad { IfErr result (ReportsNext self (error_at_end (forms_read self) rest.entry)) }
     {
@@ -239,11 +239,11 @@ impl Reader {
                 why: ScriptWhy::End,
             }));
         }
-        Ok(self.into_script())
+        Ok(self.into_script(alloc))
     }
 
     /// The script whose last line has been read.
-    fn into_script(self) -> Script
+    fn into_script(self, alloc: Global) -> Script
         requires { self.last ≡ Some sorts.End }
         ensures valid { IsScript result }
         ensures lines { script_lines result ≡ lines_read self }
@@ -257,6 +257,7 @@ impl Reader {
         } = self;
         Script::new(
             blocks,
+            Items::new(alloc),
             keys.into_items(),
             Items::from_vec(faults),
             Items::from_vec(threads),

@@ -5,6 +5,7 @@ ghost use Rattle.std.specs.Prelude.{◌≡◌, true};
 use crate::named_key::NamedKey;
 use crate::op::Op;
 use bc_base::Items;
+use bc_stack::Target;
 use std::marker::Model;
 
 /// A script: a disk, its keys, the faults that are planned, and for each thread the section of its operations. It keeps
@@ -13,6 +14,7 @@ use std::marker::Model;
 pub struct Script {
     blocks: u32,
     fallback: bool,
+    targets: Items<Target>,
     keys: Items<NamedKey>,
     faults: Items<(u16, u32)>,
     threads: Items<Items<Op>>,
@@ -24,10 +26,10 @@ impl Model for Script {
     ghost Value = { specs.Script };
 
     ghost view = { λ s. record
-        { blocks = s.blocks; fallback = s.fallback; keys = s.keys; faults = s.faults; threads = s.threads } };
+        { blocks = s.blocks; fallback = s.fallback; targets = s.targets; keys = s.keys; faults = s.faults; threads = s.threads } };
 
     ghost invariant = { λ s. specs.IsScript (record
-        { blocks = s.blocks; fallback = s.fallback; keys = s.keys; faults = s.faults; threads = s.threads }) };
+        { blocks = s.blocks; fallback = s.fallback; targets = s.targets; keys = s.keys; faults = s.faults; threads = s.threads }) };
 }
 
 impl Script {
@@ -36,18 +38,20 @@ impl Script {
     /// A script that keeps the rules.
     pub(crate) fn new(
         blocks: u32,
+        targets: Items<Target>,
         keys: Items<NamedKey>,
         faults: Items<(u16, u32)>,
         threads: Items<Items<Op>>,
     ) -> Script
         requires { specs.IsScript
-            (record { blocks = blocks; fallback = true; keys = keys; faults = faults; threads = threads }) }
+            (record { blocks = blocks; fallback = true; targets = targets; keys = keys; faults = faults; threads = threads }) }
         ensures { result
-            ≡ record { blocks = blocks; fallback = true; keys = keys; faults = faults; threads = threads } }
+            ≡ record { blocks = blocks; fallback = true; targets = targets; keys = keys; faults = faults; threads = threads } }
     {
         Script {
             blocks,
             fallback: true,
+            targets,
             keys,
             faults,
             threads,
@@ -68,6 +72,14 @@ impl Script {
         ensures rules { specs.IsScript self.now }
     {
         self.fallback
+    }
+
+    /// The devices, in the order of their blocks. There are none as long as their lines aren't built.
+    pub fn targets(&self) -> &[Target]
+        ensures value { result.now ≡ self.now.targets }
+        ensures rules { specs.IsScript self.now }
+    {
+        self.targets.as_slice()
     }
 
     /// The keys, each with its name. A key's number is its place, from 0.

@@ -121,6 +121,7 @@ fn a_script_without_a_key_is_printed(rt: HostRuntime) -> Result<(), Fail> {
         Items::new(alloc),
         Items::new(alloc),
         Items::new(alloc),
+        Items::new(alloc),
     );
     let text = print(alloc, &script)?;
     assert_eq!(rt;
