@@ -1,5 +1,5 @@
 -- Evictions: what they are answered, and how many events they make on each device.
-use Rattle.std.specs.Prelude.{ℕ, ◌+◌, ◌<◌, ◌≤◌, Bool, false, ◌&&◌, ◌||◌, ◌==◌, nat_lt, List, [], flat_map, zip, count_by, length, All, Option, Some, None, slice_index_or, IsTrue, ⊤, ⊥}
+use Rattle.std.specs.Prelude.{ℕ, ◌+◌, ◌<◌, ◌≤◌, Bool, false, ◌&&◌, ◌||◌, ◌==◌, nat_lt, List, [], flat_map, zip, count_by, length, All, Option, Some, None, slice_index_or, IsTrue, ⊤}
 use Rattle.std.specs.List.{enumerate_from, filter_map}
 use Rattle.bc_profile.specs.declared.event.Event.{Event}
 use Rattle.bc_profile.specs.declared.event.Event.TheVariants as events

@@ -1,6 +1,6 @@
 -- Programmings: an inline entry names an event that programs its slot with its own key, and later entries of a thread
 -- name no earlier event.
-use Rattle.std.specs.Prelude.{◌≡◌, ℕ, ◌<◌, ◌≤◌, Bool, true, false, ◌&&◌, ◌==◌, nat_lt, List, [], flat_map, filter_map, find, All, AllPairs, Option, Some, None, IsTrue, IsSomeAnd, option_map, option_and_then, slice_get, slice_index_or, ⊤, ⊥}
+use Rattle.std.specs.Prelude.{◌≡◌, ℕ, ◌<◌, ◌≤◌, Bool, true, false, ◌&&◌, ◌==◌, nat_lt, List, [], flat_map, filter_map, find, All, AllPairs, Option, Some, None, IsTrue, IsSomeAnd, option_map, option_and_then, slice_get, slice_index_or, ⊤}
 use Rattle.std.specs.List.{list_any, enumerate_from}
 use Rattle.bc_bio.specs.declared.context.Context.{Context}
 use Rattle.bc_bio.specs.PlannedUnit.{PlannedUnit}
