@@ -1,4 +1,6 @@
 mod Lists
+mod Flat
+mod Sums
 mod Names
 mod Distinct
 mod Units
@@ -8,5 +10,6 @@ mod Along
 mod Orders
 mod Answered
 mod Whole
+mod InTurn
 mod OneOrder
 mod OneReport
