@@ -1,5 +1,6 @@
 mod Lists
 mod Names
+mod Holders
 mod Distinct
 mod Units
 mod Placed
