@@ -1,4 +1,6 @@
 mod Lists
+mod Flat
+mod Sums
 mod Names
 mod Holders
 mod Distinct
@@ -9,5 +11,6 @@ mod Along
 mod Orders
 mod Answered
 mod Whole
+mod InTurn
 mod OneOrder
 mod OneReport
