@@ -1,6 +1,6 @@
 -- The journal of one caller's uses: no slot is found with references, and at the end every slot is idle.
-use Rattle.std.proofs.Common.{◌≡◌, ◌≢◌, ℕ, zero, suc, ◌+◌, ◌<◌, ◌≤◌, Bool, true, false, cond, List, [], ◌∷◌, ◌++◌, length, map, refl, sym, ap, subst, ◌∙◌, Option, Some, None, arith}
-use Rattle.std.specs.Prelude.{◌==◌, ◌||◌, ◌&&◌, not, is_some, unwrap_or, slice_set}
+use Rattle.std.proofs.Common.{◌≡◌, ◌≢◌, ℕ, zero, suc, ◌+◌, ◌<◌, ◌≤◌, Bool, true, false, cond, List, [], ◌∷◌, ◌++◌, map, refl, sym, ap, subst, ◌∙◌, Option, Some, None, arith}
+use Rattle.std.specs.Prelude.{◌==◌, ◌||◌, ◌&&◌, not, is_some, unwrap_or}
 use Rattle.std.specs.List.{AllZip, enumerate_from, list_all, list_any, range_with_len}
 use Rattle.std.specs.Option.{option_map_or}
 use Rattle.std.proofs.Math.Logic.{⊎_elim}
@@ -17,8 +17,8 @@ use Rattle.bc_profile.specs.SlotJournal.{Slots, opening, without, is_listed, aft
 use Rattle.bc_profile.specs.OneCaller.{slot_with, slot_for, first_idle, events_of_hold, events_of_eviction, events_of_use, journal_of}
 use Rattle.bc_script.specs.Script.{Script}
 use Rattle.bc_report.specs.Holders.{HasHolders, HaveHolders}
-use Rattle.bc_report.specs.LawfulRun.{EndIdle, HoldersAreKnown}
-use Rattle.bc_report.specs.SerialRun.{serial_journal, uses_of, IsSerial}
+use Rattle.bc_report.specs.LawfulRun.{EndIdle}
+use Rattle.bc_report.specs.SerialRun.{serial_journal, uses_of}
 use Rattle.bc_compose.specs.Composed.{SerialRunsHaveKnownHolders}
 
 -- ---- events one after the other
