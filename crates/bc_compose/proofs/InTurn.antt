@@ -74,12 +74,12 @@ module _ (sizes : UnitsHaveSizes) (blocks : UnitsLieInBlocks) (unrefused : Unref
 
     pub orders_in_turn : orders_of report ≡ map (serial_order script report) (range_with_len 0 (length report.shards))
     orders_in_turn =
-          orders_are sizes blocks unrefused script image shards report left made orders journals done
-          ∙ lists_from_each (serial_order script report) (map (map name_of_entry) orders) 0 (λ i s e lt.
-          let same : i ≡ s = omega arith in
-          subst (λ n. list_at (map (map name_of_entry) orders) n ≡ serial_order script report s) (sym same)
-          (order_is s (let l = length-map orders (map name_of_entry) in let o = done.shards_closed.one_for_each in omega (arith, same))))
-          ∙ ap (λ (n : ℕ). map (serial_order script report) (range_with_len 0 n)) (length-map orders (map name_of_entry) ∙ done.shards_closed.one_for_each ∙ sym count)
+        orders_are sizes blocks unrefused script image shards report left made orders journals done
+        ∙ lists_from_each (serial_order script report) (map (map name_of_entry) orders) 0 (λ i s e lt.
+        let same : i ≡ s = omega arith in
+        subst (λ n. list_at (map (map name_of_entry) orders) n ≡ serial_order script report s) (sym same)
+        (order_is s (let l = length-map orders (map name_of_entry) in let o = done.shards_closed.one_for_each in omega (arith, same))))
+        ∙ ap (λ (n : ℕ). map (serial_order script report) (range_with_len 0 n)) (length-map orders (map name_of_entry) ∙ done.shards_closed.one_for_each ∙ sym count)
       where
         lists_from_each : (F : ℕ → List UnitName) (xss : List (List UnitName)) (first : ℕ) → ((i s : ℕ) → first + i ≡ s → i < length xss → list_at xss i ≡ F s)
             → xss ≡ map F (range_with_len first (length xss))

@@ -2,6 +2,7 @@ mod Lists
 mod Flat
 mod Sums
 mod Names
+mod Holders
 mod Distinct
 mod Units
 mod Placed
