@@ -151,6 +151,7 @@ module _ (sizes : UnitsHaveSizes) (blocks : UnitsLieInBlocks) (unrefused : Unref
       first_made u us (e ∷ es) here made' later all =
           ap (λ (o : Option _). cons_option o (filter_map (entry_of report t) us)) (entry_is t u e all.0 (via_is t u e there here all.0 (made' e (inl refl))))
           ∙ ap (cons_option (inline_of e)) (later es (λ x at'. made' x (inr at')) all.1)
+
       go : (us : List PlannedUnit) (es : List Entry) → ((u : PlannedUnit) → In u us → In u (list_at plan t)) → ((e : Entry) → In e es → In e (made t))
           → AllZip (IsEntryOf t) (filter (λ u. is_attempted (failed_names (made t)) (name_of t u)) us) es → filter_map (entry_of report t) us ≡ filter_map inline_of es
       go [] [] planned' made' all = refl
@@ -175,6 +176,7 @@ module _ (sizes : UnitsHaveSizes) (blocks : UnitsLieInBlocks) (unrefused : Unref
       one_thread (op, (ops.Reset d, answer)) f is = absurd (none-some f is)
       one_thread (op, (ops.Plug, answer)) f is = absurd (none-some f is)
       one_thread (op, (ops.Unplug, answer)) f is = absurd (none-some f is)
+
       go : (xs : List (ℕ × (Op × Answer))) → In e (filter_map (eviction_in t) xs) → e.thread ≡ t
       go xs h = let r = in_of_filter_map (eviction_in t) xs e h in one_thread r.0 e r.2
 
@@ -196,6 +198,7 @@ module _ (sizes : UnitsHaveSizes) (blocks : UnitsLieInBlocks) (unrefused : Unref
           (and_parts ((e.thread == t) && (e.key == first.key)) (nat_lt first.op e.op)
           (and_parts ((e.thread == t) && (e.key == first.key) && nat_lt first.op e.op) (nat_lt e.op second.op)
           (and_parts ((e.thread == t) && (e.key == first.key) && nat_lt first.op e.op && nat_lt e.op second.op) (passes first.device e.answer) is).0).0).0).0
+
       own_any : list_any (is_between t first second) (evictions_of script report) ≡ true → list_any (is_between t first second) (own_evictions sizes blocks unrefused script image shards report left made orders journals done t) ≡ true
       own_any any =
           let r = any_in (is_between t first second) (evictions_of script report) any in
