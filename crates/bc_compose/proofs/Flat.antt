@@ -1,11 +1,36 @@
--- What stands in the lists of a list, and in lists that are made from numbered ones.
-use Rattle.std.proofs.Common.{◌≡◌, ℕ, zero, suc, ◌+◌, ◌-◌, ◌<◌, ◌≤◌, List, [], ◌∷◌, length, refl, sym, ap, ◌∙◌, arith, Some}
+-- Lists that go beside one another; what stands in the lists of a list, and in lists that are made from numbered ones.
+use Rattle.std.proofs.Common.{◌≡◌, ℕ, zero, suc, ◌+◌, ◌-◌, ◌<◌, ◌≤◌, inl, inr, List, [], ◌∷◌, length, refl, sym, ap, ◌∙◌, arith, Some}
 use Rattle.std.specs.Prelude.{flat_map, slice_get, zip}
-use Rattle.std.specs.List.{enumerate_from}
+use Rattle.std.specs.List.{AllZip, enumerate_from}
 use Rattle.std.proofs.Math.Logic.{⊎_elim}
 use Rattle.std.proofs.lemmas.Option.{none-some, same_Some}
 use Rattle.bc_base.specs.Lists.{list_at}
 use Rattle.bc_compose.proofs.Lists.{In, in_append_left, in_append_right, in_append_cases}
+
+-- ---- lists that go beside one another
+
+pub zip_from_each : {X Y : Type 0} (R : ℕ × List X → List Y → Type 0) (first : ℕ) (xss : List (List X)) (yss : List (List Y)) → length yss ≡ length xss
+    → ((i t : ℕ) → first + i ≡ t → i < length xss → R (t, list_at xss i) (list_at yss i)) → AllZip R (enumerate_from first xss) yss
+zip_from_each R first [] [] same each = tt
+zip_from_each R first [] (ys ∷ yss) same each = absurd (omega arith)
+zip_from_each R first (xs ∷ xss) [] same each = absurd (omega arith)
+zip_from_each R first (xs ∷ xss) (ys ∷ yss) same each =
+    (each 0 first (omega arith) (omega arith), zip_from_each R (first + 1) xss yss (omega arith) (λ i t e lt. each (suc i) t (omega arith) (omega arith)))
+
+pub zip_weaker : {X Y : Type 0} (R S : X → Y → Type 0) (xs : List X) (ys : List Y) → ((x : X) (y : Y) → In x xs → R x y → S x y) → AllZip R xs ys → AllZip S xs ys
+zip_weaker R S [] [] f all = tt
+zip_weaker R S [] (y ∷ ys) f all = absurd all
+zip_weaker R S (x ∷ xs) [] f all = absurd all
+zip_weaker R S (x ∷ xs) (y ∷ ys) f all = (f x y (inl refl) all.0, zip_weaker R S xs ys (λ z w at'. f z w (inr at')) all.1)
+
+-- ---- lists of lists
+
+-- each list stands at a number
+pub stands_at : {X : Type 0} (xss : List (List X)) (xs : List X) → In xs xss → (s : ℕ) × (s < length xss) × (list_at xss s ≡ xs)
+stands_at [] xs at' = absurd at'
+stands_at (ys ∷ xss) xs at' =
+    ⊎_elim (λ (e : ys ≡ xs). (0, omega arith, e))
+    (λ (more : In xs xss). let r = stands_at xss xs more in let lt = r.1 in (suc r.0, omega arith, r.2)) at'
 
 pub in_flat : {X : Type 0} (xss : List (List X)) (s : ℕ) (x : X) → In x (list_at xss s) → In x (flat_map (λ xs. xs) xss)
 in_flat [] s x at' = absurd at'

@@ -11,6 +11,9 @@ mod Along
 mod Orders
 mod Answered
 mod Whole
+mod Counted
+mod Programmed
+mod Lawful
 mod InTurn
 mod OneOrder
 mod OneReport
