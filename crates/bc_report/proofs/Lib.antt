@@ -9,3 +9,7 @@ pub mod Parsed
 pub mod Same
 pub mod Nothing
 mod Examples
+mod Finite
+mod Journals
+mod Busy
+mod TwoDevices
