@@ -1,5 +1,8 @@
 mod Lists
+mod Flat
+mod Sums
 mod Names
+mod Holders
 mod Distinct
 mod Units
 mod Placed
@@ -8,5 +11,9 @@ mod Along
 mod Orders
 mod Answered
 mod Whole
+mod Counted
+mod Programmed
+mod Lawful
+mod InTurn
 mod OneOrder
 mod OneReport

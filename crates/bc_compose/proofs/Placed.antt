@@ -2,11 +2,13 @@
 use Rattle.std.proofs.Common.{◌≡◌, ℕ, zero, suc, ◌+◌, ◌%◌, ◌<◌, ◌≤◌, List, [], ◌∷◌, length, map, refl, sym, ap, subst, arith, Option, Some, None}
 use Rattle.std.specs.Prelude.{flat_map}
 use Rattle.std.specs.List.{enumerate_from, range_with_len, AllByRecursion}
-use Rattle.std.specs.Option.{option_map}
+use Rattle.std.specs.Option.{option_map_or}
 use Rattle.std.proofs.lemmas.Option.{none-some, same_Some}
 use Rattle.bc_base.specs.Lists.{list_at}
 use Rattle.bc_key.specs.KeyData.{KeyData}
 use Rattle.bc_bio.specs.declared.context.Context.{Context}
+use Rattle.bc_bio.specs.declared.refusal.BioError.{BioError}
+use Rattle.bc_bio.specs.declared.refusal.Refusal.{Refusal}
 use Rattle.bc_bio.specs.declared.refusal.Refusal.TheVariants as refusals
 use Rattle.bc_bio.specs.declared.extent.Extent.{Extent}
 use Rattle.bc_bio.specs.Extent.{unit_sectors, context_after}
@@ -18,14 +20,15 @@ use Rattle.bc_medium.specs.Places.{shard_of}
 use Rattle.bc_script.specs.declared.op.Op.{Op}
 use Rattle.bc_script.specs.declared.op.Op.TheVariants as ops
 use Rattle.bc_script.specs.Script.{Script, IsScript, IsContext, IsOp, IsSection, keys_of, sectors_in}
-use Rattle.bc_script.specs.Bios.{bio_of, refusal_of}
+use Rattle.bc_script.specs.Bios.{bio_of, unsupported_of, refusal_of}
 use Rattle.bc_script.specs.Plan.{unit_at, units_of, units_of_section}
 use Rattle.bc_compose.proofs.Lists.{In, all_at}
 use Rattle.bc_compose.proofs.Units.{all_append, by_bio}
 
-map_none : {A B : Type 0} (f : A → B) (o : Option A) → option_map f o ≡ None → o ≡ None
-map_none f None e = refl
-map_none f (Some x) e = absurd (none-some (f x) (sym e))
+-- a bio that isn't refused is well formed
+no_error : (o : Option BioError) (other : Option Refusal) → option_map_or (λ error. Some (refusals.Bio error)) o other ≡ None → o ≡ None
+no_error None other e = refl
+no_error (Some error) other e = absurd (none-some (refusals.Bio error) (sym e))
 
 has_key : (keys : List KeyData) (context : Option Context) → IsContext keys context → HasKey keys context
 has_key keys None rule = tt
@@ -67,7 +70,7 @@ module _ (sizes : UnitsHaveSizes) (blocks : UnitsLieInBlocks) (unrefused : Unref
   aligned operation bio rule is accepted =
       let most : script.blocks ≤ 16384 = rules.blocks.1 in
       (unrefused keys (sectors_in script) bio (key_of_bio keys operation bio rule is) (omega arith)
-      (map_none (λ error. refusals.Bio error) (check_of keys (sectors_in script) bio) accepted)).aligned
+      (no_error (check_of keys (sectors_in script) bio) (unsupported_of script bio.context) accepted)).aligned
 
   of_operation : (op : ℕ) (operation : Op) → IsOp keys operation → AllByRecursion LiesInOne (units_of script (op, operation))
   of_operation op operation rule =

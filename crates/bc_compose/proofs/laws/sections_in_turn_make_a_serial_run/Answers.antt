@@ -1,4 +1,4 @@
-use Rattle.bc_compose.proofs.Whole.{is_serial}
+use Rattle.bc_compose.proofs.InTurn.{is_serial}
 use Rattle.bc_compose.proofs.laws.sections_in_turn_make_a_serial_run.Goals as goal
 
 pub returns : goal.returns

@@ -1,4 +1,4 @@
-use Rattle.bc_compose.proofs.Whole.{lawful_run}
+use Rattle.bc_compose.proofs.Lawful.{lawful_run}
 use Rattle.bc_compose.proofs.laws.sections_make_a_lawful_run.Goals as goal
 
 pub returns : goal.returns
