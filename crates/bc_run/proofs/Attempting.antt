@@ -31,14 +31,13 @@ use Rattle.bc_script.specs.Plan.{unit_at, units_of, units_of_bio}
 use Rattle.bc_report.specs.declared.answer.Answer.{Answer}
 use Rattle.bc_report.specs.declared.answer.Answer.TheVariants as answers
 use Rattle.bc_report.specs.Answers.{answer_of_outcome, IsOwnWord}
-use Rattle.bc_report.specs.Evictions.{IsEvictionAnswer}
 use Rattle.bc_report.specs.Report.{IsAnswer}
 use Rattle.bc_compose.specs.SectionDone.{SaysItsWay, IsBioAnswer, IsReply}
 use Rattle.bc_run.specs.Sections.{DeviceData, Carries, CarriesOne, GoOnBy}
 use Rattle.bc_run.specs.Standing.{first_units, AttemptsUnit}
 use Rattle.bc_run.proofs.Lists.{In, in_of_map, all_append, all_from_in, all_at, zip_append, filter_all, filter_none, range_push, in_append_cases}
 use Rattle.bc_run.proofs.Growing.{begins_itself, goes_none, goes_append, grows_alone, made_by, named, by_thread, failed_append}
-use Rattle.bc_run.proofs.Carrying.{bio_answer_more}
+use Rattle.bc_run.proofs.Carrying.{bio_answer_more, bio_evicts_none}
 
 -- ---- numbers in a row
 
@@ -112,7 +111,7 @@ pub record SoFar (old now : DeviceData) (access : Access) (units : List PlannedU
   pub goes : GoOnBy old.shards old.seen now.seen made
   pub entries : AllZip (IsEntryOf old.thread) units made
   pub went : AllByRecursion (λ e. e.failed ≡ false) made
-  pub ways : AllByRecursion SaysItsWay made
+  pub ways : AllByRecursion (SaysItsWay old.script) made
   pub answer : IsBioAnswer old.script old.shards old.base old.thread now.seen access units outcome
 
 pub so_far_none : (d : DeviceData) (access : Access) (outcome : BioAnswer) → IsBioAnswer d.script d.shards d.base d.thread d.seen access [] outcome → SoFar d d access [] outcome
@@ -148,7 +147,7 @@ module _ (stays : KnownStays) (a : DeviceData) (seen seen' : List (List Entry)) 
     goes = goes_append a.shards a.thread a.seen seen seen' p.made (q.entry ∷ []) p.goes q.grows;
     entries = zip_append (IsEntryOf a.thread) us (u ∷ []) p.made (q.entry ∷ []) p.entries (q.is_its, tt);
     went = all_append (λ e. e.failed ≡ false) p.made (q.entry ∷ []) p.went (went, tt);
-    ways = all_append SaysItsWay p.made (q.entry ∷ []) p.ways (q.way, tt);
+    ways = all_append (SaysItsWay a.script) p.made (q.entry ∷ []) p.ways (q.way, tt);
     answer = is;
   }
 
@@ -179,7 +178,7 @@ module _ (stays : KnownStays) (a : DeviceData) (seen seen' : List (List Entry)) 
   -- one unit more, which met a fault: those behind it are passed over
   fault : (access : Access) (keys : List KeyData) (op : ℕ) (operation : Op) (bio : Extent) (i n : ℕ) (b : BioAnswer)
       → SoFar a mid access (first_units keys op operation bio i) b → AttemptsUnit mid end (unit_at keys op operation bio i) Faulted
-      → (es : List Entry) × GoOnBy a.shards a.seen seen' es × Attempts a.thread [] (first_units keys op operation bio (i + suc n)) es × AllByRecursion SaysItsWay es
+      → (es : List Entry) × GoOnBy a.shards a.seen seen' es × Attempts a.thread [] (first_units keys op operation bio (i + suc n)) es × AllByRecursion (SaysItsWay a.script) es
       × (a.spare ≤ spare' + (i + suc n))
   fault access keys op operation bio i n b p q =
       let u = unit_at keys op operation bio i in
@@ -200,7 +199,7 @@ module _ (stays : KnownStays) (a : DeviceData) (seen seen' : List (List Entry)) 
             (subst (λ m. AllZip (IsEntryOf a.thread) (attempted_by a.thread m (us ++ u ∷ vs)) (p.made ++ q.entry ∷ [])) (sym met)
             (subst (λ l. AllZip (IsEntryOf a.thread) l (p.made ++ q.entry ∷ [])) (sym tried)
             (zip_append (IsEntryOf a.thread) us (u ∷ []) p.made (q.entry ∷ []) p.entries (q.is_its, tt)))),
-        all_append SaysItsWay p.made (q.entry ∷ []) p.ways (q.way, tt),
+        all_append (SaysItsWay a.script) p.made (q.entry ∷ []) p.ways (q.way, tt),
         (let l = p.spare in let m = q.spare in omega (arith, count i)),
       )
     where
@@ -276,7 +275,7 @@ module _ (script : Script) (op : ℕ) (operation : Op) (bio : Extent) (is : bio_
       → IsBioAnswer script shards base thread seen bio.access (first_units (keys_of script) op operation bio bio.units) outcome → answer ≡ answer_of_outcome outcome
       → IsReply script shards base thread seen (op, operation) answer
   reply_is shards base thread seen outcome answer told same =
-      subst (λ (o : Option Extent). MatchOption o (IsOwnWord operation answer × IsEvictionAnswer operation answer)
+      subst (λ (o : Option Extent). MatchOption o (IsOwnWord operation answer)
       (λ b. MatchOption (refusal_of script b) ((outcome : BioAnswer) × IsBioAnswer script shards base thread seen b.access (units_of script (op, operation)) outcome × (answer ≡ answer_of_outcome outcome))
       (λ r. answer ≡ answers.Refused r))) (sym is)
       (subst (λ (o : Option Refusal). MatchOption o ((outcome : BioAnswer) × IsBioAnswer script shards base thread seen bio.access (units_of script (op, operation)) outcome × (answer ≡ answer_of_outcome outcome))
@@ -302,6 +301,7 @@ carries_bio a b op operation bio outcome answer is accepted count p same range =
       attempts = subst (λ l. Attempts a.thread [] l p.made) (sym (units_flat a.script op operation bio is accepted)) attempts;
       ways = p.ways;
       replies = (reply_is a.script op operation bio is accepted a.shards a.base a.thread b.seen outcome answer p.answer same, tt);
+      evictions = (bio_evicts_none a.script op operation bio answer is, tt);
       ranges = (range, tt);
     }
 
@@ -333,6 +333,7 @@ carries_fault stays a b c op operation bio i outcome is accepted count lt small 
             (i, u, place_in_units keys op operation bio i bio.units lt, refl, q'.known) refl,
         tt,
       );
+      evictions = (bio_evicts_none a.script op operation bio (answers.Fault i) is, tt);
       ranges = (small, tt);
     })
   where

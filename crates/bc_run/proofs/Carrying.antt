@@ -30,10 +30,9 @@ use Rattle.bc_script.specs.Plan.{unit_at, units_of, units_of_bio}
 use Rattle.bc_report.specs.declared.answer.Answer.{Answer}
 use Rattle.bc_report.specs.declared.answer.Answer.TheVariants as answers
 use Rattle.bc_report.specs.Answers.{answer_of_outcome, IsOwnWord}
-use Rattle.bc_report.specs.Evictions.{IsEvictionAnswer}
 use Rattle.bc_report.specs.Report.{IsAnswer}
 use Rattle.bc_compose.specs.SectionDone.{SaysItsWay, IsBioAnswer, IsReply, SectionDone}
-use Rattle.bc_run.specs.Sections.{DeviceData, Carries, CarriesOne, units_in}
+use Rattle.bc_run.specs.Sections.{DeviceData, IsEvicted, Carries, CarriesOne, units_in}
 use Rattle.bc_run.proofs.Lists.{In, in_of_flat_map, in_of_map, in_append_cases, all_of, all_append, all_at, zip_append, zip_more, take_next, enumerate_push}
 use Rattle.bc_run.proofs.Growing.{grows_none, grows_append, goes_none, goes_append, attempts_append, attempts_fresh, failed_are}
 
@@ -105,7 +104,7 @@ module _ (stays : KnownStays) (script : Script) (shards : ℕ) (base : ℕ → S
 
   pub reply_more : (x : ℕ × Op) (answer : Answer) → IsReply script shards base thread old x answer → IsReply script shards base thread new x answer
   reply_more (op, operation) answer is =
-      by_bio (bio_of operation) (IsOwnWord operation answer × IsEvictionAnswer operation answer) (units_of script (op, operation)) answer is
+      by_bio (bio_of operation) (IsOwnWord operation answer) (units_of script (op, operation)) answer is
 
 -- ---- operations one after the other
 
@@ -119,6 +118,7 @@ carries_none d = record {
   attempts = tt;
   ways = tt;
   replies = tt;
+  evictions = tt;
   ranges = tt;
 }
 
@@ -146,10 +146,11 @@ module _ (stays : KnownStays) (a : DeviceData) (seen seen' : List (List Entry)) 
             (attempts_fresh a.thread (failed_names p.made) vs q.made
             (λ f v at at'. let r = failed_are a.thread [] us p.made p.attempts f at in
             ap (λ (n : UnitName). is_earlier n (name_of a.thread v)) r.2 ∙ not_earlier a.thread r.0 v (parted r.0 v r.1 at')) q.attempts));
-        ways = all_append SaysItsWay p.made q.made p.ways q.ways;
+        ways = all_append (SaysItsWay a.script) p.made q.made p.ways q.ways;
         replies = zip_append (IsReply a.script a.shards a.base a.thread seen') xs ys told told'
             (zip_more (IsReply a.script a.shards a.base a.thread seen) (IsReply a.script a.shards a.base a.thread seen') xs told
             (reply_more stays a.script a.shards a.base a.thread seen seen' q.grows.fronts) p.replies) q.replies;
+        evictions = zip_append (IsEvicted a.script) xs ys told told' p.evictions q.evictions;
         ranges = all_append IsAnswer told told' p.ranges q.ranges;
       }
 
@@ -166,8 +167,8 @@ carries_append stays a b c xs ys told told' other p q =
 
 -- an operation without units, which was answered without an access
 pub carries_quiet : (d : DeviceData) (op : ℕ) (operation : Op) (answer : Answer) → units_of d.script (op, operation) ≡ []
-    → IsReply d.script d.shards d.base d.thread d.seen (op, operation) answer → IsAnswer answer → CarriesOne d d (op, operation) answer
-carries_quiet d op operation answer none reply range = record {
+    → IsReply d.script d.shards d.base d.thread d.seen (op, operation) answer → IsEvicted d.script (op, operation) answer → IsAnswer answer → CarriesOne d d (op, operation) answer
+carries_quiet d op operation answer none reply evicted range = record {
   made = [];
   same = refl;
   spare = omega arith;
@@ -176,21 +177,31 @@ carries_quiet d op operation answer none reply range = record {
   attempts = subst (λ us. Attempts d.thread [] us []) (sym (append-nil (units_of d.script (op, operation)) ∙ none)) tt;
   ways = tt;
   replies = (reply, tt);
+  evictions = (evicted, tt);
   ranges = (range, tt);
 }
+
+-- a bio is no eviction
+pub bio_evicts_none : (script : Script) (op : ℕ) (operation : Op) (bio : Extent) (answer : Answer) → bio_of operation ≡ Some bio → IsEvicted script (op, operation) answer
+bio_evicts_none script op (ops.Write context sector units text) bio answer is = tt
+bio_evicts_none script op (ops.Read context sector units) bio answer is = tt
+bio_evicts_none script op (ops.Evict key) bio answer is = absurd (none-some bio is)
+bio_evicts_none script op (ops.Reset device) bio answer is = tt
+bio_evicts_none script op ops.Plug bio answer is = tt
+bio_evicts_none script op ops.Unplug bio answer is = tt
 
 -- a bio that is refused
 pub carries_refused : (d : DeviceData) (op : ℕ) (operation : Op) (bio : Extent) (refusal : Refusal) → bio_of operation ≡ Some bio
     → refusal_of d.script bio ≡ Some refusal → CarriesOne d d (op, operation) (answers.Refused refusal)
 carries_refused d op operation bio refusal is refused =
     carries_quiet d op operation (answers.Refused refusal) (none ∙ refused_units)
-    (subst (λ (o : Option Extent). MatchOption o (IsOwnWord operation (answers.Refused refusal) × IsEvictionAnswer operation (answers.Refused refusal))
+    (subst (λ (o : Option Extent). MatchOption o (IsOwnWord operation (answers.Refused refusal))
     (λ b. MatchOption (refusal_of d.script b)
     ((outcome : BioAnswer) × IsBioAnswer d.script d.shards d.base d.thread d.seen b.access (units_of d.script (op, operation)) outcome × (answers.Refused refusal ≡ answer_of_outcome outcome))
     (λ r. answers.Refused refusal ≡ answers.Refused r))) (sym is)
     (subst (λ (o : Option Refusal). MatchOption o
     ((outcome : BioAnswer) × IsBioAnswer d.script d.shards d.base d.thread d.seen bio.access (units_of d.script (op, operation)) outcome × (answers.Refused refusal ≡ answer_of_outcome outcome))
-    (λ r. answers.Refused refusal ≡ answers.Refused r)) (sym refused) refl)) tt
+    (λ r. answers.Refused refusal ≡ answers.Refused r)) (sym refused) refl)) (bio_evicts_none d.script op operation bio (answers.Refused refusal) is) tt
   where
     none : units_of d.script (op, operation) ≡ units_of_bio d.script op operation bio
     none = rw is refl

@@ -1,7 +1,7 @@
 -- A run ends: the shards are closed, and the sections make a lawful run.
 use Rattle.std.proofs.Common.{◌≡◌, ℕ, zero, suc, ◌-◌, ◌+◌, ◌*◌, ◌/◌, ◌%◌, ◌<◌, ◌≤◌, ◌^◌, ◌⊎◌, inl, inr, Bool, true, false, cond, List, [], ◌∷◌, ◌++◌, length, map, refl, sym, ap, subst, ◌∙◌, arith, Option, Some, None}
 use Rattle.std.specs.Prelude.{◌↔◌, ◌==◌, ◌&&◌, ◌||◌, filter, flat_map, Contains, IsSomeAnd, slice_get, slice_index_or, nat_lt}
-use Rattle.std.specs.List.{AllByRecursion, list_any, range_with_len}
+use Rattle.std.specs.List.{AllByRecursion, list_any, range_with_len, enumerate_from}
 use Rattle.std.proofs.Math.Logic.{⊎_elim}
 use Rattle.std.proofs.lemmas.Bool.{eq-eqb, ne_eqb, eqb-true, true≢false, cases_lt, and_right, ltb-true, false_from_ne_true}
 use Rattle.std.proofs.lemmas.Option.{none-some, same_Some, slice_get-get_or, get_or_from_slice_get, slice_get_within}
@@ -21,15 +21,19 @@ use Rattle.bc_medium.specs.ShardOrder.{ShardData, HasKeys, IsOrder, FailAsPlanne
 use Rattle.bc_medium.specs.Shards.{orders_of, AllLeft, HaveKeys}
 use Rattle.bc_script.specs.declared.op.Op.{Op}
 use Rattle.bc_script.specs.Script.{Script, IsScript, keys_of, sectors_in, max_units, max_threads}
+use Rattle.bc_stack.specs.declared.target.Target.{Target}
+use Rattle.bc_report.specs.LawfulRun.{HaveLawfulJournals}
+use Rattle.bc_report.specs.SerialRun.{serial_journal}
 use Rattle.bc_report.specs.declared.answer.Answer.{Answer}
 use Rattle.bc_report.specs.declared.line.Line.{Line}
 use Rattle.bc_report.specs.Report.{Report, IsReport, IsEntry, IsPart, IsAnswer}
-use Rattle.bc_compose.specs.SectionDone.{SectionDone}
-use Rattle.bc_compose.specs.Closed.{ShardsClosed, StoresClosed, IsReported, line_of}
-use Rattle.bc_compose.specs.Composed.{AreSectionsOf, FollowOneAnother}
+use Rattle.bc_compose.specs.SectionDone.{SaysItsWay, SectionDone}
+use Rattle.bc_compose.specs.Closed.{ShardsClosed, StoresClosed, DevicesClosed, IsReported, line_of}
+use Rattle.bc_compose.specs.Composed.{AreSectionsOf, FollowOneAnother, AreUses}
 use Rattle.bc_run.specs.Sections.{DeviceData, SectionsDone}
 use Rattle.bc_run.specs.Standing.{planned_on, Stands, AllStand, IsCourse, CourseData, device_of, sectors_at, IsBegun}
 use Rattle.bc_run.proofs.Lists.{In, in_of_filter, in_of_flat_map, all_at, all_from_in, all_slice, all_by_place, filter_all, filter_none, at_exists, at_one, at_map, at_of_map, list_at_map, by_places, any_in, any_from, same_tests}
+use Rattle.bc_run.proofs.NoDevices.{holds}
 use Rattle.bc_run.proofs.Turns.{callers_below}
 use Rattle.bc_run.proofs.Beginning.{nothing_behind, not_behind}
 
@@ -255,19 +259,34 @@ module _ (script : Script) (rules : IsScript script) (image : List ℕ) (n : ℕ
             none_behind : (r : RamData) (s : ℕ) → 8 * r.blocks ≤ s → owns r s ≡ false
             none_behind r s le = and_right (shard_of r.shards s == r.shard) (nat_lt (s / 8) r.blocks) (false_from_ne_true (nat_lt (s / 8) r.blocks) (λ t. let lt = ltb-true (s / 8) r.blocks t in absurd (omega arith)))
 
-    pub are_sections : AreSectionsOf script image n report left made_of orders
+    devices_closed : DevicesClosed script (length script.threads) (λ t. []) []
+    devices_closed = record {
+      fronts = λ caller device lt. record { begins = ([], refl); own_entries = refl };
+      no_strangers = λ device. tt;
+      lawful = subst (λ (ts : List Target). HaveLawfulJournals ts []) (sym rules.targets) tt;
+    }
+
+    pub uses : AreUses script (length script.threads) made_of []
+    uses = record {
+      journals_are = subst (λ (ts : List Target). [] ≡ map (serial_journal script) (enumerate_from 0 ts)) (sym rules.targets) refl;
+      holds = λ t lt. holds script rules (made_of t) (subst (λ (s : Script). Each (SaysItsWay s) (made_of t)) begun.script_is (done.each_done t lt).ways);
+    }
+
+    pub are_sections : AreSectionsOf script image n report left made_of orders []
     are_sections = record {
       base = sectors_at v0.shards;
       seen = λ t. list_at done.seen t;
+      noted = λ t. [];
       rules = rules;
       some = some;
       whole = whole;
       answered = done.each_answered;
       sections = λ t lt.
-          subst (λ m. SectionDone script m (sectors_at v0.shards) t (list_at script.threads t) (list_at done.seen t) (list_at answers t) (list_at done.made t)) begun.shards_are
-          (subst (λ (c : Script). SectionDone c (length v0.shards) (sectors_at v0.shards) t (list_at script.threads t) (list_at done.seen t) (list_at answers t) (list_at done.made t)) begun.script_is (done.each_done t lt));
+          subst (λ m. SectionDone script m (sectors_at v0.shards) t (list_at script.threads t) (list_at done.seen t) [] (list_at answers t) (list_at done.made t)) begun.shards_are
+          (subst (λ (c : Script). SectionDone c (length v0.shards) (sectors_at v0.shards) t (list_at script.threads t) (list_at done.seen t) [] (list_at answers t) (list_at done.made t)) begun.script_is (done.each_done t lt));
       shards_closed = shards_closed;
       stores_closed = stores_closed;
+      devices_closed = devices_closed;
       reported = record { shards = lines_are; devices = refl };
     }
 

@@ -1,4 +1,5 @@
 pub mod Lists
+pub mod NoDevices
 pub mod Growing
 pub mod Carrying
 pub mod Attempting

@@ -29,12 +29,11 @@ use Rattle.bc_medium.specs.LawfulOrders.{name_of}
 use Rattle.bc_medium.specs.Outcome.{is_fault}
 use Rattle.bc_medium.specs.ShardOrder.{ShardData, Appends, AppendsNext, HasKeys, StandsNow}
 use Rattle.bc_medium.specs.Shards.{orders_of, HaveKeys, Own, HasSpare, Adds, Answers, AppendsAt, ReadsAt, AnswersText}
-use Rattle.bc_script.specs.Script.{Script, keys_of, sectors_in, max_units}
-use Rattle.bc_script.specs.Way.{way_of}
-use Rattle.bc_report.specs.Ways.{way_in}
+use Rattle.bc_script.specs.Script.{Script, IsScript, keys_of, sectors_in, max_units}
 use Rattle.bc_compose.specs.SectionDone.{SaysItsWay}
 use Rattle.bc_run.specs.Sections.{DeviceData, GoOnBy}
 use Rattle.bc_run.specs.Standing.{planned_on, Stands, AllStand, sectors_at, CourseData, device_of, GoesOn, Attempted, AttemptsUnit, via_of, at_of, entry_of_write, entry_of_read, answer_of_write, answer_of_read}
+use Rattle.bc_run.proofs.NoDevices.{says_via}
 use Rattle.bc_run.proofs.Lists.{at_changed, at_set, at_one, length-set, at_map, list_at_map, all_slice, all_by_place}
 
 -- ---- what the calls of the shards say
@@ -125,7 +124,7 @@ module _ (script : Script) (thread : ℕ) (old new : List (ShardData RamData)) (
   abbrev after : CourseData
   after = record { script = script; shards = new; thread = thread; left = left' }
 
-  pub attempts_unit : Attempted (keys_of script) old new e answer → left ≡ left' + 1 → 1 ≤ length old → IsEntryOf thread u e → SaysItsWay e → e.failed ≡ is_fault answer
+  pub attempts_unit : Attempted (keys_of script) old new e answer → left ≡ left' + 1 → 1 ≤ length old → IsEntryOf thread u e → SaysItsWay script e → e.failed ≡ is_fault answer
       → AttemptsUnit (device_of before) (device_of after) u answer
   attempts_unit p less some its way failed =
       let lies : p.place.shard ≡ shard_of (length old) e.at.sector = p.adds.shard in
@@ -139,8 +138,8 @@ module _ (script : Script) (thread : ℕ) (old new : List (ShardData RamData)) (
       let name : name_of_entry e ≡ name_of thread u = ap unit_name its.unit in
       record {
         entry = e;
-        same = ap (λ (n : ℕ). record { script = script; shards = n; base = sectors_at new; thread = thread; seen = orders_of new; alone = true; spare = left' }) long
-            ∙ ap (λ (b : ℕ → Sectors). record { script = script; shards = length old; base = b; thread = thread; seen = orders_of new; alone = true; spare = left' }) base;
+        same = ap (λ (n : ℕ). record { script = script; shards = n; base = sectors_at new; thread = thread; seen = orders_of new; noted = []; alone = true; spare = left' }) long
+            ∙ ap (λ (b : ℕ → Sectors). record { script = script; shards = length old; base = b; thread = thread; seen = orders_of new; noted = []; alone = true; spare = left' }) base;
         spare = omega arith;
         grows = goes_on_by (length old) (orders_of old) (orders_of new) p.place.shard e lies p.adds.appended.ends p.adds.appended.elsewhere;
         is_its = its;
@@ -160,17 +159,13 @@ module _ (script : Script) (thread : ℕ) (old new : List (ShardData RamData)) (
 
 -- ---- the entries of writes and reads
 
-says_via : (context : Option Context) → way_in (via_of context) ≡ way_of context
-says_via None = refl
-says_via (Some context) = refl
+pub write_says_its_way : (script : Script) (rules : IsScript script) (at : UnitAt) (plain : List ℕ) (went : Bool) → SaysItsWay script (entry_of_write at plain went)
+write_says_its_way script rules at plain true = says_via script rules at.context at.sector
+write_says_its_way script rules at plain false = says_via script rules at.context at.sector
 
-pub write_says_its_way : (at : UnitAt) (plain : List ℕ) (went : Bool) → SaysItsWay (entry_of_write at plain went)
-write_says_its_way at plain true = says_via at.context
-write_says_its_way at plain false = says_via at.context
-
-pub read_says_its_way : (at : UnitAt) (went : Bool) → SaysItsWay (entry_of_read at went)
-read_says_its_way at true = says_via at.context
-read_says_its_way at false = says_via at.context
+pub read_says_its_way : (script : Script) (rules : IsScript script) (at : UnitAt) (went : Bool) → SaysItsWay script (entry_of_read at went)
+read_says_its_way script rules at true = says_via script rules at.context at.sector
+read_says_its_way script rules at false = says_via script rules at.context at.sector
 
 pub write_failed : (at : UnitAt) (plain : List ℕ) (went : Bool) → (entry_of_write at plain went).failed ≡ is_fault (answer_of_write went)
 write_failed at plain true = refl

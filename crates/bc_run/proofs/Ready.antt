@@ -101,7 +101,7 @@ module _ (sizes : UnitsHaveSizes) (blocks : UnitsLieInBlocks) (script : Script) 
               (subst (λ (k : List KeyData). Attempted k shards new e answer) course.keys_are p).goes_on (more left some) course.stand;
         }
 
-    pub attempts : 1 ≤ left → IsEntryOf thread (unit_at (keys_of script) op operation bio i) e → SaysItsWay e → e.failed ≡ is_fault answer
+    pub attempts : 1 ≤ left → IsEntryOf thread (unit_at (keys_of script) op operation bio i) e → SaysItsWay script e → e.failed ≡ is_fault answer
         → AttemptsUnit (device_of (record { script = script; shards = shards; thread = thread; left = left })) (device_of (record { script = script; shards = new; thread = thread; left = left - 1 }))
         (unit_at (keys_of script) op operation bio i) answer
     attempts some its way failed =

@@ -14,15 +14,19 @@ use Rattle.bc_medium.specs.declared.entry.Entry.{Entry}
 use Rattle.bc_medium.specs.Entries.{caller_of}
 use Rattle.bc_medium.specs.Growth.{lies_in}
 use Rattle.bc_script.specs.declared.op.Op.{Op}
-use Rattle.bc_script.specs.Script.{Script, unit_count_of_section}
+use Rattle.bc_profile.specs.declared.noted.Noted.{Noted}
+use Rattle.bc_script.specs.Script.{Script, IsScript, IsOp, keys_of, unit_count_of_section}
 use Rattle.bc_script.specs.Plan.{units_of_section}
 use Rattle.bc_report.specs.declared.answer.Answer.{Answer}
+use Rattle.bc_report.specs.Evictions.{Eviction, evictions_in, IsEvictionAnswer}
+use Rattle.bc_report.specs.Programmings.{InOrder}
 use Rattle.bc_report.specs.Report.{IsAnswer}
 use Rattle.bc_compose.specs.SectionDone.{SectionDone}
 use Rattle.bc_run.specs.Sections.{DeviceData, Carries, CarriesSection, SectionsDone, units_in}
 use Rattle.bc_run.proofs.Lists.{In, in_of_filter, in_of_flat_map, all_at, all_from_in, all_append, from_append, filter_none, filter_all, list_at_left, list_at_last, take_next}
 use Rattle.bc_run.proofs.Growing.{begins_itself, begins_trans, grows_alone, made_by}
 use Rattle.bc_run.proofs.Carrying.{units_at}
+use Rattle.bc_run.proofs.NoDevices.{own_key, in_order, evictions_valid, bounds}
 
 pub sections_none : (d : DeviceData) → ((shard : ℕ) → list_at d.seen shard ≡ []) → SectionsDone d d [] []
 sections_none d untouched = record {
@@ -51,7 +55,7 @@ callers_below n (fs ∷ made) all es e at at' =
     let by : caller_of e ≡ n = all_at (λ (x : Entry). caller_of x ≡ n) fs e all.0 (subst (In e) (sym same) at') in (omega arith, omega arith))
     (λ (more : In es made). let r = callers_below (n + 1) made all.1 es e more at' in let a = r.0 in let b = r.1 in (omega arith, omega arith)) at
 
-module _ (a : DeviceData) (alone : IsTrue a.alone) (thread thread' : ℕ) (seen seen' : List (List Entry)) (spare spare' : ℕ) where
+module _ (a : DeviceData) (alone : IsTrue a.alone) (rules : IsScript a.script) (no_notes : a.noted ≡ []) (thread thread' : ℕ) (seen seen' : List (List Entry)) (spare spare' : ℕ) where
   abbrev now : DeviceData
   now = record a { thread = thread; seen = seen; spare = spare }
 
@@ -63,8 +67,8 @@ module _ (a : DeviceData) (alone : IsTrue a.alone) (thread thread' : ℕ) (seen 
 
   section_done : (sections : List (List Op)) (answers : List (List Answer)) (section : List Op) (told : List Answer) → thread' ≡ length sections
       → (p : SectionsDone a now sections answers) → (q : CarriesSection begun new section told)
-      → SectionDone a.script a.shards a.base thread' section seen' told q.made
-  section_done sections answers section told turn p q = record {
+      → AllByRecursion (IsOp (keys_of a.script)) section → SectionDone a.script a.shards a.base thread' section seen' a.noted told q.made
+  section_done sections answers section told turn p q valid = subst (λ (n : List (List Noted)). SectionDone a.script a.shards a.base thread' section seen' n told q.made) (sym no_notes) (record {
     attempts = q.attempts;
     entries = λ shard within.
         let mine = filter (lies_in a.shards shard) q.made in
@@ -75,8 +79,15 @@ module _ (a : DeviceData) (alone : IsTrue a.alone) (thread thread' : ℕ) (seen 
         (λ e at. eq-eqb (caller_of e) thread' (made_by thread' [] (units_of_section a.script section) q.made q.attempts e (in_of_filter (lies_in a.shards shard) q.made e at).0));
     ways = q.ways;
     answers = q.replies;
-  }
+    own_key = own_key a.script rules q.made q.ways;
+    in_order = in_order a.script rules (InOrder (evictions_in (thread', (section, told))) thread') q.made q.ways;
+    eviction_answers = evictions;
+    bounds = bounds a.script rules section (evictions_in (thread', (section, told))) valid evictions;
+  })
     where
+      evictions : AllByRecursion (λ (e : Eviction). IsEvictionAnswer a.script e.key e.answer) (evictions_in (thread', (section, told)))
+      evictions = evictions_valid a.script rules thread' 0 section told q.evictions
+
       others : (shard : ℕ) → own caller_of thread' (list_at seen shard) ≡ []
       others shard =
           filter_none (λ e. caller_of e == thread') (list_at seen shard)
@@ -86,9 +97,9 @@ module _ (a : DeviceData) (alone : IsTrue a.alone) (thread thread' : ℕ) (seen 
           let m = p.each_made in
           ne_eqb (caller_of e) thread' (λ same. omega arith))
 
-  more : (sections : List (List Op)) (answers : List (List Answer)) (section : List Op) (told : List Answer) → thread' ≡ length sections
+  more : (sections : List (List Op)) (answers : List (List Answer)) (section : List Op) (told : List Answer) → thread' ≡ length sections → AllByRecursion (IsOp (keys_of a.script)) section
       → SectionsDone a now sections answers → CarriesSection begun new section told → SectionsDone a new (sections ++ section ∷ []) (answers ++ told ∷ [])
-  more sections answers section told turn p q = record {
+  more sections answers section told turn valid p q = record {
     made = p.made ++ q.made ∷ [];
     seen = p.seen ++ seen' ∷ [];
     same = refl;
@@ -97,18 +108,18 @@ module _ (a : DeviceData) (alone : IsTrue a.alone) (thread thread' : ℕ) (seen 
     each_answered = longer answers sections told section p.each_answered;
     each_done = λ t lt. ⊎_elim
         (λ (before : t < length sections).
-        subst (λ es. SectionDone a.script a.shards a.base t (list_at (sections ++ section ∷ []) t) (list_at (p.seen ++ seen' ∷ []) t) (list_at (answers ++ told ∷ []) t) es) (sym (list_at_left p.made q.made t (within p.made sections t p.each_made before)))
-        (subst (λ l. SectionDone a.script a.shards a.base t (list_at (sections ++ section ∷ []) t) (list_at (p.seen ++ seen' ∷ []) t) l (list_at p.made t)) (sym (list_at_left answers told t (within answers sections t p.each_answered before)))
-        (subst (λ l. SectionDone a.script a.shards a.base t (list_at (sections ++ section ∷ []) t) l (list_at answers t) (list_at p.made t)) (sym (list_at_left p.seen seen' t (within p.seen sections t p.each_seen before)))
-        (subst (λ l. SectionDone a.script a.shards a.base t l (list_at p.seen t) (list_at answers t) (list_at p.made t)) (sym (list_at_left sections section t before))
+        subst (λ es. SectionDone a.script a.shards a.base t (list_at (sections ++ section ∷ []) t) (list_at (p.seen ++ seen' ∷ []) t) a.noted (list_at (answers ++ told ∷ []) t) es) (sym (list_at_left p.made q.made t (within p.made sections t p.each_made before)))
+        (subst (λ l. SectionDone a.script a.shards a.base t (list_at (sections ++ section ∷ []) t) (list_at (p.seen ++ seen' ∷ []) t) a.noted l (list_at p.made t)) (sym (list_at_left answers told t (within answers sections t p.each_answered before)))
+        (subst (λ l. SectionDone a.script a.shards a.base t (list_at (sections ++ section ∷ []) t) l a.noted (list_at answers t) (list_at p.made t)) (sym (list_at_left p.seen seen' t (within p.seen sections t p.each_seen before)))
+        (subst (λ l. SectionDone a.script a.shards a.base t l (list_at p.seen t) a.noted (list_at answers t) (list_at p.made t)) (sym (list_at_left sections section t before))
         (p.each_done t before)))))
         (λ (last : length sections ≤ t).
         let is : t ≡ length sections = last_one sections section t lt last in
-        subst (λ es. SectionDone a.script a.shards a.base t (list_at (sections ++ section ∷ []) t) (list_at (p.seen ++ seen' ∷ []) t) (list_at (answers ++ told ∷ []) t) es) (sym (list_at_last p.made q.made t (is ∙ sym p.each_made)))
-        (subst (λ l. SectionDone a.script a.shards a.base t (list_at (sections ++ section ∷ []) t) (list_at (p.seen ++ seen' ∷ []) t) l q.made) (sym (list_at_last answers told t (is ∙ sym p.each_answered)))
-        (subst (λ l. SectionDone a.script a.shards a.base t (list_at (sections ++ section ∷ []) t) l told q.made) (sym (list_at_last p.seen seen' t (is ∙ sym p.each_seen)))
-        (subst (λ l. SectionDone a.script a.shards a.base t l seen' told q.made) (sym (list_at_last sections section t is))
-        (subst (λ n. SectionDone a.script a.shards a.base n section seen' told q.made) (turn ∙ sym is) (section_done sections answers section told turn p q))))))
+        subst (λ es. SectionDone a.script a.shards a.base t (list_at (sections ++ section ∷ []) t) (list_at (p.seen ++ seen' ∷ []) t) a.noted (list_at (answers ++ told ∷ []) t) es) (sym (list_at_last p.made q.made t (is ∙ sym p.each_made)))
+        (subst (λ l. SectionDone a.script a.shards a.base t (list_at (sections ++ section ∷ []) t) (list_at (p.seen ++ seen' ∷ []) t) a.noted l q.made) (sym (list_at_last answers told t (is ∙ sym p.each_answered)))
+        (subst (λ l. SectionDone a.script a.shards a.base t (list_at (sections ++ section ∷ []) t) l a.noted told q.made) (sym (list_at_last p.seen seen' t (is ∙ sym p.each_seen)))
+        (subst (λ l. SectionDone a.script a.shards a.base t l seen' a.noted told q.made) (sym (list_at_last sections section t is))
+        (subst (λ n. SectionDone a.script a.shards a.base n section seen' a.noted told q.made) (turn ∙ sym is) (section_done sections answers section told turn p q valid))))))
         (cases_lt t (length sections));
     callers = from_append (λ t es. AllByRecursion (λ e. caller_of e ≡ t) es) 0 p.made q.made p.callers
         (all_from_in (λ e. caller_of e ≡ 0 + length p.made) q.made
@@ -143,9 +154,9 @@ module _ (a : DeviceData) (alone : IsTrue a.alone) (thread thread' : ℕ) (seen 
 
 -- the same of devices
 pub sections_more : (a b d : DeviceData) (thread : ℕ) (sections : List (List Op)) (i : ℕ) (answers answers' : List (List Answer)) (section : List Op) (told : List Answer) → IsTrue a.alone
-    → thread ≡ i → i < length sections → section ≡ get_or sections i section → answers' ≡ answers ++ told ∷ []
+    → IsScript a.script → a.noted ≡ [] → AllByRecursion (IsOp (keys_of a.script)) section → thread ≡ i → i < length sections → section ≡ get_or sections i section → answers' ≡ answers ++ told ∷ []
     → SectionsDone a b (take i sections) answers → CarriesSection (record b { thread = thread }) d section told → SectionsDone a d (take (i + 1) sections) answers'
-sections_more a b d thread sections i answers answers' section told alone turn lt read grown p q =
+sections_more a b d thread sections i answers answers' section told alone rules no_notes valid turn lt read grown p q =
     let long : length (take i sections) ≡ i = omega (arith, length-take i sections) in
     let same : d ≡ record a { thread = thread; seen = d.seen; spare = d.spare } =
     q.same ∙ ap (λ (x : DeviceData). record x { thread = thread; seen = d.seen; spare = d.spare }) p.same in
@@ -154,7 +165,7 @@ sections_more a b d thread sections i answers answers' section told alone turn l
     subst (λ (x : DeviceData). SectionsDone a x (take (i + 1) sections) answers') (sym same)
     (subst (λ l. SectionsDone a (record a { thread = thread; seen = d.seen; spare = d.spare }) l answers') (sym (take_next sections i section lt read))
     (subst (λ l. SectionsDone a (record a { thread = thread; seen = d.seen; spare = d.spare }) (take i sections ++ section ∷ []) l) (sym grown)
-    (more a alone b.thread thread b.seen d.seen b.spare d.spare (take i sections) answers section told (turn ∙ sym long)
+    (more a alone rules no_notes b.thread thread b.seen d.seen b.spare d.spare (take i sections) answers section told (turn ∙ sym long) valid
     (subst (λ (x : DeviceData). SectionsDone a x (take i sections) answers) p.same p) q2)))
 
 -- how many units are left

@@ -10,6 +10,7 @@ use Rattle.bc_script.specs.ScriptErrors.{error_of}
 use Rattle.bc_report.specs.Report.{Report}
 use Rattle.bc_report.specs.ReportText.{report_text}
 use Rattle.bc_report.specs.LawfulRun.{LawfulRun}
+use Rattle.bc_report.specs.RunOf.{run_of}
 use Rattle.bc_report.specs.SerialRun.{IsSerial}
 
 -- the words are the one command that there is
@@ -39,7 +40,7 @@ zeros_for script = replicate (BLOCK_BYTES * script.blocks) 0
 pub record IsReportOf (script : Script) (report : Report) : Type 0 where
   pub left : List ℕ
   pub lawful : LawfulRun script (zeros_for script) 1 report left
-  pub serial : IsSerial script report
+  pub serial : IsSerial script (run_of script (zeros_for script) report) report
 
 -- the text is a script's, and this was done with the text of its report
 pub record IsCarriedOut (Done : List ℕ → Type 0) (text : List ℕ) : Type 0 where

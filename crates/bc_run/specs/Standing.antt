@@ -95,6 +95,7 @@ device_of course = record {
   base = sectors_at course.shards;
   thread = course.thread;
   seen = orders_of course.shards;
+  noted = [];
   alone = true;
   spare = course.left;
 }
@@ -171,7 +172,7 @@ pub record AttemptsUnit (old new : DeviceData) (u : PlannedUnit) (answer : UnitA
   pub spare : old.spare ≤ new.spare + 1
   pub grows : GoOnBy old.shards old.seen new.seen (entry ∷ [])
   pub is_its : IsEntryOf old.thread u entry
-  pub way : SaysItsWay entry
+  pub way : SaysItsWay old.script entry
   pub failed : entry.failed ≡ is_fault answer
   pub known : Knows (keys_of old.script) old.shards old.base old.thread new.seen u answer
 

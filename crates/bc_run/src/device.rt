@@ -40,6 +40,7 @@ pub(crate) trait Device<R, E> {
 
     /// Has a device program its keyslots again.
     fn reset(&mut self, rt: &R, op: u32, device: u8) -> Result<Answer, E>
+        requires rules { IsOp (keys_of (facts self.old).script) (ops.Reset device) }
         ensures { IfOk result (CarriesOne (facts self.old) (facts self.new) (op, ops.Reset device)) };
 }
 

@@ -5,6 +5,7 @@ ghost use Rattle.bc_base.specs.Lists.{Each, list_at};
 ghost use Rattle.bc_medium.specs.Shards.{orders_of};
 ghost use Rattle.bc_script.specs.Script.{IsScript, keys_of, IsSection, unit_count_of_section, max_ops};
 ghost use Rattle.bc_report.specs.LawfulRun.{LawfulRun};
+ghost use Rattle.bc_report.specs.RunOf.{run_of};
 ghost use Rattle.bc_report.specs.SerialRun.{IsSerial};
 ghost use Rattle.bc_report.specs.Report.{IsEntry, IsPart};
 ghost use Rattle.bc_compose.specs.Closed.{line_of};
@@ -17,7 +18,9 @@ use crate::device::carry_out;
 use crate::direct::Direct;
 use crate::opening::stores_of;
 use bc_base::{Items, RamStore, SECTOR_BYTES};
-use bc_compose::{sections_in_turn_make_a_serial_run, sections_make_a_lawful_run};
+use bc_compose::{
+    sections_in_turn_make_a_serial_run, sections_make_a_lawful_run, serial_runs_have_known_holders,
+};
 use bc_medium::{Entry, Shards, UnitAt, Via};
 use bc_report::{Answer, Line, Report};
 use bc_script::limits::{MAX_BIO_SECTORS, MAX_UNITS};
@@ -58,7 +61,8 @@ pub fn serial(
     requires shards { (1 ≤ shards) × (shards ≤ 64) }
     ensures lawful { IfOk result (λ finished.
         LawfulRun script.now image.items shards finished.report finished.image.items) }
-    ensures serial { IfOk result (λ finished. IsSerial script.now finished.report) }
+    ensures serial { IfOk result (λ finished.
+        IsSerial script.now (run_of script.now image.items finished.report) finished.report) }
 {
     let mut direct = begin(alloc, script, image, shards)?;
     let answers = carry_sections_out(alloc, &mut direct, script.threads())?;
@@ -69,6 +73,7 @@ pub fn serial(
     let lines = lines_of_shards(alloc, orders.as_slice())?;
     sections_make_a_lawful_run();
     sections_in_turn_make_a_serial_run();
+    serial_runs_have_known_holders();
     Ok(Finished {
         image,
         report: Report::new(answers, lines, Items::new(alloc)),

@@ -7,12 +7,13 @@ use Rattle.bc_medium.specs.KeyedDisk.{image_sectors}
 use Rattle.bc_script.specs.Script.{IsScript}
 use Rattle.bc_report.specs.Report.{Report, IsReport}
 use Rattle.bc_report.specs.LawfulRun.{LawfulRun}
+use Rattle.bc_report.specs.RunOf.{run_of}
 use Rattle.bc_report.specs.SerialRun.{IsSerial}
 use Rattle.bc_compose.specs.Closed.{line_of}
 use Rattle.bc_run.specs.Sections.{SectionsDone}
 use Rattle.bc_run.specs.Standing.{CourseData, device_of}
 use Rattle.bc_run.proofs.Lists.{map-map, each_of_map}
-use Rattle.bc_run.proofs.Ending.{have_all, orders_few, made_of, are_sections, follow, is_report}
+use Rattle.bc_run.proofs.Ending.{have_all, orders_few, made_of, are_sections, follow, uses, is_report}
 use Rattle.bc_run.proofs.one_caller.serial.Goals as goal
 
 pub join-requires : goal.join-requires
@@ -82,7 +83,10 @@ returns-clause-lawful c =
     let report : Report = record { threads = c.in_ok-answers.answers; shards = c.in_ok-lines.lines; devices = [] } in
     let report_is : c.new-2.result ≡ report = c.new-2.ensures ∙ ap (λ d. record { threads = c.in_ok-answers.answers; shards = c.in_ok-lines.lines; devices = d }) c.new.ensures in
     let sections = are_sections script rules c.args.image.items c.args.shards c.requires.shards.0 c.requires.shards.1 c.requires.length v0 v1 c.in_ok-direct.ensures c.in_ok-answers.answers done c.course.inside.ciphers c.course.invariant c.close-stores.result.0.items orders c.close-stores.ensures.stores c.close-stores.ensures.entries c.close-stores.ensures.orders c.close-stores.ensures.left left long sectors c.in_ok-lines.lines lines c.in_ok-lines.ensures.ranges in
-    subst (λ r. LawfulRun script c.args.image.items c.args.shards r left) (sym report_is) (c.sections_make_a_lawful_run.ensures script c.args.image.items c.args.shards report left (made_of script rules c.args.image.items c.args.shards c.requires.shards.0 c.requires.shards.1 c.requires.length v0 v1 c.in_ok-direct.ensures c.in_ok-answers.answers done c.course.inside.ciphers c.course.invariant c.close-stores.result.0.items orders c.close-stores.ensures.stores c.close-stores.ensures.entries c.close-stores.ensures.orders c.close-stores.ensures.left) orders sections)
+    let serial : IsSerial script (run_of script c.args.image.items report) report = (c.sections_in_turn_make_a_serial_run.ensures script c.args.image.items c.args.shards report left (made_of script rules c.args.image.items c.args.shards c.requires.shards.0 c.requires.shards.1 c.requires.length v0 v1 c.in_ok-direct.ensures c.in_ok-answers.answers done c.course.inside.ciphers c.course.invariant c.close-stores.result.0.items orders c.close-stores.ensures.stores c.close-stores.ensures.entries c.close-stores.ensures.orders c.close-stores.ensures.left) orders [] sections (follow script rules c.args.image.items c.args.shards c.requires.shards.0 c.requires.shards.1 c.requires.length v0 v1 c.in_ok-direct.ensures c.in_ok-answers.answers done c.course.inside.ciphers c.course.invariant c.close-stores.result.0.items orders c.close-stores.ensures.stores c.close-stores.ensures.entries c.close-stores.ensures.orders c.close-stores.ensures.left left long sectors c.in_ok-lines.lines lines c.in_ok-lines.ensures.ranges) (uses script rules c.args.image.items c.args.shards c.requires.shards.0 c.requires.shards.1 c.requires.length v0 v1 c.in_ok-direct.ensures c.in_ok-answers.answers done c.course.inside.ciphers c.course.invariant c.close-stores.result.0.items orders c.close-stores.ensures.stores c.close-stores.ensures.entries c.close-stores.ensures.orders c.close-stores.ensures.left left long sectors c.in_ok-lines.lines lines c.in_ok-lines.ensures.ranges)) in
+    let but = c.sections_make_a_lawful_run.ensures script c.args.image.items c.args.shards report left (made_of script rules c.args.image.items c.args.shards c.requires.shards.0 c.requires.shards.1 c.requires.length v0 v1 c.in_ok-direct.ensures c.in_ok-answers.answers done c.course.inside.ciphers c.course.invariant c.close-stores.result.0.items orders c.close-stores.ensures.stores c.close-stores.ensures.entries c.close-stores.ensures.orders c.close-stores.ensures.left) orders [] sections in
+    let known = c.serial_runs_have_known_holders.ensures script (run_of script c.args.image.items report) report rules serial in
+    subst (λ r. LawfulRun script c.args.image.items c.args.shards r left) (sym report_is) (record { but_holders = but; holders = known })
 
 pub returns-clause-serial : goal.returns-clause-serial
 returns-clause-serial c =
@@ -105,4 +109,4 @@ returns-clause-serial c =
     let report : Report = record { threads = c.in_ok-answers.answers; shards = c.in_ok-lines.lines; devices = [] } in
     let report_is : c.new-2.result ≡ report = c.new-2.ensures ∙ ap (λ d. record { threads = c.in_ok-answers.answers; shards = c.in_ok-lines.lines; devices = d }) c.new.ensures in
     let sections = are_sections script rules c.args.image.items c.args.shards c.requires.shards.0 c.requires.shards.1 c.requires.length v0 v1 c.in_ok-direct.ensures c.in_ok-answers.answers done c.course.inside.ciphers c.course.invariant c.close-stores.result.0.items orders c.close-stores.ensures.stores c.close-stores.ensures.entries c.close-stores.ensures.orders c.close-stores.ensures.left left long sectors c.in_ok-lines.lines lines c.in_ok-lines.ensures.ranges in
-    subst (λ r. IsSerial script r) (sym report_is) (c.sections_in_turn_make_a_serial_run.ensures script c.args.image.items c.args.shards report left (made_of script rules c.args.image.items c.args.shards c.requires.shards.0 c.requires.shards.1 c.requires.length v0 v1 c.in_ok-direct.ensures c.in_ok-answers.answers done c.course.inside.ciphers c.course.invariant c.close-stores.result.0.items orders c.close-stores.ensures.stores c.close-stores.ensures.entries c.close-stores.ensures.orders c.close-stores.ensures.left) orders sections (follow script rules c.args.image.items c.args.shards c.requires.shards.0 c.requires.shards.1 c.requires.length v0 v1 c.in_ok-direct.ensures c.in_ok-answers.answers done c.course.inside.ciphers c.course.invariant c.close-stores.result.0.items orders c.close-stores.ensures.stores c.close-stores.ensures.entries c.close-stores.ensures.orders c.close-stores.ensures.left left long sectors c.in_ok-lines.lines lines c.in_ok-lines.ensures.ranges))
+    subst (λ r. IsSerial script (run_of script c.args.image.items r) r) (sym report_is) (c.sections_in_turn_make_a_serial_run.ensures script c.args.image.items c.args.shards report left (made_of script rules c.args.image.items c.args.shards c.requires.shards.0 c.requires.shards.1 c.requires.length v0 v1 c.in_ok-direct.ensures c.in_ok-answers.answers done c.course.inside.ciphers c.course.invariant c.close-stores.result.0.items orders c.close-stores.ensures.stores c.close-stores.ensures.entries c.close-stores.ensures.orders c.close-stores.ensures.left) orders [] sections (follow script rules c.args.image.items c.args.shards c.requires.shards.0 c.requires.shards.1 c.requires.length v0 v1 c.in_ok-direct.ensures c.in_ok-answers.answers done c.course.inside.ciphers c.course.invariant c.close-stores.result.0.items orders c.close-stores.ensures.stores c.close-stores.ensures.entries c.close-stores.ensures.orders c.close-stores.ensures.left left long sectors c.in_ok-lines.lines lines c.in_ok-lines.ensures.ranges) (uses script rules c.args.image.items c.args.shards c.requires.shards.0 c.requires.shards.1 c.requires.length v0 v1 c.in_ok-direct.ensures c.in_ok-answers.answers done c.course.inside.ciphers c.course.invariant c.close-stores.result.0.items orders c.close-stores.ensures.stores c.close-stores.ensures.entries c.close-stores.ensures.orders c.close-stores.ensures.left left long sectors c.in_ok-lines.lines lines c.in_ok-lines.ensures.ranges))

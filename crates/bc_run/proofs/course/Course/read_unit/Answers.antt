@@ -101,4 +101,4 @@ returns-clause-attempts c =
     subst (λ (a : UnitAt). IsEntryOf c.self.inside.thread u (entry_of_read a c.read_unit-went.result)) (sym mine) (read_is_its c.self.inside.thread u c.read_unit-went.result c.requires.access) in
     let after : CourseData = record { script = c.self.inside.script.now; shards = c.read_unit-went.new.shards; thread = c.self.inside.thread; left = c.self.inside.left - 1 } in
     subst (λ (v : CourseData). AttemptsUnit (device_of v) (device_of after) (unit_at (keys_of v.script) c.args.op operation bio c.args.unit) (answer_of_read c.read_unit-went.new.place c.read_unit-went.result)) c.self.view_is
-    (attempts c.bio_laws.ensures.sizes c.bio_laws.ensures.blocks c.self.inside.script.now keys c.self.inside.shards c.self.inside.left c.self.invariant c.self.inside.thread c.args.op operation bio performable c.args.unit c.requires.unit c.read_unit-went.new.shards (entry_of_read c.unit_of_bio-at.result c.read_unit-went.result) (answer_of_read c.read_unit-went.new.place c.read_unit-went.result) c.read_unit-went.ensures.attempted some its (read_says_its_way c.unit_of_bio-at.result c.read_unit-went.result) (read_failed c.unit_of_bio-at.result c.read_unit-went.new.place c.read_unit-went.result))
+    (attempts c.bio_laws.ensures.sizes c.bio_laws.ensures.blocks c.self.inside.script.now keys c.self.inside.shards c.self.inside.left c.self.invariant c.self.inside.thread c.args.op operation bio performable c.args.unit c.requires.unit c.read_unit-went.new.shards (entry_of_read c.unit_of_bio-at.result c.read_unit-went.result) (answer_of_read c.read_unit-went.new.place c.read_unit-went.result) c.read_unit-went.ensures.attempted some its (read_says_its_way c.self.inside.script.now c.self.invariant.rules c.unit_of_bio-at.result c.read_unit-went.result) (read_failed c.unit_of_bio-at.result c.read_unit-went.new.place c.read_unit-went.result))

@@ -146,4 +146,4 @@ returns-clause-attempts c =
     subst (λ (a : UnitAt). IsEntryOf c.self.inside.thread u (entry_of_write a c.in_ok-plain.plain.items c.write_unit-went.result)) (sym mine) (write_is_its c.self.inside.thread u c.in_ok-plain.plain.items c.write_unit-went.result c.requires.access bytes) in
     let after : CourseData = record { script = c.self.inside.script.now; shards = c.write_unit-went.new.shards; thread = c.self.inside.thread; left = c.self.inside.left - 1 } in
     subst (λ (v : CourseData). AttemptsUnit (device_of v) (device_of after) (unit_at (keys_of v.script) c.args.op operation bio c.args.unit) (answer_of_write c.write_unit-went.result)) c.self.view_is
-    (attempts c.bio_laws.ensures.sizes c.bio_laws.ensures.blocks c.self.inside.script.now keys c.self.inside.shards c.self.inside.left c.self.invariant c.self.inside.thread c.args.op operation bio performable c.args.unit c.requires.unit c.write_unit-went.new.shards (entry_of_write c.unit_of_bio-at.result c.in_ok-plain.plain.items c.write_unit-went.result) (answer_of_write c.write_unit-went.result) c.write_unit-went.ensures some its (write_says_its_way c.unit_of_bio-at.result c.in_ok-plain.plain.items c.write_unit-went.result) (write_failed c.unit_of_bio-at.result c.in_ok-plain.plain.items c.write_unit-went.result))
+    (attempts c.bio_laws.ensures.sizes c.bio_laws.ensures.blocks c.self.inside.script.now keys c.self.inside.shards c.self.inside.left c.self.invariant c.self.inside.thread c.args.op operation bio performable c.args.unit c.requires.unit c.write_unit-went.new.shards (entry_of_write c.unit_of_bio-at.result c.in_ok-plain.plain.items c.write_unit-went.result) (answer_of_write c.write_unit-went.result) c.write_unit-went.ensures some its (write_says_its_way c.self.inside.script.now c.self.invariant.rules c.unit_of_bio-at.result c.in_ok-plain.plain.items c.write_unit-went.result) (write_failed c.unit_of_bio-at.result c.in_ok-plain.plain.items c.write_unit-went.result))

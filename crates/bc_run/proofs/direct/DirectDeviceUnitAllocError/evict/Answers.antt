@@ -6,4 +6,4 @@ use Rattle.bc_run.proofs.Carrying.{carries_quiet}
 use Rattle.bc_run.proofs.direct.DirectDeviceUnitAllocError.evict.Goals as goal
 
 pub returns : goal.returns
-returns c = carries_quiet (device_of c.args.self.now) c.args._op (ops.Evict c.args._key) answers.Evicted refl (tt, refl) tt
+returns c = carries_quiet (device_of c.args.self.now) c.args._op (ops.Evict c.args._key) answers.Evicted refl tt tt tt
