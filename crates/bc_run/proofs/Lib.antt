@@ -9,7 +9,9 @@ pub mod Turns
 pub mod Openings
 pub mod Beginning
 pub mod Ending
-pub mod Words
+pub mod Given
 pub mod Equal
 pub mod EqualParts
 pub mod Texts
+pub mod Complete
+pub mod Ends

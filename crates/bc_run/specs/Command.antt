@@ -1,7 +1,8 @@
--- What the command `serial` carries out: the script that its text says, over an image of zeros, with one
--- shard.
-use Rattle.std.specs.Prelude.{◌≡◌, ℕ, ◌*◌, ◌≤◌, List, [], ◌∷◌, codes, length, replicate, Some}
+-- What the command `serial` carries out: the script that its text says, over the image that its words name or over zeros,
+-- with the shards that they say.
+use Rattle.std.specs.Prelude.{◌≡◌, ℕ, ◌*◌, ◌≤◌, List, length, replicate, Option, Some, MatchOption, IfSome, IsSomeAnd}
 use Rattle.bc_base.specs.declared.geometry.TheConstants.{BLOCK_BYTES}
+use Rattle.bc_base.specs.Folders.{Files, Has}
 use Rattle.bc_script.specs.declared.limits.TheConstants.{MAX_TEXT}
 use Rattle.bc_script.specs.Script.{Script}
 use Rattle.bc_script.specs.declared.script_error.ScriptError.{ScriptError}
@@ -12,10 +13,8 @@ use Rattle.bc_report.specs.ReportText.{report_text}
 use Rattle.bc_report.specs.LawfulRun.{LawfulRun}
 use Rattle.bc_report.specs.RunOf.{run_of}
 use Rattle.bc_report.specs.SerialRun.{IsSerial}
-
--- the words are the one command that there is
-abbrev pub IsCommand : List (List ℕ) → Type 0
-IsCommand words = words ≡ codes "serial" ∷ []
+use Rattle.bc_run.specs.Words.{Options, IsShardCount}
+use Rattle.bc_run.specs.declared.image.TheConstants.{MAX_IMAGE}
 
 -- a text has no more bytes than a script's may have, 16 MiB
 abbrev pub IsWithinLimit : List ℕ → Type 0
@@ -32,20 +31,57 @@ pub record IsNoScript (error : ScriptError) (text : List ℕ) : Type 0 where
   pub none : NoScriptHas text
   pub first_error : error_of text ≡ Some error
 
+-- how many bytes the script's disk has
+abbrev pub bytes_of_disk : Script → ℕ
+bytes_of_disk script = BLOCK_BYTES * script.blocks
+
 -- an image of zeros, of the length that the script asks for
 abbrev pub zeros_for : Script → List ℕ
-zeros_for script = replicate (BLOCK_BYTES * script.blocks) 0
+zeros_for script = replicate (bytes_of_disk script) 0
 
--- the report is that of a lawful run of the script over zeros, one shard, section after section
-pub record IsReportOf (script : Script) (report : Report) : Type 0 where
-  pub left : List ℕ
-  pub lawful : LawfulRun script (zeros_for script) 1 report left
-  pub serial : IsSerial script (run_of script (zeros_for script) report) report
+-- where an image is named the run begins with what the folder has under the name, and else with zeros
+abbrev pub BeginsWith : Option Files → Option (List ℕ) → Script → List ℕ → Type 0
+BeginsWith files name script image = MatchOption name (image ≡ zeros_for script) (λ n. Has files n image)
 
--- the text is a script's, and this was done with the text of its report
-pub record IsCarriedOut (Done : List ℕ → Type 0) (text : List ℕ) : Type 0 where
-  pub script : Script
-  pub accepted : IsTextOf text script
+-- the image that the run begins with, of the length that the script asks for
+pub record IsImageFor (files : Option Files) (name : Option (List ℕ)) (script : Script) (image : List ℕ) : Type 0 where
+  pub begins : BeginsWith files name script image
+  pub length_is : length image ≡ bytes_of_disk script
+
+-- a named image is one that the folder has, of the length that the script asks for, within 64 MiB
+abbrev pub HasImageFor : Option Files → Option (List ℕ) → Script → Type 0
+HasImageFor files name script = IfSome name (λ n.
+    IsSomeAnd files (λ held. IsSomeAnd (held n) (λ image.
+    (length image ≡ bytes_of_disk script) × (length image ≤ MAX_IMAGE))))
+
+-- a report and the image that is left are those of a lawful run of the script by these options, section after section
+pub record IsRunOf (files : Option Files) (options : Options) (script : Script) (report : Report) (left : List ℕ)
+    : Type 0 where
+  pub image : List ℕ
+  pub begins : IsImageFor files options.image script image
+  pub shards : IsShardCount options.shards
+  pub lawful : LawfulRun script image options.shards report left
+  pub serial : IsSerial script (run_of script image report) report
+
+-- this was done with the text of the report of such a run and with the image that is left
+pub record IsCarriedOut (Done : List ℕ → List ℕ → Type 0) (files : Option Files) (options : Options) (script : Script)
+    : Type 0 where
   pub report : Report
-  pub carried_out : IsReportOf script report
-  pub done : Done (report_text report)
+  pub left : List ℕ
+  pub carried_out : IsRunOf files options script report left
+  pub done : Done (report_text report) left
+
+-- there is a script of which this holds, and where the text is told it is this script's
+pub record IsScriptAnd (Holds : Script → Type 0) (text : Option (List ℕ)) : Type 0 where
+  pub script : Script
+  pub accepted : IfSome text (λ t. IsTextOf t script)
+  pub holds : Holds script
+
+-- the script's disk has so many bytes, and the folder has another number of bytes under the name, within 64 MiB
+pub record HasAnotherLength (files : Option Files) (name : Option (List ℕ)) (script : Script) (want got : ℕ) : Type 0 where
+  pub want_is : want ≡ bytes_of_disk script
+  pub image : List ℕ
+  pub under : IsSomeAnd name (λ n. Has files n image)
+  pub within : length image ≤ MAX_IMAGE
+  pub got_is : got ≡ length image
+  pub differ : want ≡ got → ⊥

@@ -1,3 +1,4 @@
+pub mod Words
 pub mod Command
 pub mod Statuses
 pub mod Laws

@@ -1,6 +1,6 @@
-//! Runs scripts: reads the words and the script, carries it out, and writes its report.
+//! Runs scripts: reads the words, the script and the image, carries it out, puts the image and writes the report.
 //!
-//! [`run`] does all that the program does, over a source and a sink. [`serial`] carries a script out over an image,
+//! [`run`] does all that the program does, over a source, a sink and a folder. [`serial`] carries a script out over an image,
 //! one operation after the other. What both promise is a lawful run: the report and the image are those of a keyed
 //! disk that performs single data units in the orders that the report lists, and fails where the script plans it.
 //! [`serial_runs_agree`] is the law that there is one such report and one such image.
@@ -15,8 +15,10 @@
 #![tactic(auto)]
 
 // a run of the program, stage by stage
+mod image;
 mod program;
 mod status;
+mod words;
 
 // a section's operations, and what carries them out
 mod course;
@@ -35,7 +37,8 @@ mod ciphers;
 // the laws of runs
 mod laws;
 
-pub use laws::serial_runs_agree;
+pub use image::MAX_IMAGE;
+pub use laws::{serial_runs_agree, words_by_example};
 pub use one_caller::{Finished, serial};
 pub use program::run;
 pub use status::Status;

@@ -1,50 +1,71 @@
 //! A run, from its words to its report, stage by stage.
 
-ghost use Rattle.std.specs.Prelude.{◌≡◌, ◌≢◌, ◌↔◌, ◌⊎◌, ◌*◌, ◌≤◌, ◌<◌, [], ◌∷◌, codes, map, length, replicate, IfSome, IsOk, IfOk, IfErr, OnOk, MatchResult, Ok, Err};
+ghost use Rattle.std.specs.Prelude.{◌≡◌, ◌≢◌, ◌⊎◌, ◌≤◌, ◌<◌, map, codes, length, is_some, false, IfSome, IsOk, IfOk, IfErr, OnOk, Ok, Err, None};
 ghost use Rattle.std.specs.String.{string_bytes};
 ghost use Rattle.std.specs.Io.KnownBytes.{Consumes, Appends, IsAtEnd, Keeps};
 ghost use Rattle.bc_base.specs.Outside.{Rose, HasCause, AppendsPrefix};
-ghost use Rattle.bc_script.specs.ScriptText.{Says, NoScriptHas};
+ghost use Rattle.bc_base.specs.Folders.{HasSame};
+ghost use Rattle.bc_script.specs.ScriptText.{Says};
 ghost use Rattle.bc_report.specs.ReportText.{report_text};
+ghost use Rattle.bc_report.specs.LawfulRun.{LawfulRun};
+ghost use Rattle.bc_report.specs.SerialRun.{IsSerial};
 ghost use Rattle.bc_script.specs.declared.limits.TheConstants.{MAX_TEXT};
-ghost use Rattle.bc_run.specs.Command.{IsCommand, IsTextOf, IsReportOf, zeros_for};
-ghost use Rattle.bc_run.specs.Statuses.{EndsBy};
-ghost use Rattle.bc_run.specs.Stages.{status_of, IsNotRead};
+ghost use Rattle.bc_run.specs.Words.{Begins, IsCommand, IsShardCount, options_of};
+ghost use Rattle.bc_run.specs.Command.{HasImageFor, IsTextOf, bytes_of_disk};
+ghost use Rattle.bc_run.specs.Statuses.{ChangesOnly, EndsBy, NamesFile, ScriptEndsBy};
+ghost use Rattle.bc_run.specs.Stages.{status_of, IsNotRead, said_by};
 ghost use Rattle.bc_script.specs.Script as specs;
 
-use crate::one_caller::serial;
+use crate::image::{opening_image, put_image};
+use crate::one_caller::{Finished, serial};
 use crate::status::Status;
-use bc_base::{BLOCK_BYTES, ReadError, Sink, Source, read_all, write_all};
+use crate::words::{Options, options_of_words};
+use bc_base::{Folder, ReadError, Sink, Source, read_all, write_all};
 use bc_report::{Report, print};
 use bc_script::limits::MAX_TEXT;
-use bc_script::{ParseError, Script, parse};
+use bc_script::{ParseError, Script, no_proper_prefix, parse};
 use std::alloc::{AllocError, Global};
 
 /// Runs the command that the words say, and returns how that ended. The words are those after the program's name.
 ///
-/// The command `serial` reads a script from `script` to its end, at most 16 MiB, carries it out over an image of zeros
-/// with one shard (see [`serial`]), and writes the text of its report to `out` (see [`print`](bc_report::print)). Nothing is written before
-/// the whole report stands. `folder` and `gate` aren't used by this command; the folder stays as it was.
+/// The first word is the command, `serial`; the others are read by clap as its options, `--image NAME`, `--out NAME` and
+/// `--shards N` with N in 1 to 64. The stages follow one another, and the first that refuses ends the run:
+///
+/// 1. The words are read.
+/// 2. The script is read from `script` to its end, at most 16 MiB.
+/// 3. It is parsed.
+/// 4. The image is got from `folder` under the name of `--image`, at most 64 MiB, and has to have 4096 bytes for each
+///    block of the script's disk. Without `--image` it is zeros, and no name is got.
+/// 5. The script is carried out over the image with the shards of `--shards`, else one (see [`serial`]).
+/// 6. The text of the report is made (see [`print`](bc_report::print)).
+/// 7. The image that is left is put under the name of `--out`. Without it no name is put.
+/// 8. The report is written to `out`.
+///
+/// Nothing is written before the image is put, and nothing is put before the whole report stands. `gate` isn't used by
+/// this command.
 ///
 /// # Errors
 ///
-/// In the order of the stages, and the first that applies ends the run:
-///
-/// - [`Status::Usage`]: the words are no command.
+/// - [`Status::Usage`]: the first word is no command, or clap refuses the others.
 /// - [`Status::ReadFault`]: the source failed, and its count of faults rose.
-/// - [`Status::TooLong`]: the source had more than 16 MiB.
+/// - [`Status::TooLong`]: the source had more than 16 MiB, or the image has more than 64 MiB.
 /// - [`Status::BadScript`]: no script has the text; the line and the test that it fails first.
-/// - [`Status::WriteFault`]: the sink failed, and its count of faults rose. It holds a prefix of the report.
+/// - [`Status::FolderFault`]: the folder failed, and its count of faults rose. Where the image was being put, anything may
+///   stand under the name of `--out`.
+/// - [`Status::Missing`]: the folder doesn't have the image.
+/// - [`Status::ImageLength`]: the image has another length than the script's disk.
+/// - [`Status::WriteFault`]: the sink failed, and its count of faults rose. It holds a prefix of the report, and the image
+///   is put.
 ///
-/// [`Status::NoMemory`] can come at each stage but the first and the last. After it, and after each other status but
-/// `Ok` and `WriteFault`, nothing has been written.
-pub fn run<Rt, S: Source, K: Sink, F, G>(
+/// [`Status::NoMemory`] can come at each stage but the last. After it, and after each other status but `Ok`, `WriteFault`
+/// and `FolderFault`, no name has changed; after each but `Ok` and `WriteFault`, nothing has been written.
+pub fn run<Rt, S: Source, K: Sink, F: Folder, G>(
     _rt: &Rt,
     alloc: Global,
     words: &[String],
     script: &mut S,
     out: &mut K,
-    _folder: &mut F,
+    folder: &mut F,
     _gate: &G,
 ) -> Status
     // Why it ended so.
@@ -53,78 +74,133 @@ pub fn run<Rt, S: Source, K: Sink, F, G>(
       text = S.left script.old;
       read_faults_before = S.faults script.old;
       read_faults_after = S.faults script.new;
-      write_faults_before = K.faults out.old;
-      write_faults_after = K.faults out.new;
-      held_before = K.held out.old;
-      held_after = K.held out.new;
+      effects = record {
+        files_before = F.files folder.old;
+        files_after = F.files folder.new;
+        folder_faults_before = F.faults folder.old;
+        folder_faults_after = F.faults folder.new;
+        write_faults_before = K.faults out.old;
+        write_faults_after = K.faults out.new;
+        held_before = K.held out.old;
+        held_after = K.held out.new;
+      };
     }) result }
-    ensures usage { result ≡ Status.Usage ↔ (IsCommand (map string_bytes words.now) → ⊥) }
+    ensures usage { (IsCommand (map string_bytes words.now) → ⊥)
+        → (result ≡ Status.Usage) ⊎ ((result ≡ Status.NoMemory) × Begins (codes "serial") (map string_bytes words.now)) }
     ensures end { result ≡ Status.Ok → IsAtEnd (S.left script.new) }
     ensures untouched { result ≢ Status.Ok → result ≢ Status.WriteFault
         → Keeps (K.held out.old) (K.held out.new) }
-    ensures folder { _folder.new ≡ _folder.old }
+    ensures same { result ≢ Status.Ok → result ≢ Status.WriteFault → result ≢ Status.FolderFault
+        → HasSame (F.files folder.old) (F.files folder.new) }
+    ensures changes { ChangesOnly (options_of (map string_bytes words.now)).out
+        (F.files folder.old) (F.files folder.new) }
+    ensures unused { (NamesFile (options_of (map string_bytes words.now)) → ⊥) → folder.new ≡ folder.old }
     ensures read_cause { HasCause (S.faults script.old) (S.faults script.new)
         (result ≡ Status.ReadFault) }
+    ensures folder_cause { HasCause (F.faults folder.old) (F.faults folder.new)
+        (result ≡ Status.FolderFault) }
     ensures write_cause { HasCause (K.faults out.old) (K.faults out.new)
         (result ≡ Status.WriteFault) }
 
-    // A script within the limit is carried out, unless a count of faults rose or memory ran out.
+    // A script within the limit is carried out over zeros or the image that the folder has, unless a count of faults rose or
+    // memory ran out.
     ensures complete { IsCommand (map string_bytes words.now)
         → IfSome (S.left script.old) (λ text. (asked : specs.Script) → IsTextOf text asked
+        → HasImageFor (F.files folder.old) (options_of (map string_bytes words.now)).image asked
         → (Rose (S.faults script.old) (S.faults script.new) → ⊥)
+        → (Rose (F.faults folder.old) (F.faults folder.new) → ⊥)
         → (Rose (K.faults out.old) (K.faults out.new) → ⊥)
         → (result ≡ Status.Ok) ⊎ (result ≡ Status.NoMemory)) }
 {
-    match stages(alloc, words, script, out) {
+    no_proper_prefix();
+    match stages(alloc, words, script, out, folder) {
         Ok(()) => Status::Ok,
         Err(status) => status,
     }
 }
 
 /// The stages, in their order; the first that refuses ends the run. An `Err` is never `Ok`'s status.
-fn stages<S: Source, K: Sink>(
+fn stages<S: Source, K: Sink, F: Folder>(
     alloc: Global,
     words: &[String],
     source: &mut S,
     out: &mut K,
+    folder: &mut F,
 ) -> Result<(), Status>
     ensures status { EndsBy (record {
       words = map string_bytes words.now;
       text = S.left source.old;
       read_faults_before = S.faults source.old;
       read_faults_after = S.faults source.new;
+      effects = record {
+        files_before = F.files folder.old;
+        files_after = F.files folder.new;
+        folder_faults_before = F.faults folder.old;
+        folder_faults_after = F.faults folder.new;
+        write_faults_before = K.faults out.old;
+        write_faults_after = K.faults out.new;
+        held_before = K.held out.old;
+        held_after = K.held out.new;
+      };
+    }) (status_of result) }
+    ensures not_ok { IfErr result (λ status. status ≢ Status.Ok) }
+    ensures end { OnOk result (IsAtEnd (S.left source.new)) }
+    ensures untouched { IfErr result (λ status. status ≢ Status.WriteFault
+        → Keeps (K.held out.old) (K.held out.new)) }
+    ensures same { IfErr result (λ status. status ≢ Status.WriteFault → status ≢ Status.FolderFault
+        → HasSame (F.files folder.old) (F.files folder.new)) }
+    ensures changes { ChangesOnly (options_of (map string_bytes words.now)).out
+        (F.files folder.old) (F.files folder.new) }
+    ensures unused { (NamesFile (options_of (map string_bytes words.now)) → ⊥) → folder.new ≡ folder.old }
+    ensures read_cause { HasCause (S.faults source.old) (S.faults source.new)
+        (result ≡ Err Status.ReadFault) }
+    ensures folder_cause { HasCause (F.faults folder.old) (F.faults folder.new)
+        (result ≡ Err Status.FolderFault) }
+    ensures write_cause { HasCause (K.faults out.old) (K.faults out.new)
+        (result ≡ Err Status.WriteFault) }
+{
+    let options = options_of_words(alloc, words)?;
+    let text = read_script(alloc, source)?;
+    let script = script_of_text(alloc, &text)?;
+    run_script(alloc, &script, options, out, folder)
+}
+
+/// The stages that follow the script's parsing.
+fn run_script<K: Sink, F: Folder>(
+    alloc: Global,
+    script: &Script,
+    options: Options<'_>,
+    out: &mut K,
+    folder: &mut F,
+) -> Result<(), Status>
+    requires shards { IsShardCount options.shards }
+    ensures status { ScriptEndsBy (record {
+      files_before = F.files folder.old;
+      files_after = F.files folder.new;
+      folder_faults_before = F.faults folder.old;
+      folder_faults_after = F.faults folder.new;
       write_faults_before = K.faults out.old;
       write_faults_after = K.faults out.new;
       held_before = K.held out.old;
       held_after = K.held out.new;
-    }) (status_of result) }
+    }) (said_by options.entry) script.now (status_of result) }
     ensures not_ok { IfErr result (λ status. status ≢ Status.Ok) }
-    ensures usage { (IsCommand (map string_bytes words.now) → ⊥) → result ≡ Err Status.Usage }
-    ensures end { OnOk result (IsAtEnd (S.left source.new)) }
     ensures untouched { IfErr result (λ status. status ≢ Status.WriteFault
         → Keeps (K.held out.old) (K.held out.new)) }
-    ensures read_cause { HasCause (S.faults source.old) (S.faults source.new)
-        (result ≡ Err Status.ReadFault) }
+    ensures same { IfErr result (λ status. status ≢ Status.WriteFault → status ≢ Status.FolderFault
+        → HasSame (F.files folder.old) (F.files folder.new)) }
+    ensures changes { ChangesOnly (said_by options.entry).out (F.files folder.old) (F.files folder.new) }
+    ensures unused { (NamesFile (said_by options.entry) → ⊥) → folder.new ≡ folder.old }
+    ensures folder_cause { HasCause (F.faults folder.old) (F.faults folder.new)
+        (result ≡ Err Status.FolderFault) }
     ensures write_cause { HasCause (K.faults out.old) (K.faults out.new)
         (result ≡ Err Status.WriteFault) }
 {
-    command(words)?;
-    let text = read_script(alloc, source)?;
-    let script = script_of_text(alloc, &text)?;
-    let report = report_over_zeros(alloc, &script)?;
-    let text = text_of_report(alloc, &report)?;
+    let image = opening_image(alloc, folder, options.image, script)?;
+    let finished = carry_out(alloc, script, image, options.shards)?;
+    let text = text_of_report(alloc, &finished.report)?;
+    put_image(folder, options.out, &finished.image)?;
     write_text(out, &text)
-}
-
-/// The words are the command.
-fn command(words: &[String]) -> Result<(), Status>
-    ensures ok { IsOk result ↔ (map string_bytes words.now ≡ codes "serial" ∷ []) }
-    ensures usage { IfErr result (λ e. e ≡ Status.Usage) }
-{
-    match words {
-        [word] if word.as_str() == "serial" => Ok(()),
-        _ => Err(Status::Usage),
-    }
 }
 
 /// The text of the script: all that is left in the source.
@@ -159,31 +235,24 @@ fn script_of_text(alloc: Global, text: &[u8]) -> Result<Script, Status>
     }
 }
 
-/// The report of the script, which is carried out over zeros with one shard.
-fn report_over_zeros(alloc: Global, script: &Script) -> Result<Report, Status>
-    ensures ok { IfOk result (IsReportOf script.now) }
+/// Carries the script out over the image, with so many shards.
+fn carry_out(
+    alloc: Global,
+    script: &Script,
+    image: Vec<u8>,
+    shards: u16,
+) -> Result<Finished, Status>
+    requires length { length image.items ≡ bytes_of_disk script.now }
+    requires shards { IsShardCount shards }
+    ensures lawful { IfOk result (λ finished.
+        LawfulRun script.now image.items shards finished.report finished.image.items) }
+    ensures serial { IfOk result (λ finished. IsSerial script.now finished.report) }
     ensures memory { IfErr result (λ e. e ≡ Status.NoMemory) }
 {
-    match carry_out_over_zeros(alloc, script) {
-        Ok(report) => Ok(report),
+    match serial(alloc, script, image, shards) {
+        Ok(finished) => Ok(finished),
         Err(AllocError) => Err(Status::NoMemory),
     }
-}
-
-fn carry_out_over_zeros(alloc: Global, script: &Script) -> Result<Report, AllocError>
-    ensures { IfOk result (IsReportOf script.now) }
-{
-    let image = zeros(alloc, script)?;
-    let finished = serial(alloc, script, image, 1)?;
-    Ok(finished.report)
-}
-
-/// An image of zeros, as long as the script's disk.
-fn zeros(alloc: Global, script: &Script) -> Result<Vec<u8>, AllocError>
-    ensures { IfOk result (λ image. image.items ≡ zeros_for script.now) }
-{
-    let length = BLOCK_BYTES * script.blocks() as usize;
-    Ok(vec![in alloc; 0; length]?)
 }
 
 /// The text of the report.

@@ -13,7 +13,7 @@ pub enum Status {
     /// The report is written.
     #[error("")]
     Ok,
-    /// The words are no command.
+    /// The words are no command, or clap refuses those after it.
     #[error("bad command line")]
     Usage,
     /// The text is no script's.
@@ -25,12 +25,21 @@ pub enum Status {
     /// The sink failed. It holds a prefix of the report.
     #[error("writing failed")]
     WriteFault,
-    /// The source had more bytes than the limit.
+    /// The folder failed.
+    #[error("folder failed")]
+    FolderFault,
+    /// The image has another number of bytes than the script's disk.
+    #[error("image has {got} bytes, script asks for {want}")]
+    ImageLength { want: u64, got: u64 },
+    /// The source or the image had more bytes than the limit.
     #[error("input longer than {limit} bytes")]
     TooLong { limit: u64 },
     /// Memory ran out.
     #[error("no memory")]
     NoMemory,
+    /// The folder doesn't have the image.
+    #[error("no such file")]
+    Missing,
 }
 
 impl Status {
@@ -44,8 +53,11 @@ impl Status {
             Status::BadScript(_) => 2,
             Status::ReadFault => 3,
             Status::WriteFault => 4,
+            Status::FolderFault => 5,
+            Status::ImageLength { .. } => 6,
             Status::TooLong { .. } => 7,
             Status::NoMemory => 9,
+            Status::Missing => 10,
         }
     }
 }

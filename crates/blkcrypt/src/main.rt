@@ -1,15 +1,17 @@
 //! blkcrypt: carries out a script of requests to an encrypted disk and writes a report of what each was answered.
 //!
 //! The command is read from the program's words, the script from standard input, and the report is written to
-//! standard output. Where a run ends without its whole report, one line on standard error says why, and the process
-//! ends with the number of that status.
+//! standard output; an image is got from a file and put into one. Where a run ends without its whole report, one line on
+//! standard error says why, and the process ends with the number of that status.
 #![tactic(auto)]
 
+mod dir_folder;
 mod std_sink;
 mod std_source;
 mod words;
 
 use bc_run::{Status, run};
+use dir_folder::DirFolder;
 use std::process::ExitCode;
 use std_sink::StdSink;
 use std_source::StdSource;
@@ -26,9 +28,18 @@ fn main(rt: HostRuntime) -> ExitCode {
     ExitCode::from(status.code())
 }
 
-/// Runs the words over standard input and output.
+/// Runs the words over standard input and output, and the files of the system.
 fn run_over_streams(rt: &HostRuntime, words: &[String]) -> Status {
     let mut script = StdSource::new(rt.stdin());
     let mut out = StdSink::new(rt.stdout());
-    run(rt, rt.alloc(), words, &mut script, &mut out, &mut (), &())
+    let mut folder = DirFolder::new(rt);
+    run(
+        rt,
+        rt.alloc(),
+        words,
+        &mut script,
+        &mut out,
+        &mut folder,
+        &(),
+    )
 }

@@ -1,27 +1,27 @@
-//! Standard input as a source.
+//! Standard input or a file as a source.
 
 ghost use Rattle.std.specs.Prelude.{◌≡◌};
 
 use bc_base::{Failed, Source};
-use std::io::{Read, Stdin};
+use std::io::Read;
 
-/// Standard input, with a count of its faults. It says no bytes: what a stream holds is nowhere stated.
+/// What the system reads from, with a count of its faults. It says no bytes: what a stream holds is nowhere stated.
 #[derive(Drop)]
-pub struct StdSource {
-    input: Stdin,
+pub struct StdSource<R> {
+    input: R,
     faults: u64,
 }
 
-impl StdSource {
-    /// Standard input, without a fault so far.
-    pub fn new(input: Stdin) -> StdSource
+impl<R: Read> StdSource<R> {
+    /// What is read from `input`, without a fault so far.
+    pub fn new(input: R) -> StdSource<R>
         ensures { result.faults ≡ 0 }
     {
         StdSource { input, faults: 0 }
     }
 }
 
-impl Source for StdSource {
+impl<R: Read> Source for StdSource<R> {
     ghost use Rattle.std.specs.Prelude.{None};
 
     ghost left = { λ _. None };

@@ -1,24 +1,29 @@
 //! The whole program over memory.
-ghost use Rattle.std.specs.Prelude.{◌≡◌, IfOk};
-ghost use Rattle.bc_run.specs.Command.{IsCarriedOut};
+ghost use Rattle.std.specs.Prelude.{◌≡◌, ◌∷◌, [], IfOk, Some, None, codes, map};
+ghost use Rattle.bc_base.specs.Folders.{bytes_of};
+ghost use Rattle.std.specs.String.{string_bytes};
+ghost use Rattle.bc_run.specs.Command.{IsCarriedOut, IsScriptAnd};
 
 use bc_base::{MemFolder, MemSink, MemSource};
-use bc_run::{Status, run};
+use bc_run::{Status, run, words_by_example};
 use std::alloc::{AllocError, Global};
 
 /// What the script's report may have at most, in bytes.
 const ROOM: usize = 1 << 20;
 
 /// The words of the command.
-fn serial_words(alloc: Global) -> Result<Vec<String>, AllocError> {
+fn serial_words(alloc: Global) -> Result<Vec<String>, AllocError>
+    ensures { IfOk result (λ words. map string_bytes words.items ≡ codes "serial" ∷ []) }
+{
     let mut words = Vec::new(alloc);
     words.push(String::from_str(alloc, "serial")?)?;
     Ok(words)
 }
 
-/// Carries out the script that a text says. The sink holds the report.
+/// Carries out the script that a text says, over zeros. The sink holds the report.
 pub fn report_of<Rt>(rt: &Rt, alloc: Global, text: Vec<u8>) -> Result<MemSink, Status>
-    ensures { IfOk result (λ sink. IsCarriedOut (λ report. sink.held ≡ report) text.items) }
+    ensures { IfOk result (λ sink. IsScriptAnd (IsCarriedOut (λ report left. sink.held ≡ report)
+        (Some (bytes_of [])) (record { image = None; out = None; shards = 1 })) (Some text.items)) }
 {
     let Ok(words) = serial_words(alloc) else {
         return Err(Status::NoMemory);
@@ -28,6 +33,7 @@ pub fn report_of<Rt>(rt: &Rt, alloc: Global, text: Vec<u8>) -> Result<MemSink, S
         return Err(Status::NoMemory);
     };
     let mut folder = MemFolder::new(alloc, Vec::new(alloc));
+    words_by_example();
     match run(rt, alloc, &words, &mut script, &mut out, &mut folder, &()) {
         Status::Ok => Ok(out),
         status => Err(status),

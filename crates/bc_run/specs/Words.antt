@@ -1,0 +1,61 @@
+-- The words of a command as `clap` reads them: the simple command that stands for `serial`, which words it takes, and the
+-- values that its options have then.
+use Rattle.std.specs.Prelude.{◌≡◌, ◌≤◌, ℕ, List, [], Option, Some, codes, slice_get}
+use Rattle.std.specs.Option.{option_map_or}
+use Rattle.std.specs.Str.Parse.{IsNumeral, digits_value, without_leading_plus}
+use Rattle.clap.specs.Words.{App, Rule, fault_of, first_of, matches_of, new_app, new_rule, with_rule}
+use Rattle.clap.specs.declared.builder.value_parser.ValueParser.TheVariants.{Unsigned}
+
+-- an option `--name` with one value
+abbrev pub option_rule : List ℕ → Rule
+option_rule name = record (new_rule name) { long = Some name }
+
+-- the same, whose value is a number in this range
+abbrev pub number_rule : List ℕ → ℕ → ℕ → Rule
+number_rule name least most = record (option_rule name) { parser = Some (Unsigned least most) }
+
+-- `serial [--image NAME] [--out NAME] [--shards N]` with N in 1..=64
+abbrev pub serial_command : App
+serial_command =
+    with_rule (with_rule (with_rule (new_app (codes "serial")) (number_rule (codes "shards") 1 64))
+    (option_rule (codes "image"))) (option_rule (codes "out"))
+
+-- the first word is this one
+abbrev pub Begins : List ℕ → List (List ℕ) → Type 0
+Begins word words = slice_get words 0 ≡ Some word
+
+-- the words are valid: the first is the command, and clap finds no fault in the others
+pub record IsCommand (words : List (List ℕ)) : Type 0 where
+  pub named : Begins (codes "serial") words
+  pub taken : fault_of serial_command words ≡ []
+
+-- what the options of `serial` say: where the image comes from, where it goes to, and over how many shards
+pub record Options : Type 0 where
+  pub image : Option (List ℕ)
+  pub out : Option (List ℕ)
+  pub shards : ℕ
+
+-- the number that a value writes
+abbrev pub number_of : List ℕ → ℕ
+number_of value = digits_value 10 (without_leading_plus value)
+
+-- the value of an option, where the words have it
+abbrev pub value_of : List ℕ → List (List ℕ) → Option (List ℕ)
+value_of name words = first_of name (matches_of serial_command words)
+
+-- the options of valid words: without them an image of zeros, which goes nowhere, over one shard
+abbrev pub options_of : List (List ℕ) → Options
+options_of words = record {
+  image = value_of (codes "image") words;
+  out = value_of (codes "out") words;
+  shards = option_map_or number_of (value_of (codes "shards") words) 1;
+}
+
+-- the value is a number within this range, as clap reads a number
+abbrev pub IsNumberIn : ℕ → ℕ → List ℕ → Type 0
+IsNumberIn least most value =
+    IsNumeral 10 (without_leading_plus value) × (least ≤ number_of value) × (number_of value ≤ most)
+
+-- a number of shards that a run may have
+abbrev pub IsShardCount : ℕ → Type 0
+IsShardCount n = (1 ≤ n) × (n ≤ 64)
