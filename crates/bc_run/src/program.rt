@@ -8,6 +8,7 @@ ghost use Rattle.bc_base.specs.Folders.{HasSame};
 ghost use Rattle.bc_script.specs.ScriptText.{Says};
 ghost use Rattle.bc_report.specs.ReportText.{report_text};
 ghost use Rattle.bc_report.specs.LawfulRun.{LawfulRun};
+ghost use Rattle.bc_report.specs.RunOf.{run_of};
 ghost use Rattle.bc_report.specs.SerialRun.{IsSerial};
 ghost use Rattle.bc_script.specs.declared.limits.TheConstants.{MAX_TEXT};
 ghost use Rattle.bc_run.specs.Words.{Begins, IsCommand, IsShardCount, options_of};
@@ -246,7 +247,8 @@ fn carry_out(
     requires shards { IsShardCount shards }
     ensures lawful { IfOk result (λ finished.
         LawfulRun script.now image.items shards finished.report finished.image.items) }
-    ensures serial { IfOk result (λ finished. IsSerial script.now finished.report) }
+    ensures serial { IfOk result (λ finished.
+        IsSerial script.now (run_of script.now image.items finished.report) finished.report) }
     ensures memory { IfErr result (λ e. e ≡ Status.NoMemory) }
 {
     match serial(alloc, script, image, shards) {
