@@ -694,3 +694,21 @@ def device_texts(dice):
     yield from ((name, text, True) for name, text in device_shapes(dice))
     yield from ((f"valid, with devices {turn}", a_script_with_devices(dice), True) for turn in range(700))
     yield from ((name, text, None) for name, text in broken_with_devices(dice))
+
+
+def a_script_of_threads(dice):
+    """A valid script of 2 to 16 sections that fight for a few slots, blocks and keys."""
+    devices, blocks = [], 0
+    for _ in range(dice.choice([1, 1, 2, 3])):
+        count = dice.choice([1, 1, 2])
+        devices.append(f"device {blocks} {count} {dice.choice([1, 1, 2, 3, 4])} 15 15 8")
+        blocks += count
+    keys = [key_for_devices(dice, name) for name in "abcdef"[:dice.choice([1, 2, 3, 4, 6])]]
+    bios = [Bio(dice, keys, blocks) for _ in range(3)]
+    sections = [section_over_devices(dice, keys, bios, len(devices), blocks)[:60] for _ in range(dice.choice([2, 2, 3, 4, 16]))]
+    for section in sections:
+        if section.count("plug") > section.count("unplug"):
+            section.append("unplug")
+    lines = [line for section in sections for line in section]
+    return text_of(["blkcrypt 1", f"disk {blocks}", f"fallback {dice.choice(['on', 'off'])}", *devices,
+                    *(key.line(dice) for key in keys), *some_faults(dice, lines), *lines, "end"])

@@ -7,7 +7,7 @@ the model's, byte by byte. The program runs over one shard. The model runs over 
 the cases and against its own ones over one shard. Without PROGRAM all this is done with the model alone.
 
 Scripts with devices are compared where the program knows them (DEVICES in script_model.py). Until then it refuses them as not
-built, and they are given to the model alone.
+built, and they are given to the model alone. The judge of reports (judge.py) must find each run of the model lawful.
 """
 import collections
 import dataclasses
@@ -17,7 +17,8 @@ import sys
 
 import script_cases
 import script_texts
-from script_model import DEVICES, Script, modelled, read_script, report_of
+from judge import judged
+from script_model import DEVICES, SECTOR, Script, modelled, read_script, report_of, run_of
 
 KINDS = ["end", "word", "number", "name", "hex", "key", "order", "limit"]
 ANSWERS = ["done", "done fill", "done sha256", "fault 0", "fault 1", "fault 255", "refused empty", "refused misaligned",
@@ -29,6 +30,8 @@ EVENTS = ["program", "idle", "evict", "reset"]
 WITH_DEVICES = ["end", "word", "number", "name", "hex", "key", "order", "limit", "device", "done", "done fill", "done sha256",
                 "fault 0", "fault 1", "refused empty", "refused misaligned", "refused outside", "refused dun",
                 "refused unsupported", "evicted", "plug", "unplug", *EVENTS]
+# Runs of more bytes of script aren't given to the judge, which takes its time.
+MOST_JUDGED = 65536
 
 
 def texts(dice):
@@ -90,6 +93,16 @@ def alike(text, shards, devices):
     return parted(one) == (head, [[entry for *_, entry, _ in accesses]], journals)
 
 
+def unlawful(text, shards, image):
+    """What the judge finds wrong with the model's run from an image of zeros, or from one of other bytes; or nothing."""
+    script = read_script(text, True)
+    if not isinstance(script, Script):
+        return None
+    before = image(8 * SECTOR * script.blocks)
+    report, after = run_of(script, shards, before)
+    return next(iter(judged(script, before, after, report, shards).items()), None)
+
+
 def fail(message):
     print(f"serial_model: {message}")
     return 1
@@ -107,6 +120,11 @@ def compared(program, dice, source, devices):
         shards = 2 + count % 63
         if len(text) < 65536 and not alike(text, shards, devices):
             return f"the model runs {name!r} otherwise over {shards} shards\nscript: {shown(text)}"
+        if devices and len(text) <= MOST_JUDGED:
+            image = bytes if count % 2 else dice.randbytes
+            wrong = unlawful(text, [1, shards][count // 2 % 2], image)
+            if wrong:
+                return f"the judge finds the model's run of {name!r} unlawful: {': '.join(wrong)}\nscript: {shown(text)}"
         found = ran(program, text) if program else wanted
         if found != wanted:
             parts = [
