@@ -407,7 +407,6 @@ DEVICES_REFUSED = [
     ("a reset that is one operation too many", one_device(1, [H512], *["reset 0"] * 65537), 65543, "limit"),
 ]
 
-EACH_INLINE = ["device 0 1 1 15 15 8"]
 CUT_TWICE = ["device 0 1 2 1 0 8", "device 1 1 1 1 0 8", "device 2 2 3 1 0 8"]
 
 
