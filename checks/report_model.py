@@ -229,4 +229,5 @@ def main():
     print(f"report_texts: {len(shown)} examples, {count} reports and {4 * count + 256} broken ones as expected")
 
 
-main()
+if __name__ == "__main__":
+    main()

@@ -1,7 +1,10 @@
 """Texts whose answer is worked out by hand from the rules of docs/SCRIPT.md, among them the examples of errors that stand
-there: the model is held against them first, and the program with all the others."""
+there: the model is held against them first, and the program with all the others. The cases with devices are worked out from
+the rules of scripts, of carrying out and of reports; the program gets them where it knows devices."""
 import pathlib
 import re
+
+from script_model import DEVICES
 
 K1 = bytes(range(64)).hex()
 K2 = bytes(range(64, 128)).hex()
@@ -62,7 +65,6 @@ REFUSED = [
     ("a disk too large", text_of(["blkcrypt 1", "disk 16385", "fallback on", "end"]), 2, "number"),
     ("a carriage return", headed().replace(b"\n", b"\r\n"), 1, "word"),
     ("a carriage return behind a number", text_of(["blkcrypt 1", "disk 1\r", "fallback on", "end"]), 2, "number"),
-    ("fallback off", text_of(["blkcrypt 1", "disk 1", "fallback off", "end"]), 3, "not built"),
     ("fallback of another word", text_of(["blkcrypt 1", "disk 1", "fallback no", "end"]), 3, "word"),
     ("fallback off as line 2", text_of(["blkcrypt 1", "fallback off", "disk 1", "end"]), 2, "word"),
     ("a second version line", headed("blkcrypt 1"), 4, "word"),
@@ -70,10 +72,7 @@ REFUSED = [
     ("a second fallback line", headed("fallback on"), 4, "word"),
     ("a late fallback off", headed("fallback off"), 4, "word"),
     ("no fallback line", text_of(["blkcrypt 1", "disk 1", "end"]), 3, "word"),
-    # what isn't built
-    ("a device", headed("device 0 1 1 1 0 8", H512), 4, "not built"),
-    ("a device with other fields", headed("device x"), 4, "not built"),
-    ("a device without fields", headed("device"), 4, "not built"),
+    # devices at other places
     ("a device behind a key", headed(H512, "device 0 1 1 1 0 8"), 5, "word"),
     ("a device in a section", ended("device 0 1 1 1 0 8"), 6, "word"),
     ("a device before the fallback line", text_of(["blkcrypt 1", "disk 1", "device 0 1 1 1 0 8"]), 3, "word"),
@@ -194,6 +193,14 @@ REFUSED = [
     ("sector before hex", ended("write a x 1 0 fill x"), 6, "number"),
     ("data unit number before hex", ended("write a 0 1 x fill x"), 6, "number"),
     ("the first of two wrong lines", ended("reset 0", "unplug"), 6, "number"),
+]
+
+# What a program without devices refuses: name, text, line and kind.
+NOT_BUILT = [
+    ("fallback off", text_of(["blkcrypt 1", "disk 1", "fallback off", "end"]), 3, "not built"),
+    ("a device", headed("device 0 1 1 1 0 8", H512), 4, "not built"),
+    ("a device with other fields", headed("device x"), 4, "not built"),
+    ("a device without fields", headed("device"), 4, "not built"),
 ]
 
 IN_A_PLUG = ["thread", "plug", "write a 0 2 0 fill 11", "write a 2 2 2 fill 22", "write a 4 1 4 fill 33", "unplug", "read - 2 1 -",
@@ -327,6 +334,229 @@ SHARDED = [
 ]
 
 
+# ---- devices
+
+C512 = f"key c aes-256-xts 512 8 {bytes(range(128, 192)).hex()}"
+ONE = "device 0 1 1 1 0 8"
+TWO = ["device 0 1 1 1 0 8", "device 1 1 1 1 0 8"]
+EIGHT = [f"device {place} 1 1 1 0 8" for place in range(8)]
+
+
+def with_devices(blocks, fallback, *lines):
+    return text_of(["blkcrypt 1", f"disk {blocks}", f"fallback {fallback}", *lines, "end"])
+
+
+def one_device(slots, keys, *operations):
+    """A disk of one block and a device of so many slots, without the fallback; and one section."""
+    return with_devices(1, "off", f"device 0 1 {slots} 1 0 8", *keys, "thread", *operations)
+
+
+def writes(*keys):
+    return [f"write {key} 0 1 0 fill 00" for key in keys]
+
+
+# name, text, line and kind
+DEVICES_REFUSED = [
+    ("a device that begins at block 16384", with_devices(1, "on", "device 16384 1 1 1 0 8"), 4, "number"),
+    ("a device of no blocks", with_devices(1, "on", "device 0 0 1 1 0 8"), 4, "number"),
+    ("a device of 16385 blocks", with_devices(1, "on", "device 0 16385 1 1 0 8"), 4, "number"),
+    ("a device without slots", with_devices(1, "on", "device 0 1 0 1 0 8"), 4, "number"),
+    ("a device of 33 slots", with_devices(1, "on", "device 0 1 33 1 0 8"), 4, "number"),
+    ("a mask of XTS that is 16", with_devices(1, "on", "device 0 1 1 16 0 8"), 4, "number"),
+    ("a mask of CBC-ESSIV that is 16", with_devices(1, "on", "device 0 1 1 0 16 8"), 4, "number"),
+    ("a device of no number bytes", with_devices(1, "on", "device 0 1 1 1 0 0"), 4, "number"),
+    ("a device of 9 number bytes", with_devices(1, "on", "device 0 1 1 1 0 9"), 4, "number"),
+    ("a device with a leading zero", with_devices(1, "on", "device 00 1 1 1 0 8"), 4, "number"),
+    ("a device with an empty field", with_devices(1, "on", "device 0 1  1 0 8"), 4, "number"),
+    ("a device with a mask in hexadecimal digits", with_devices(1, "on", "device 0 1 1 f 0 8"), 4, "number"),
+    ("a device with a field too few", with_devices(1, "on", "device 0 1 1 1 0"), 4, "word"),
+    ("a device with a field too many", with_devices(1, "on", "device 0 1 1 1 0 8 0"), 4, "word"),
+    ("a device with no fields", with_devices(1, "on", "device"), 4, "word"),
+    ("a device in capitals", with_devices(1, "on", "Device 0 1 1 1 0 8"), 4, "word"),
+    ("a first device that doesn't begin at block 0", with_devices(2, "on", "device 1 1 1 1 0 8"), 4, "device"),
+    ("a second device that begins where the first does", with_devices(2, "on", ONE, ONE), 5, "device"),
+    ("a second device behind a gap", with_devices(3, "on", ONE, "device 2 1 1 1 0 8"), 5, "device"),
+    ("a wrong beginning and a number out of range", with_devices(2, "on", "device 1 1 1 1 0 9"), 4, "number"),
+    ("devices that end before the disk, at a key", with_devices(2, "on", ONE, H512), 5, "device"),
+    ("devices that end before the disk, at a fault", with_devices(2, "on", ONE, "fault 0 0"), 5, "device"),
+    ("devices that end before the disk, at a section", with_devices(2, "on", ONE, "thread"), 5, "device"),
+    ("devices that end before the disk, at the end", with_devices(2, "on", ONE), 5, "device"),
+    ("devices that end behind the disk", with_devices(1, "on", "device 0 2 1 1 0 8", H512), 5, "device"),
+    ("two devices that end behind the disk", with_devices(1, "off", *TWO, H512), 6, "device"),
+    ("a sum that is wrong, and no further line", text_of(["blkcrypt 1", "disk 2", "fallback on", ONE]), 5, "end"),
+    ("a sum that is wrong, and a line without a line feed", text_of(["blkcrypt 1", "disk 2", "fallback on", ONE]) + b"end", 5, "end"),
+    ("a sum that is wrong, and another word", with_devices(2, "on", ONE, "keys"), 5, "word"),
+    ("a sum that is wrong, and a wrong name", with_devices(2, "on", ONE, H512.replace(" a ", " A ")), 5, "name"),
+    ("a sum that is wrong, and a wrong number", with_devices(2, "on", ONE, H512.replace(" 8 ", " x ")), 5, "number"),
+    ("a sum that is wrong, and half a byte", with_devices(2, "on", ONE, H512[:-1]), 5, "hex"),
+    ("a sum that is wrong, and a key of 63 bytes", with_devices(2, "on", ONE, H512[:-2]), 5, "key"),
+    ("a sum that is wrong, and a fault on shard 64", with_devices(2, "on", ONE, "fault 64 0"), 5, "number"),
+    ("a sum that is wrong, and an operation", with_devices(2, "on", ONE, "plug"), 5, "word"),
+    ("device 9", with_devices(9, "on", *EIGHT, "device 8 1 1 1 0 8"), 12, "limit"),
+    ("device 9 at a wrong place", with_devices(9, "on", *EIGHT, "device 9 1 1 1 0 8"), 12, "device"),
+    ("device 9 with a number out of range", with_devices(9, "on", *EIGHT, "device 9 1 1 1 0 9"), 12, "number"),
+    ("device 9 behind devices that have the disk", with_devices(8, "on", *EIGHT, "device 8 1 1 1 0 8"), 12, "limit"),
+    ("a device behind a key of devices", with_devices(2, "on", TWO[0], TWO[1], H512, "device 2 1 1 1 0 8"), 7, "word"),
+    ("a device in a section of devices", with_devices(1, "on", ONE, "thread", ONE), 6, "word"),
+    ("fallback off behind a device", with_devices(1, "on", ONE, "fallback off"), 5, "word"),
+    ("a reset of the device that the last one would be followed by", one_device(1, [H512], "reset 0", "reset 1"), 8, "number"),
+    ("a reset of device 8", with_devices(8, "on", *EIGHT, "thread", "reset 7", "reset 8"), 14, "number"),
+    ("a reset with a leading zero", one_device(1, [H512], "reset 00"), 7, "number"),
+    ("a reset without fallback and without a device", with_devices(1, "off", "thread", "reset 0"), 5, "number"),
+    ("a reset of two devices", one_device(1, [H512], "reset 0 0"), 7, "word"),
+    ("a reset that is one operation too many", one_device(1, [H512], *["reset 0"] * 65537), 65543, "limit"),
+]
+
+CUT_TWICE = ["device 0 1 2 1 0 8", "device 1 1 1 1 0 8", "device 2 2 3 1 0 8"]
+
+
+def plugged(count):
+    """So many bios in a plug, each of which runs on from the one before it."""
+    return ["plug", *(f"write a {place} 1 {place:x} fill 01" for place in range(count)), "unplug"]
+
+
+# name, shards, text, the report's lines; None stands for any digest
+DEVICES_REPORTED = [
+    ("reprogramming", 1, one_device(2, [H512, B512, C512], *writes("a", "b", "c", "a")),
+        ["report 1", "thread 0", *["done"] * 4, "shard 0 4", "0 0 0 inline 0 0 0", "0 1 0 inline 0 1 2", "0 2 0 inline 0 0 4",
+         "0 3 0 inline 0 1 6", "device 0 8", "program 0 0", "idle 0", "program 1 1", "idle 1", "program 0 2", "idle 0",
+         "program 1 0", "idle 1", "end"]),
+    ("the least recently idle slot", 1, one_device(2, [H512, B512, C512], *writes("a", "b", "a", "c")),
+        ["report 1", "thread 0", *["done"] * 4, "shard 0 4", "0 0 0 inline 0 0 0", "0 1 0 inline 0 1 2", "0 2 0 inline 0 0 0",
+         "0 3 0 inline 0 1 5", "device 0 7", "program 0 0", "idle 0", "program 1 1", "idle 1", "idle 0", "program 1 2", "idle 1",
+         "end"]),
+    ("a plug that merges", 1,
+        one_device(1, [H512], "plug", "write a 0 1 7 fill 01", "write a 1 1 8 fill 02", "unplug"),
+        ["report 1", "thread 0", "plug", "done", "done", "unplug", "shard 0 2", "0 1 0 inline 0 0 0", "0 2 0 inline 0 0 0",
+         "device 0 2", "program 0 0", "idle 0", "end"]),
+    ("a plug whose numbers don't run on", 1,
+        one_device(1, [H512], "plug", "write a 0 1 7 fill 01", "write a 1 1 9 fill 02", "unplug"),
+        ["report 1", "thread 0", "plug", "done", "done", "unplug", "shard 0 2", "0 1 0 inline 0 0 0", "0 2 0 inline 0 0 0",
+         "device 0 3", "program 0 0", "idle 0", "idle 0", "end"]),
+    ("two devices", 2, with_devices(2, "on", *TWO, H512, "thread", "write a 6 4 0 fill 07"),
+        ["report 1", "thread 0", "done", "shard 0 2", "0 0 0 inline 0 0 0", "0 0 1 inline 0 0 0", "shard 1 2",
+         "0 0 2 inline 1 0 0", "0 0 3 inline 1 0 0", "device 0 2", "program 0 0", "idle 0", "device 1 2", "program 0 0", "idle 0",
+         "end"]),
+    ("two devices, of which the second goes on with the number of its first unit", 1,
+        with_devices(2, "on", *TWO, H512, "thread", "write a 6 4 0 fill 07", "read a 8 1 2", "read a 8 1 0"),
+        ["report 1", "thread 0", "done", "done fill 07", None, "shard 0 6", "0 0 0 inline 0 0 0", "0 0 1 inline 0 0 0",
+         "0 0 2 inline 1 0 0", "0 0 3 inline 1 0 0", "0 1 0 inline 1 0 0", "0 2 0 inline 1 0 0", "device 0 2", "program 0 0",
+         "idle 0", "device 1 4", "program 0 0", "idle 0", "idle 0", "idle 0", "end"]),
+    ("a key that one of two devices doesn't know", 2, with_devices(
+        2, "on", "device 0 1 1 9 0 8", "device 1 1 1 8 0 8", H512, "thread", "write a 6 4 0 fill 07"),
+        ["report 1", "thread 0", "done", "shard 0 2", "0 0 0 soft", "0 0 1 soft", "shard 1 2", "0 0 2 soft", "0 0 3 soft",
+         "device 0 0", "device 1 0", "end"]),
+    ("a key that one of two devices doesn't know, without the fallback", 2, with_devices(
+        2, "off", "device 0 1 1 9 0 8", "device 1 1 1 8 0 8", H512, "thread", "write a 6 4 0 fill 07"),
+        ["report 1", "thread 0", "refused unsupported", "shard 0 0", "shard 1 0", "device 0 0", "device 1 0", "end"]),
+    ("evictions", 1, one_device(1, [H512, B512], *writes("a"), "evict a", "evict b"),
+        ["report 1", "thread 0", "done", "evicted", "evicted", "shard 0 1", "0 0 0 inline 0 0 0", "device 0 3", "program 0 0",
+         "idle 0", "evict 0 0", "end"]),
+    ("a reset", 1, one_device(1, [H512], *writes("a"), "reset 0", "read a 0 1 0"),
+        ["report 1", "thread 0", "done", "reset", "done fill 00", "shard 0 2", "0 0 0 inline 0 0 0", "0 2 0 inline 0 0 0",
+         "device 0 4", "program 0 0", "idle 0", "reset", "idle 0", "end"]),
+    ("a realistic script", 1, with_devices(
+        1024, "on", "device 0 1024 32 8 0 8", H4096, "thread", "write a 40 1 c00000005 fill 41", "read a 40 1 c00000005"),
+        ["report 1", "thread 0", "done", "done fill 41", "shard 0 2", "0 0 0 inline 0 0 0", "0 1 0 inline 0 0 0", "device 0 3",
+         "program 0 0", "idle 0", "idle 0", "end"]),
+    # beside these
+    ("fallback off and no device", 1, with_devices(1, "off", H512, "thread", "write a 0 1 0 fill 00", "write - 0 1 - fill 00",
+                                                   "read a 8 1 0", "evict a"),
+        ["report 1", "thread 0", "refused unsupported", "done", "refused outside", "evicted", "shard 0 1", "0 1 0 plain", "end"]),
+    ("fallback off and nothing else", 1, with_devices(1, "off"), ["report 1", "shard 0 0", "end"]),
+    ("devices and nothing else", 1, with_devices(2, "off", *TWO), ["report 1", "shard 0 0", "device 0 0", "device 1 0", "end"]),
+    ("a bio that is refused for another cause before it is unsupported", 1,
+        with_devices(1, "off", ONE, H4096, "thread", "read a 0 0 0", "read a 1 1 0", "read a 8 1 0", "read a 0 1 ffffffffffffffff",
+                     "read a 0 1 10000000000000000"),
+        ["report 1", "thread 0", "refused empty", "refused misaligned", "refused outside", "refused unsupported", "refused dun",
+         "shard 0 0", "device 0 0", "end"]),
+    ("number bytes that are more than the device has", 1,
+        with_devices(1, "on", "device 0 1 1 1 0 7", H512, "thread", "write a 0 1 0 fill 00", "evict a"),
+        ["report 1", "thread 0", "done", "evicted", "shard 0 1", "0 0 0 soft", "device 0 0", "end"]),
+    ("CBC-ESSIV beside XTS", 1,
+        with_devices(1, "on", "device 0 1 1 0 1 8", H512, ESSIV.replace(" 16 ", " 8 "), "thread", "write e 3 1 ff fill 5a",
+                     "read e 3 1 ff", "write a 0 1 0 fill 01"),
+        ["report 1", "thread 0", "done", "done fill 5a", "done", "shard 0 3", "0 0 0 inline 0 0 0", "0 1 0 inline 0 0 0",
+         "0 2 0 soft", "device 0 3", "program 0 1", "idle 0", "idle 0", "end"]),
+    ("an empty plug", 1, one_device(1, [H512], "plug", "unplug", "plug", "evict a", "reset 0", "unplug"),
+        ["report 1", "thread 0", "plug", "unplug", "plug", "evicted", "reset", "unplug", "shard 0 0", "device 0 1", "reset", "end"]),
+    ("64 bios in a plug", 1, with_devices(8, "off", "device 0 8 1 1 0 8", H512, "thread", *plugged(64)),
+        ["report 1", "thread 0", "plug", *["done"] * 64, "unplug", "shard 0 64",
+         *(f"0 {op} 0 inline 0 0 0" for op in range(1, 65)), "device 0 2", "program 0 0", "idle 0", "end"]),
+    ("65 bios in a plug", 1, with_devices(9, "off", "device 0 9 1 1 0 8", H512, "thread", *plugged(65)),
+        ["report 1", "thread 0", "plug", *["done"] * 65, "unplug", "shard 0 65",
+         *(f"0 {op} 0 inline 0 0 0" for op in range(1, 66)), "device 0 3", "program 0 0", "idle 0", "idle 0", "end"]),
+    ("64 bios in a plug and refused ones among them, which take no room", 1,
+        with_devices(8, "off", "device 0 8 1 1 0 8", H512, B512.replace(" 512 ", " 4096 "), "thread", "plug", "read a 0 0 0",
+                     *plugged(64)[1:33], "read b 0 1 0", *plugged(64)[33:]),
+        ["report 1", "thread 0", "plug", "refused empty", *["done"] * 32, "refused unsupported", *["done"] * 32, "unplug",
+         "shard 0 64", *(f"0 {op} 0 inline 0 0 0" for op in [*range(2, 34), *range(35, 67)]), "device 0 2", "program 0 0",
+         "idle 0", "end"]),
+    ("an eviction and a reset in a plug, each of which submits", 1,
+        one_device(1, [H512], "plug", "write a 0 1 0 fill 01", "evict a", "write a 1 1 1 fill 02", "reset 0", "write a 2 1 2 fill 03",
+                   "write a 3 1 3 fill 04", "unplug"),
+        ["report 1", "thread 0", "plug", "done", "evicted", "done", "reset", "done", "done", "unplug", "shard 0 4",
+         "0 1 0 inline 0 0 0", "0 3 0 inline 0 0 3", "0 5 0 inline 0 0 3", "0 6 0 inline 0 0 3", "device 0 7", "program 0 0",
+         "idle 0", "evict 0 0", "program 0 0", "idle 0", "reset", "idle 0", "end"]),
+    ("an eviction of a key that isn't inline, in a plug", 1,
+        one_device(1, [H512, B512.replace(" 512 ", " 4096 ")], "plug", "write a 0 1 0 fill 01", "evict b", "write a 1 1 1 fill 02",
+                   "unplug"),
+        ["report 1", "thread 0", "plug", "done", "evicted", "done", "unplug", "shard 0 2", "0 1 0 inline 0 0 0",
+         "0 3 0 inline 0 0 0", "device 0 3", "program 0 0", "idle 0", "idle 0", "end"]),
+    ("neighbours that aren't merged: other access, other key, a key of the same bytes, a plain bio between", 1,
+        one_device(4, [H512, H512.replace(" a ", " b ")], "plug", "write a 0 1 0 fill 01", "read a 1 1 1", "write a 1 1 1 fill 02",
+                   "write b 2 1 2 fill 03", "write - 3 1 - fill 04", "write b 3 1 3 fill 05", "write b 5 1 4 fill 06", "unplug"),
+        ["report 1", "thread 0", "plug", "done", None, "done", "done", "done", "done", "done", "unplug", "shard 0 7",
+         "0 1 0 inline 0 0 0", "0 2 0 inline 0 0 0", "0 3 0 inline 0 0 0", "0 4 0 inline 0 1 4", "0 5 0 plain",
+         "0 6 0 inline 0 1 4", "0 7 0 inline 0 1 4", "device 0 8", "program 0 0", "idle 0", "idle 0", "idle 0", "program 1 1",
+         "idle 1", "idle 1", "idle 1", "end"]),
+    ("a bio that is cut twice", 2,
+        with_devices(4, "off", *CUT_TWICE, H512, "thread", "write a 7 11 0 fill 05", "read a 7 11 0"),
+        ["report 1", "thread 0", "done", "done fill 05", "shard 0 6", "0 0 0 inline 0 0 0", "0 0 9 inline 2 0 0",
+         "0 0 10 inline 2 0 0", "0 1 0 inline 0 0 0", "0 1 9 inline 2 0 0", "0 1 10 inline 2 0 0", "shard 1 16",
+         *(f"0 {op} {unit} inline 1 0 0" for op in range(2) for unit in range(1, 9)),
+         *(line for device in range(3) for line in (f"device {device} 3", "program 0 0", "idle 0", "idle 0")), "end"]),
+    ("a request that is cut within its second bio and goes on past the border", 1,
+        with_devices(2, "off", *TWO, H512, "thread", "plug", "write a 4 2 4 fill 05", "write a 6 4 6 fill 06", "write a 10 1 a fill 07",
+                     "unplug", "read a 4 7 4"),
+        ["report 1", "thread 0", "plug", "done", "done", "done", "unplug", None, "shard 0 14",
+         "0 1 0 inline 0 0 0", "0 1 1 inline 0 0 0", "0 2 0 inline 0 0 0", "0 2 1 inline 0 0 0", "0 2 2 inline 1 0 0",
+         "0 2 3 inline 1 0 0", "0 3 0 inline 1 0 0", *(f"0 5 {unit} inline {unit // 4} 0 0" for unit in range(7)),
+         "device 0 3", "program 0 0", "idle 0", "idle 0", "device 1 3", "program 0 0", "idle 0", "idle 0", "end"]),
+    ("a piece whose units are all passed over behind a fault, and holds its slot", 1,
+        with_devices(2, "off", *TWO, H512, "fault 0 0", "thread", "write a 6 4 0 fill 07"),
+        ["report 1", "thread 0", "fault 0", "shard 0 1", "0 0 0 inline 0 0 0", "device 0 2", "program 0 0", "idle 0", "device 1 2",
+         "program 0 0", "idle 0", "end"]),
+    ("a fault within a merged request, which ends its own bio alone", 1,
+        one_device(1, [H512], "plug", "write a 0 2 0 fill 11", "write a 2 2 2 fill 22", "write a 4 1 4 fill 33", "unplug", "read - 2 1 -",
+                   "read a 4 1 4").replace(b"thread\n", b"fault 0 2\nthread\n"),
+        ["report 1", "thread 0", "plug", "done", "fault 0", "done", "unplug", "done fill 00", "done fill 33", "shard 0 6",
+         "0 1 0 inline 0 0 0", "0 1 1 inline 0 0 0", "0 2 0 inline 0 0 0", "0 3 0 inline 0 0 0", "0 5 0 plain",
+         "0 6 0 inline 0 0 0", "device 0 3", "program 0 0", "idle 0", "idle 0", "end"]),
+    ("a slot that an eviction leaves at its place of the idle order", 1,
+        one_device(2, [H512, B512, C512], *writes("a", "b"), "evict b", *writes("c", "b")),
+        ["report 1", "thread 0", "done", "done", "evicted", "done", "done", "shard 0 4", "0 0 0 inline 0 0 0", "0 1 0 inline 0 1 2",
+         "0 3 0 inline 0 0 5", "0 4 0 inline 0 1 7", "device 0 9", "program 0 0", "idle 0", "program 1 1", "idle 1", "evict 1 1",
+         "program 0 2", "idle 0", "program 1 1", "idle 1", "end"]),
+    ("an eviction from the second device alone", 1,
+        with_devices(2, "off", *TWO, H512, "thread", "write a 8 1 0 fill 01", "evict a", "evict a", "reset 1", "reset 0"),
+        ["report 1", "thread 0", "done", "evicted", "evicted", "reset", "reset", "shard 0 1", "0 0 0 inline 1 0 0", "device 0 1",
+         "reset", "device 1 4", "program 0 0", "idle 0", "evict 0 0", "reset", "end"]),
+    ("a reset of a device without a programmed slot", 1, one_device(2, [H512], "reset 0", *writes("a")),
+        ["report 1", "thread 0", "reset", "done", "shard 0 1", "0 1 0 inline 0 0 1", "device 0 3", "reset", "program 0 0", "idle 0",
+         "end"]),
+    ("sections one after the other over the same slots", 1,
+        one_device(1, [H512, B512], *writes("a"), "thread", *writes("a", "b"), "thread", *writes("a")),
+        ["report 1", "thread 0", "done", "thread 1", "done", "done", "thread 2", "done", "shard 0 4", "0 0 0 inline 0 0 0",
+         "1 0 0 inline 0 0 0", "1 1 0 inline 0 0 3", "2 0 0 inline 0 0 5", "device 0 7", "program 0 0", "idle 0", "idle 0",
+         "program 0 1", "idle 0", "program 0 0", "idle 0", "end"]),
+    ("soft and inline side by side, of which an eviction of the soft key changes nothing", 1,
+        with_devices(1, "on", ONE, H512, B512.replace(" 512 ", " 4096 "), "thread", *writes("a"), *writes("b"), "evict b", *writes("a")),
+        ["report 1", "thread 0", "done", "done", "evicted", "done", "shard 0 3", "0 0 0 inline 0 0 0", "0 1 0 soft",
+         "0 3 0 inline 0 0 0", "device 0 3", "program 0 0", "idle 0", "idle 0", "end"]),
+]
+
+
 def documented():
     """The examples of errors of docs/SCRIPT.md: the script there with another line in place of one of its lines."""
     document = (pathlib.Path(__file__).parent.parent / "docs" / "SCRIPT.md").read_text()
@@ -338,6 +568,8 @@ def documented():
 
 
 REFUSED += documented()
+if not DEVICES:
+    REFUSED += NOT_BUILT
 
 
 def agrees(wanted, found):
@@ -354,14 +586,24 @@ def wrong(modelled):
     for name, text, line, kind in REFUSED:
         if modelled(text) != (2, b"", f"blkcrypt: script line {line}: {kind}\n".encode()):
             yield name, modelled(text)
-    for name, shards, text, lines in [*((name, 1, text, lines) for name, text, lines in REPORTED), *SHARDED]:
-        status, output, error = modelled(text, shards)
+    for name, text, line, kind in DEVICES_REFUSED:
+        if modelled(text, 1, True) != (2, b"", f"blkcrypt: script line {line}: {kind}\n".encode()):
+            yield name, modelled(text, 1, True)
+    cases = [*((name, 1, text, lines) for name, text, lines in REPORTED), *SHARDED, *DEVICES_REPORTED]
+    for name, shards, text, lines in cases:
+        status, output, error = modelled(text, shards, True)
         if status or error or not agrees(lines, output):
             yield name, (status, output, error)
 
 
 def texts():
-    """The text of each case. What is worked out for a run over several shards is another report over one."""
+    """The text of each case without devices. What is worked out for a run over several shards is another report over one."""
     yield from ((name, text) for name, text, *_ in REFUSED)
     yield from ((name, text) for name, text, _ in REPORTED)
     yield from ((name, text) for name, _, text, _ in SHARDED)
+
+
+def device_texts():
+    """The text of each case with devices."""
+    yield from ((name, text) for name, text, *_ in DEVICES_REFUSED)
+    yield from ((name, text) for name, _, text, _ in DEVICES_REPORTED)

@@ -1,5 +1,5 @@
 """Generates scripts, the same ones for the same seed: valid ones of every shape, and ones in which a few words or lines are
-wrong."""
+wrong. Those with devices stand at the end, by themselves."""
 
 LETTERS = "abcdefghijklmnopqrstuvwxyz"
 XTS = "aes-256-xts"
@@ -530,3 +530,185 @@ def texts(dice):
     yield from ((f"valid {turn}", a_script(dice), True) for turn in range(1100))
     yield from ((name, text, None) for name, text in broken(dice))
     yield from ((name, text, None) for name, text in mutated(dice))
+
+
+# ---- scripts with devices
+
+
+def some_devices(dice):
+    """Device lines, and the blocks that they have together."""
+    lines, blocks = [], 0
+    whole = dice.random() < 0.6  # every device knows every data unit
+    for _ in range(dice.choice([1, 1, 1, 2, 2, 3, 8])):
+        count = dice.choice([1, 1, 1, 2, 3, dice.randrange(1, 9)])
+        slots = dice.choice([1, 1, 2, 2, 3, 4, 32])
+        xts, essiv = (15, 15) if whole else (dice.choice([15, 15, 9, 1, 8, dice.randrange(16)]) for _ in range(2))
+        lines.append(f"device {blocks} {count} {slots} {xts} {essiv} {dice.choice([8, 8, 8, 8, 7, dice.randrange(1, 9)])}")
+        blocks += count
+    return lines, blocks
+
+
+def row_of_bios(dice, keys, blocks):
+    """Lines of bios of which each mostly runs on from the one before it: another number, access, key or place now and then."""
+    key = dice.choice(keys)
+    step = key.unit // 512
+    places = 8 * blocks // step
+    at, number = dice.randrange(places), dice.choice([0, 7, dice.randrange(256), 256 ** min(key.number_bytes, 8) - 40])
+    number = max(number, 0)
+    access = dice.choice(["write", "write", "read"])
+    lines = []
+    for _ in range(dice.choice([1, 2, 2, 3, 4, 6, dice.choice([9, 64, 65, 66, 130])])):
+        units = dice.choice([1, 1, 1, 2, 3, dice.randrange(1, 20)])
+        units = min(units, 256 // step)
+        turn = dice.random()
+        if turn < 0.08:
+            number += 1
+        elif turn < 0.14:
+            access = "read" if access == "write" else "write"
+        elif turn < 0.18:
+            at += 1
+        elif turn < 0.22:
+            units = 0
+        if at + units > places and turn < 0.9:
+            at = 0
+        other = dice.choice(keys) if turn > 0.97 else key
+        fields = f"{other.name} {at * step} {units} {number:x}"
+        lines.append(f"{access} {fields} fill {dice.randrange(256):02x}" if access == "write" else f"read {fields}")
+        at, number = at + units, number + units
+    return lines
+
+
+def section_over_devices(dice, keys, bios, devices, blocks):
+    lines = ["thread"]
+    plugged = False
+    for _ in range(dice.choice([0, 1, 2, 4, 8, 16])):
+        turn = dice.random()
+        if turn < 0.2:
+            lines.append("unplug" if plugged else "plug")
+            plugged = not plugged
+        elif turn < 0.3:
+            lines.append(f"evict {dice.choice(keys).name}" if keys else "plug" if not plugged else "unplug")
+            plugged = plugged if keys else not plugged
+        elif turn < 0.37 and devices:
+            lines.append(f"reset {dice.randrange(devices)}")
+        elif turn < 0.75 and keys:
+            lines += row_of_bios(dice, keys, blocks)
+        else:
+            bio = dice.choice(bios)
+            lines.append(bio.write(dice) if turn < 0.9 else bio.read(dice, keys))
+    return lines + ["unplug"] * plugged
+
+
+def key_for_devices(dice, name):
+    key = Key(dice, name)
+    key.number_bytes = dice.choice([8, 8, 8, 4, 7, key.number_bytes])
+    return key
+
+
+def a_script_with_devices(dice):
+    """A valid script with devices, or without them and without the fallback, whose operations meet on a few places and slots."""
+    devices, blocks = some_devices(dice)
+    fallback = dice.choice(["on", "on", "off", "off", "off"])
+    if dice.random() < 0.05:
+        devices, blocks, fallback = [], dice.randrange(1, 5), "off"
+    names = list(dict.fromkeys(a_name(dice) for _ in range(dice.choice([0, 1, 2, 3, 3, 4, 6]))))
+    keys = [key_for_devices(dice, name) for name in names]
+    bios = [Bio(dice, keys, blocks) for _ in range(dice.choice([1, 2, 3]))]
+    sections = [section_over_devices(dice, keys, bios, len(devices), blocks)
+                for _ in range(dice.choice([1, 1, 1, 2, 3, 5, 16]))]
+    lines = [line for section in sections for line in section]
+    key_lines = [key.line(dice) for key in keys]
+    return text_of(["blkcrypt 1", f"disk {blocks}", f"fallback {fallback}", *devices, *key_lines, *some_faults(dice, lines), *lines,
+                    "end"])
+
+
+def device_shapes(dice):
+    """A valid script of each shape that needs devices, by name."""
+    many = many_keys(dice, 4096)
+    yield "as many keys as there may be, over 32 slots", text_of([
+        "blkcrypt 1", "disk 64", "fallback on", "device 0 64 32 15 15 8", *many, "thread",
+        *(f"write {key_name(place)} {place % 64 * 8} 1 {place % 256:x} fill {place % 256:02x}" for place in range(4096)), "end"])
+    yield "the largest disk, of eight devices", text_of([
+        "blkcrypt 1", "disk 16384", "fallback off", *(f"device {2048 * at} 2048 32 15 15 8" for at in range(8)), key_line(dice), "thread",
+        *(f"write a {16384 * at - 4} 8 {at:x} fill 0{at}" for at in range(1, 8)),
+        *(f"read a {16384 * at - 4} 8 {at:x}" for at in range(1, 8)), "evict a", *(f"reset {at}" for at in range(8)), "end"])
+    for mode in [XTS, ESSIV]:
+        for bit, unit in enumerate(UNIT_SIZES):
+            masks = [(1 << bit if mode == XTS else 0), (1 << bit if mode == ESSIV else 0)]
+            for xts, essiv, width, size in [
+                    (*masks, 8, 8), (15 - masks[0], 15 - masks[1], 8, 8), (*masks[::-1], 8, 8), (*masks, 8, 9), (*masks, 3, 3),
+                    (*masks, 3, 4)]:
+                for fallback in ["on", "off"]:
+                    yield f"{mode}, units of {unit} bytes, masks {xts} and {essiv}, fallback {fallback}", text_of([
+                        "blkcrypt 1", "disk 2", f"fallback {fallback}", f"device 0 2 1 {xts} {essiv} {width}",
+                        key_line(dice, mode=mode, unit=unit, number_bytes=size), "thread", "write a 8 1 5 fill 5a", "read a 8 1 5",
+                        "evict a", "read a 8 1 6", "reset 0", "end"])
+    for count in [63, 64, 65, 127, 128, 129, 193]:
+        for step in [1, 2]:
+            rows = [f"write a {(place + place // 8 % step) % 256} 1 {place:x} fill {place % 256:02x}" for place in range(count)]
+            yield f"{count} bios in a plug, {'all' if step == 1 else 'some'} of which run on", text_of([
+                "blkcrypt 1", "disk 32", "fallback off", "device 0 16 2 15 15 8", "device 16 16 2 15 15 8", key_line(dice), "thread",
+                "plug", *rows, "unplug", "plug", *rows, "evict a", *rows, "reset 0", *rows, "unplug", "end"])
+    for place in range(26):
+        yield f"a fault at the place {place} of requests that are cut", text_of([
+            "blkcrypt 1", "disk 4", "fallback off", "device 0 1 1 15 15 8", "device 1 2 2 15 15 8", "device 3 1 1 15 15 8",
+            key_line(dice), key_line(dice, "b", ESSIV, 1024), f"fault 0 {place}", "thread", "plug", "write a 4 10 4 fill 11",
+            "write a 14 10 e fill 22", "write a 24 4 18 fill 33", "write b 6 2 6 fill 44", "unplug", "thread", "read a 6 20 6",
+            "read b 6 2 6", "end"])
+    yield "as many operations as there may be, over devices", text_of([
+        "blkcrypt 1", "disk 1", "fallback off", "device 0 1 1 15 15 8", key_line(dice), key_line(dice, "b"), "thread",
+        *["write a 0 1 0 fill 01", "write b 0 1 0 fill 02"] * 16384, *["evict b", "reset 0"] * 16384, "end"])
+
+
+def base_with_devices(dice):
+    """The lines of a valid script that has devices and a line of each form."""
+    return [
+        "blkcrypt 1", "disk 3", "fallback off", "device 0 1 2 15 15 8", "device 1 2 32 9 8 7", key_line(dice, "a", number_bytes=7),
+        key_line(dice, "e", ESSIV, 4096, 2), "fault 1 7", "thread", "write a 9 1 c0ffee fill 5a", "plug", "read a 9 1 c0ffee",
+        "write e 8 1 ffff fill 00", "unplug", "evict e", "reset 1", "thread", "read e 8 1 ffff", "end"]
+
+
+def broken_with_devices(dice):
+    """The base with devices, with each field of the lines that only it has changed to each value, and with lines at other
+    places."""
+    lines = base_with_devices(dice)
+    yield "the base with devices", text_of(lines)
+    for place, fields in [(1, [1]), (2, [1]), (3, range(7)), (4, range(7)), (15, [1])]:
+        for field in fields:
+            for value in [*NUMBERS, "2", "3", "7", "8", "9", "14", "31", "32", "33", "16383", "on", "off"]:
+                yield f"devices: line {place + 1} field {field + 1} {value[:20]!r}", text_of(with_field(lines, place, field, value))
+    for place in range(len(lines)):
+        yield f"devices: no line {place + 1}", text_of(lines[:place] + lines[place + 1:])
+        yield f"devices: line {place + 1} twice", text_of(lines[:place + 1] + lines[place:])
+        yield f"devices: lines {place + 1} and {place + 2} exchanged", text_of(
+            lines[:place] + lines[place:place + 2][::-1] + lines[place + 2:])
+        yield f"devices: the text ends behind line {place}", text_of(lines[:place])
+        yield f"devices: a third one before line {place + 1}", text_of([*lines[:place], "device 3 1 1 1 1 1", *lines[place:]])
+    for turn in range(150):
+        change = dice.choice([word_changed, letter_changed, line_changed, text_changed])
+        yield f"devices: {change.__name__} {turn}", change(dice, base_with_devices(dice))
+
+
+def device_texts(dice):
+    """Every text with devices, with its name, and whether a script says it where that is known beforehand."""
+    yield from ((name, text, True) for name, text in device_shapes(dice))
+    yield from ((f"valid, with devices {turn}", a_script_with_devices(dice), True) for turn in range(700))
+    yield from ((name, text, None) for name, text in broken_with_devices(dice))
+
+
+def a_script_of_threads(dice):
+    """A valid script of 2 to 16 sections that fight for a few slots, blocks and keys."""
+    devices, blocks = [], 0
+    for _ in range(dice.choice([1, 1, 2, 3])):
+        count = dice.choice([1, 1, 2])
+        devices.append(f"device {blocks} {count} {dice.choice([1, 1, 2, 3, 4])} 15 15 8")
+        blocks += count
+    keys = [key_for_devices(dice, name) for name in "abcdef"[:dice.choice([1, 2, 3, 4, 6])]]
+    bios = [Bio(dice, keys, blocks) for _ in range(3)]
+    sections = [section_over_devices(dice, keys, bios, len(devices), blocks)[:60] for _ in range(dice.choice([2, 2, 3, 4, 16]))]
+    for section in sections:
+        if section.count("plug") > section.count("unplug"):
+            section.append("unplug")
+    lines = [line for section in sections for line in section]
+    return text_of(["blkcrypt 1", f"disk {blocks}", f"fallback {dice.choice(['on', 'off'])}", *devices,
+                    *(key.line(dice) for key in keys), *some_faults(dice, lines), *lines, "end"])
