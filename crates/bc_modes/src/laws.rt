@@ -1,6 +1,7 @@
-//! The laws of the unit ciphers.
+//! The laws of the unit ciphers and of entries.
 ghost use Rattle.bc_modes.specs.Laws.{DecipheringUndoes, EncipheringMakesTexts};
 ghost use Rattle.bc_modes.specs.Laws.{DecipheringKeepsLength, EncipheringKeepsLength};
+ghost use Rattle.bc_modes.specs.Laws.{EntriesReadBack};
 
 use bc_aes::cipher_laws;
 
@@ -14,3 +15,9 @@ pub fn unit_laws()
 {
     cipher_laws();
 }
+
+/// Does nothing, and states what holds of the entry of every valid key: it has 18 words, and a controller reads them as the
+/// key's cipher. A controller's proof cites it from this call, where it has the words and not the key.
+pub fn entry_laws()
+    ensures read_back { EntriesReadBack }
+{}

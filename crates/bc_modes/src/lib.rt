@@ -36,7 +36,7 @@ mod ufs_caps;
 
 pub use entry::{EntryError, cipher_of_words, entry_words};
 pub use entry_bytes::ENTRY_WORDS;
-pub use laws::unit_laws;
+pub use laws::{entry_laws, unit_laws};
 pub use ufs_caps::{Capability, UfsCaps};
 pub use unit_cipher::UnitCipher;
 
