@@ -1,1 +1,7 @@
 pub mod PlugLaws
+pub mod Lists
+pub mod Contents
+pub mod Marks
+pub mod Steps
+pub mod Growing
+pub mod Walk

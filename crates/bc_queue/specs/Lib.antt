@@ -1,1 +1,3 @@
 pub mod Plugs
+pub mod RequestUnits
+pub mod Carrying

@@ -4,9 +4,16 @@
 //! requests that this makes are carried out one after the other, and emptied into replies.
 #![tactic(auto)]
 
+// plugs
 mod plug;
 
+// the units of a request
+mod request_units;
+mod unit_access;
+
 pub use plug::{MAX_PLUGGED, Plug};
+pub use request_units::carry_out;
+pub use unit_access::UnitAccess;
 
 #[cfg(test)]
 mod tests;
