@@ -13,3 +13,4 @@ mod Finite
 mod Journals
 mod Busy
 mod TwoDevices
+mod Evicted
