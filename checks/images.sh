@@ -44,6 +44,26 @@ run() {
     "$program" serial "$@" >"$found" 2>"$said"
 }
 
+# Who may read and write everything runs the tests of permissions as another user.
+other=
+if [ "$(id -u)" = 0 ]; then
+    other="setpriv --reuid=65534 --regid=65534 --clear-groups"
+    chmod 755 "$scratch"
+    cp "$program" "$scratch/copy"
+    $other "$scratch/copy" serial <"$empty" >"$found" 2>"$said" || other=none
+    [ "$other" = none ] && skipped="$skipped; no test of permissions, since this user may do all"
+fi
+
+# run_other WORD..: a run by a user who may not do everything
+run_other() {
+    if [ -n "$other" ]; then
+        # shellcheck disable=SC2086
+        $other "$scratch/copy" serial "$@" >"$found" 2>"$said"
+    else
+        run "$@"
+    fi
+}
+
 # nothing_beside: no file is left beside those that the tests made
 nothing_beside() {
     [ -z "$(find . -name '*.part*')" ] || fail "$1 leaves $(find . -name '*.part*')"
@@ -85,13 +105,11 @@ run --image . <"$empty"
 ends "a folder in place of a file" $? 5 "folder failed"
 run --image whole/x <"$empty"
 ends "a file in place of a folder" $? 5 "folder failed"
-if [ "$(id -u)" != 0 ]; then
+if [ "$other" != none ]; then
     truncate -s 4096 closed
     chmod 000 closed
-    run --image closed <"$empty"
+    run_other --image closed <"$empty"
     ends "a file that may not be read" $? 5 "folder failed"
-else
-    skipped="$skipped; no test of permissions, since this user may do all"
 fi
 
 printf 'blkcrypt 1\ndisk 16384\nfallback on\nend\n' >large
@@ -149,18 +167,22 @@ if [ -c /dev/full ]; then
     ends "a full standard output" $? 4 "writing failed"
     cmp -s late before || fail "a full standard output finds the image not put"
 fi
-if [ "$(id -u)" != 0 ]; then
-    mkdir shut
+if [ "$other" != none ]; then
+    mkdir shut open
     cp before shut/old
+    cp before open/old
+    chmod 666 shut/old
     chmod 555 shut
-    run --out shut/old <"$empty"
+    chmod 777 open
+    chmod 444 open/old
+    run_other --out shut/old <"$empty"
     ends "a folder that may not be written" $? 5 "folder failed"
     cmp -s before shut/old || fail "the old file was changed"
-    chmod 444 new
-    run --out new <"$empty"
+    run_other --out open/old <"$empty"
     ends "a file that may not be written" $? 5 "folder failed"
-    cmp -s new before || fail "the file was changed"
-    chmod 644 new
+    cmp -s before open/old || fail "the file was changed"
+    run_other --out shut/new <"$empty"
+    ends "a new file in a folder that may not be written" $? 5 "folder failed"
 fi
 nothing_beside "a put"
 

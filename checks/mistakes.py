@@ -92,7 +92,7 @@ def line_of(word):
         return next(i for i, it in enumerate(script, 1) if it.startswith(word))
 
 
-USAGE = "usage: blkcrypt serial < SCRIPT > REPORT"
+USAGE = "usage: blkcrypt serial [--image FILE] [--out FILE] [--shards N] < SCRIPT > REPORT"
 MISTAKES = [
     ("no words", lambda: says(words_alone(), 1, "blkcrypt: bad command line\n", USAGE)),
     ("a wrong word", lambda: says(words_alone(FIRST), 1, "blkcrypt: bad command line\n", USAGE)),
