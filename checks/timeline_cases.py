@@ -248,8 +248,9 @@ def places_are_the_reports(picture, report):
     for name, group in groups.items():
         if name.startswith("device-"):
             device = int(name.removeprefix("device-"))
-            for slot, (_, _, top, _) in enumerate(spans(group, "lane")):
-                tops[device, slot] = top
+            names = [it.text for it in group.iter(f"{SVG}text") if it.get("class") == "name"]
+            for name, (_, _, top, _) in zip(names, spans(group, "lane")):
+                tops[device, int(name.removeprefix("slot "))] = top
             for kind, inset in [("key", 0), ("held", 4)]:
                 used[kind] += [(device, top - inset, *rest) for *rest, top, colour in spans(group, kind) for rest in [[*rest, colour]]]
     for shard, entries in enumerate(report.shards):
@@ -285,8 +286,16 @@ def picture_is_the_reports(report, script, serial):
             need(found["held"] == wanted["idle"], f"{found['held']} uses are drawn, and the report has {wanted['idle']}")
         need(found["held"] <= wanted["idle"] or thinned or not serial, "there are more uses than the slots became idle")
         need(found["held"] >= wanted["program"] or thinned, "a use is missing")
-        slots = sum(plan.slots) if plan else found["lane"] - wanted["lane"]
+        slots = sum(lanes_of(events, plan.slots[device] if plan else None) for device, events in enumerate(read.devices))
         need(found["lane"] == wanted["lane"] + slots, f"there are {found['lane']} lanes")
+
+
+def lanes_of(events, slots):
+    """How many slots of a device have a lane: all, or those that are named where three and more aren't."""
+    used = {it.slot for it in events} | {slot for it in events for slot, _ in it.skips}
+    used.discard(None)
+    slots = slots or max(used, default=0) + 1
+    return len(used) if slots - len(used) >= 3 else slots
 
 
 def windows_are_parts(report, script):
@@ -534,7 +543,7 @@ def main(words):
         for path, content in drawn():
             path.write_bytes(content)
         return 0
-    how_many, seed = (int(words[0]) if words else 200), (int(words[1]) if len(words) > 1 else 1)
+    how_many, seed = (int(words[0]) if words else 100), (int(words[1]) if len(words) > 1 else 1)
     try:
         pictures, count = tried(how_many, seed)
     except Wrong as wrong:
