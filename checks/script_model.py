@@ -15,7 +15,8 @@ from typing import Optional
 
 from cryptography.hazmat.primitives.ciphers import Cipher, algorithms, modes
 
-# Whether the program carries out `device` lines and `fallback off`, or refuses them as not built.
+# Whether the program carries out `device` lines and `fallback off`, or refuses them as not built. It is turned on with the program,
+# and with the examples of errors of docs/SCRIPT.md: then they name a `device` error in place of what isn't built.
 DEVICES = False
 
 SECTOR = 512

@@ -108,7 +108,7 @@ def fail(message):
     return 1
 
 
-def compared(program, dice, source, devices):
+def compared(program, dice, source, devices, judge):
     """Compares the texts of a source, and gives how many there are, how many of them are accepted, and what was seen; or what
     differs."""
     count = accepted = 0
@@ -120,7 +120,7 @@ def compared(program, dice, source, devices):
         shards = 2 + count % 63
         if len(text) < 65536 and not alike(text, shards, devices):
             return f"the model runs {name!r} otherwise over {shards} shards\nscript: {shown(text)}"
-        if devices and len(text) <= MOST_JUDGED:
+        if judge and len(text) <= MOST_JUDGED:
             image = bytes if count % 2 else dice.randbytes
             wrong = unlawful(text, [1, shards][count // 2 % 2], image)
             if wrong:
@@ -137,18 +137,16 @@ def compared(program, dice, source, devices):
     return count, accepted, seen
 
 
-def run(program, seed, source, devices, kinds):
-    found = compared(program, random.Random(seed), source, devices)
+def run(program, seed, sort, source, devices, kinds):
+    found = compared(program, random.Random(seed), source, devices, source is device_texts)
     if isinstance(found, str):
         return fail(f"seed {seed}: {found}")
     count, accepted, seen = found
     missing = [word for word in kinds if not seen[word]]
     if missing:
         return fail(f"seed {seed}: no text is answered {', '.join(missing)}")
-    sort = " with devices" if devices else ""
-    agree = "agree" if program else "are the model's alone, as the program doesn't know them" if devices else (
-        "aren't compared, as there is no program")
-    print(f"serial_model: {count} scripts{sort} {agree}, {accepted} of them accepted (seed {seed})")
+    agree = "agree" if program else "are the model's alone"
+    print(f"serial_model: {count} scripts {sort} devices {agree}, {accepted} of them accepted (seed {seed})")
     return 0
 
 
@@ -158,8 +156,8 @@ def main():
     program = sys.argv[1] if len(sys.argv) > 1 else None
     seed = int(sys.argv[2]) if len(sys.argv) > 2 else 1
     without = [] if DEVICES else ["not built"]
-    return (run(program, seed, texts, DEVICES, KINDS + without + ANSWERS)
-            or run(program if DEVICES else None, seed, device_texts, True, WITH_DEVICES))
+    return (run(program, seed, "without", texts, DEVICES, KINDS + without + ANSWERS)
+            or run(program if DEVICES else None, seed, "with", device_texts, True, WITH_DEVICES))
 
 
 sys.exit(main())

@@ -25,8 +25,10 @@ import orders
 import plans
 import report_model
 import reports
-from judge_cases import LAWFUL
+from judge_cases import (BUSY, BUSY_REPORT, IDLE_REPORT, LATE_IDLE, LATE_IDLE_REPORT, LAWFUL, SAME_KEY, SECOND_BUSY_REPORT, SKIP,
+                         SKIP_REPORT, TWO_DEVICES, TWO_HOLDERS_REPORT)
 from make_model import script_of
+from script_cases import DEVICES_REPORTED
 from script_model import Run, Slots, read_script, report_of
 from script_texts import a_script_of_threads, a_script_with_devices
 from threads_model import threaded
@@ -68,7 +70,40 @@ def read_as_the_model(text):
     need(found == wanted, f"of the text\n{text.decode('latin-1')}\nthe tools' reader says\n{found.decode('latin-1')}")
 
 
+def crowded(threads=1, shards=1, devices=1, skips=1):
+    """A report with so many parts of each sort."""
+    lines = ["report 1", *(f"thread {it}" for it in range(threads)), *(f"shard {it} 0" for it in range(shards)),
+             *(f"device {it} 0" for it in range(devices - 1)), f"device {devices - 1} 1",
+             "program 0 0 skip " + " ".join(f"{it}:1" for it in range(skips)), "end"]
+    return report_model.text_of(lines)
+
+
+CROWDED = [crowded(threads=16, shards=64, devices=8, skips=32), crowded(threads=17), crowded(shards=65), crowded(devices=9),
+           crowded(skips=33)]
+
+
 # ---- the order
+
+# Of reports of several threads, the order in which they are drawn: `e` is an entry by shard and place, `j` an event by device
+# and place, `o` an operation without data units by thread and number.
+DRAWN_SO = [
+    (BUSY, BUSY_REPORT, "j00 e00 j01 o10 j02 e01 j03"),
+    (BUSY, IDLE_REPORT, "j00 e00 j01 e01 j02 j03 o10"),
+    (SKIP, SKIP_REPORT, "j00 e00 j01 j02 e01 j03 e02 j04 j05 e03 j06"),
+    (TWO_DEVICES, SECOND_BUSY_REPORT, "j00 e00 j01 j02 o10 j10 e01 j11 j12"),
+    (SAME_KEY, TWO_HOLDERS_REPORT, "j00 e00 e01 j01 o20 j02"),
+    (LATE_IDLE, LATE_IDLE_REPORT, "j00 e00 j01 e01 j02 j03"),
+]
+
+
+def orders_by_hand():
+    for script, lines, wanted in DRAWN_SO:
+        report, plan = reports.read(report_model.text_of(lines)), plans.read(script)
+        plans.fit(plan, report)
+        found = orders.ordered(report, plan, inputs.pieces(report, plan))
+        steps = [f"o{step.thread}{step.op}" if step.kind == "op" else f"{'e' if step.kind == 'entry' else 'j'}{step.place}{step.at}"
+                 for step in found.steps]
+        need(" ".join(steps) == wanted, f"a report is drawn in the order {' '.join(steps)}, and not {wanted}:\n{lines}")
 
 
 class Noted(list):
@@ -196,6 +231,39 @@ def inside(root):
         need(0 <= float(element.get("y")) <= height and 0 <= float(element.get("x")) <= width, f"a text stands outside: {element.text}")
 
 
+def spans(group, kind):
+    """Left, right, top and colour of each element of a kind in a group of the picture."""
+    for element in group.iter(f"{SVG}rect"):
+        classes = element.get("class").split(" ")
+        if classes[0] == kind:
+            x, width = float(element.get("x")), float(element.get("width"))
+            yield x, x + width, float(element.get("y")), classes[-1]
+
+
+def places_are_the_reports(picture, report):
+    """Each shard's entries stand in their order from left to right, and an inline one within a use of its slot by its key."""
+    groups = {group.get("id"): group for group in xml.fromstring(picture).iter(f"{SVG}g")}
+    tops = {}
+    used = {"key": [], "held": []}
+    for name, group in groups.items():
+        if name.startswith("device-"):
+            device = int(name.removeprefix("device-"))
+            names = [it.text for it in group.iter(f"{SVG}text") if it.get("class") == "name"]
+            for name, (_, _, top, _) in zip(names, spans(group, "lane")):
+                tops[device, int(name.removeprefix("slot "))] = top
+            for kind, inset in [("key", 0), ("held", 4)]:
+                used[kind] += [(device, top - inset, *rest) for *rest, top, colour in spans(group, kind) for rest in [[*rest, colour]]]
+    for shard, entries in enumerate(report.shards):
+        drawn = list(spans(groups[f"shard-{shard}"], "entry"))
+        need(drawn == sorted(drawn), f"the entries of shard {shard} aren't in their order")
+        for entry, (left, right, _, colour) in zip(entries, drawn):
+            if entry.way == "inline":
+                for kind, own in used.items():
+                    need(any(device == entry.device and abs(top - tops[device, entry.slot]) < 0.2 and begun <= left + 0.2
+                             and right <= ended + 0.2 and colour == of for device, top, begun, ended, of in own),
+                         f"entry {entry.line} stands in no {kind} of its slot")
+
+
 KINDS = ["op", "fault", "bad", "kept", "entry", "plain", "soft", "inline", "key", "program", "idle", "evict", "busy", "reset", "skip"]
 
 
@@ -209,6 +277,8 @@ def picture_is_the_reports(report, script, serial):
         picture = timeline.picture(read, plan)
         found = classes_of(picture)
         thinned = "Thinned: a column stands for" in picture
+        if not thinned:
+            places_are_the_reports(picture, read)
         for kind in [] if thinned else KINDS:
             need(found[kind] == wanted[kind], f"the picture has {found[kind]} of the kind {kind}, and the report {wanted[kind]}")
         # A use without a data unit, all of which were passed over behind a fault, has nothing to be seen by.
@@ -216,8 +286,16 @@ def picture_is_the_reports(report, script, serial):
             need(found["held"] == wanted["idle"], f"{found['held']} uses are drawn, and the report has {wanted['idle']}")
         need(found["held"] <= wanted["idle"] or thinned or not serial, "there are more uses than the slots became idle")
         need(found["held"] >= wanted["program"] or thinned, "a use is missing")
-        slots = sum(plan.slots) if plan else found["lane"] - wanted["lane"]
+        slots = sum(lanes_of(events, plan.slots[device] if plan else None) for device, events in enumerate(read.devices))
         need(found["lane"] == wanted["lane"] + slots, f"there are {found['lane']} lanes")
+
+
+def lanes_of(events, slots):
+    """How many slots of a device have a lane: all, or those that are named where three and more aren't."""
+    used = {it.slot for it in events} | {slot for it in events for slot, _ in it.skips}
+    used.discard(None)
+    slots = slots or max(used, default=0) + 1
+    return len(used) if slots - len(used) >= 3 else slots
 
 
 def windows_are_parts(report, script):
@@ -411,6 +489,11 @@ def tried(how_many, seed):
         read_as_the_model(report_model.text_of(lines))
         for _ in range(4):
             read_as_the_model(report_model.broken(dice, lines))
+    for text in CROWDED:
+        read_as_the_model(text)
+    orders_by_hand()
+    for _, shards, script, _ in DEVICES_REPORTED:
+        order_is_the_runs(script, shards)
     pictures = 0
     for script, report in serial_runs():
         picture_is_the_reports(report, script, True)
@@ -460,7 +543,7 @@ def main(words):
         for path, content in drawn():
             path.write_bytes(content)
         return 0
-    how_many, seed = (int(words[0]) if words else 200), (int(words[1]) if len(words) > 1 else 1)
+    how_many, seed = (int(words[0]) if words else 100), (int(words[1]) if len(words) > 1 else 1)
     try:
         pictures, count = tried(how_many, seed)
     except Wrong as wrong:
