@@ -1,8 +1,10 @@
 -- The law of runs by one caller that were written: a script's text, the words and the files decide the text that the command
--- writes and the image that it leaves.
-use Rattle.std.specs.Prelude.{◌≡◌, ℕ, List, Some}
+-- writes and the image that it leaves. And what words of the command mean, for examples.
+use Rattle.std.specs.Prelude.{◌≡◌, ℕ, List, [], ◌∷◌, Some, codes}
 use Rattle.bc_base.specs.Folders.{Files}
-use Rattle.bc_run.specs.Words.{Options}
+use Rattle.clap.specs.Words.{fault_of}
+use Rattle.clap.specs.declared.error.kind.ErrorKind.{ErrorKind}
+use Rattle.bc_run.specs.Words.{IsCommand, Options, options_of, serial_command}
 use Rattle.bc_run.specs.Command.{IsCarriedOut, IsScriptAnd}
 
 -- with these files and options the text was carried out, with this report and this image
@@ -17,3 +19,15 @@ WrittenTextsAgree =
     → IsDone files options text one one_left
     → IsDone files options text other other_left
     → (one ≡ other) × (one_left ≡ other_left)
+
+-- the command with these words after it
+abbrev pub with_words : List (List ℕ) → List (List ℕ)
+with_words words = codes "serial" ∷ words
+
+-- after the command these words are taken, with these options
+abbrev pub Mean : List (List ℕ) → Options → Type 0
+Mean words options = IsCommand (with_words words) × (options_of (with_words words) ≡ options)
+
+-- after the command these words are refused, by this kind of error
+abbrev pub AreRefused : List (List ℕ) → ErrorKind → Type 0
+AreRefused words kind = fault_of serial_command (with_words words) ≡ kind ∷ []
