@@ -193,15 +193,15 @@ def threaded(script, shards, image, dice, run_class=ThreadsRun):
     run = run_class(script, shards, image)
     answers = [[None] * len(section) for section in script.sections]
     going = [run.steps(thread, section, answers[thread]) for thread, section in enumerate(script.sections)]
-    hurry = dice.choice([0, 0.5, 0.9, 0.99])  # how likely the thread of the last step goes on
+    goes_on = dice.choice([0, 0.5, 0.9, 0.99])  # how likely the thread of the last step goes on
     thread = None
     while going:
-        if thread not in going or dice.random() >= hurry:
+        if thread not in going or dice.random() >= goes_on:
             thread = dice.choice(going)
         if next(thread, going) is going:
             going.remove(thread)
         elif any(slots.turn for slots in run.slots):
-            hurry = min(hurry, 0.9)
+            goes_on = min(goes_on, 0.9)
     lines = ["report 1"]
     for number, of_thread in enumerate(answers):
         lines += [f"thread {number}", *of_thread]

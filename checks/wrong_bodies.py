@@ -272,7 +272,7 @@ WRONG = [
     ("a hit under another key", {"Programmings"}, with_slots(WrongKey)),
     ("an eviction from the first device alone", {"Programmings"}, PartialEviction),
     ("joined capabilities", {"Ways", "Answers", "Orders"}, JoinedCapabilities),
-    ("bios of other keys in one request", {"Programmings"}, WideMerge),
+    ("bios of other keys in one request", {"Programmings", "Ways"}, WideMerge),
     ("a fault that ends its whole plug", {"Orders", "Answers"}, EndsTheRequest),
     ("a write that is dropped", {"Answers", "Image"}, DroppedWrite),
     ("one number for all units", {"Answers", "Image"}, OneNumber),
