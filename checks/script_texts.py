@@ -697,7 +697,7 @@ def device_texts(dice):
 
 
 def a_script_of_threads(dice):
-    """A valid script of 2 to 16 sections that fight for a few slots, blocks and keys."""
+    """A valid script of 2 to 16 sections that ask for the same few slots, blocks and keys."""
     devices, blocks = [], 0
     for _ in range(dice.choice([1, 1, 2, 3])):
         count = dice.choice([1, 1, 2])

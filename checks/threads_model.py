@@ -107,10 +107,20 @@ class SharedSlots:
 
 class ThreadsRun(Run):
     """All sections at once."""
+    slots_class = SharedSlots
 
     def __init__(self, script, shards, image):
         super().__init__(script, shards, image)
-        self.slots = [SharedSlots(device.slots) for device in script.devices]
+        self.slots = [self.slots_class(device.slots) for device in script.devices]
+
+    joins = staticmethod(runs_on)
+
+    def supports(self, key):
+        return supports(self.devices, key)
+
+    def asked(self, key):
+        """The devices' slots that an eviction asks."""
+        return self.slots if self.supports(key) else []
 
     def steps(self, thread, operations, answers):
         """A section, as a generator that yields before each step."""
@@ -120,7 +130,7 @@ class ThreadsRun(Run):
             yield
             if isinstance(operation, (Read, Write)):
                 refused = refusal(operation.bio, len(self.disk) // SECTOR)
-                if not refused and operation.bio.key and not self.fallback and not supports(self.devices, operation.bio.key):
+                if not refused and operation.bio.key and not self.fallback and not self.supports(operation.bio.key):
                     refused = "unsupported"
                 if refused:
                     answers[number] = f"refused {refused}"
@@ -134,7 +144,7 @@ class ThreadsRun(Run):
             yield from self.submitted(thread, plugged, answers)
             if isinstance(operation, Evict):
                 refusals = []
-                for device, slots in enumerate(self.slots if supports(self.devices, operation.key) else []):
+                for device, slots in enumerate(self.asked(operation.key)):
                     found = yield from slots.evict(operation.key.place)
                     refusals += [(device, *found)] if found else []
                 answers[number] = f"busy {' '.join(map(str, refusals[0]))}" if refusals else "evicted"
@@ -148,13 +158,13 @@ class ThreadsRun(Run):
     def submitted(self, thread, plugged, answers):
         requests = []
         for bio in plugged:
-            if requests and runs_on(requests[-1][-1].operation, bio.operation):
+            if requests and self.joins(requests[-1][-1].operation, bio.operation):
                 requests[-1].append(bio)
             else:
                 requests.append([bio])
         for request in requests:
             key = request[0].operation.bio.key
-            inline = key is not None and supports(self.devices, key)
+            inline = key is not None and self.supports(key)
             held = None  # the device, and the slot of it that is held
             for bio in request:
                 for unit in range(bio.operation.bio.units):
@@ -178,20 +188,20 @@ class ThreadsRun(Run):
         plugged.clear()
 
 
-def threaded(script, shards, image, dice):
+def threaded(script, shards, image, dice, run_class=ThreadsRun):
     """The report of one run of all sections at once, and the image that it leaves."""
-    run = ThreadsRun(script, shards, image)
+    run = run_class(script, shards, image)
     answers = [[None] * len(section) for section in script.sections]
     going = [run.steps(thread, section, answers[thread]) for thread, section in enumerate(script.sections)]
-    hurry = dice.choice([0, 0.5, 0.9, 0.99])  # how likely the thread of the last step goes on
+    goes_on = dice.choice([0, 0.5, 0.9, 0.99])  # how likely the thread of the last step goes on
     thread = None
     while going:
-        if thread not in going or dice.random() >= hurry:
+        if thread not in going or dice.random() >= goes_on:
             thread = dice.choice(going)
         if next(thread, going) is going:
             going.remove(thread)
         elif any(slots.turn for slots in run.slots):
-            hurry = min(hurry, 0.9)
+            goes_on = min(goes_on, 0.9)
     lines = ["report 1"]
     for number, of_thread in enumerate(answers):
         lines += [f"thread {number}", *of_thread]

@@ -352,6 +352,7 @@ NO_REPORTS = [
     ("a number too great", EXAMPLE.replace(b"0 0 0 inline 0 0 0", b"0 0 4294967296 inline 0 0 0"), 5),
     ("an event that is none", EXAMPLE.replace(b"idle 0", b"idle"), 8),
     ("a slot that no device has", EXAMPLE.replace(b"idle 0", b"idle 32"), 8),
+    ("a skip of a slot that no device has", EXAMPLE.replace(b"program 0 0", b"program 0 0 skip 32:1"), 7),
     ("an entry of a thread that isn't there", EXAMPLE.replace(b"0 0 0 inline", b"1 0 0 inline"), 5),
     ("an entry of an operation that isn't there", EXAMPLE.replace(b"0 0 0 inline", b"0 1 0 inline"), 5),
     ("an entry of a plug", EXAMPLE.replace(b"done", b"plug"), 5),
@@ -363,6 +364,8 @@ NO_REPORTS = [
 ]
 
 OTHER = b"blkcrypt 1\ndisk 1\nfallback off\ndevice 0 1 1 1 0 8\nkey a aes-256-xts 512 8 00\nthread\nwrite a 0 1 0 fill 00\nend\n"
+
+SKIPS = EXAMPLE.replace(b"program 0 0", b"program 0 0 skip 1:1")
 
 # name, the script, words of what is said
 NO_SCRIPTS = [
@@ -398,6 +401,10 @@ def refusals():
                 with open(path, "wb") as out:
                     out.write(script)
                 refused(name, tool_name, ["--script", path], EXAMPLE, 2, part)
+            with open(path, "wb") as out:
+                out.write(OTHER)
+            refused("a skip of a slot that the script doesn't have", tool_name, ["--script", path], SKIPS, 2, "no slot 1")
+            need(ran(tool_name, ["--script", path], EXAMPLE).returncode == 0, "the script of the example is refused")
             words = [["x"], ["--scrip", path], ["--script"], ["--script", path, path]]
             words += [["--from", "0"], ["--from", "x"], ["--to", "-1"], ["--from", "\u0661"], ["--from", "6"], ["--from", "3", "--to", "2"],
                       ["--to", "9" * 30]] if tool_name == "timeline" else [["--from", "1"]]
@@ -405,7 +412,7 @@ def refusals():
                 refused(f"words {own}", tool_name, own, EXAMPLE, 1)
             refused("a file that isn't there", tool_name, ["--script", os.path.join(room, "none")], EXAMPLE, 3, "No such file")
             refused("a folder in place of a file", tool_name, ["--script", room], EXAMPLE, 3, "directory")
-            count += len(NO_REPORTS) + len(NO_SCRIPTS) + len(words) + 2
+            count += len(NO_REPORTS) + len(NO_SCRIPTS) + len(words) + 3
             help_text = ran(tool_name, ["--help"], b"")
             need(help_text.returncode == 0 and help_text.stdout.decode().startswith(f"{tool_name} [--script FILE]"), "help isn't told")
             if os.path.exists("/dev/full"):

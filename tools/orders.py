@@ -48,11 +48,16 @@ class Order:
             step.number = number
 
 
+def slots_of(event):
+    """The slots that an event names."""
+    return [slot for slot in [event.slot, *(slot for slot, _ in event.skips)] if slot is not None]
+
+
 def checked(report):
     """What a report must have beside its form for a picture of it."""
     for events in report.devices:
         for event in events:
-            if event.slot is not None and event.slot >= MOST_SLOTS:
+            if any(slot >= MOST_SLOTS for slot in slots_of(event)):
                 raise NoReport(event.line, f"a device has at most {MOST_SLOTS} slots")
     seen = set()
     for entries in report.shards:

@@ -137,8 +137,9 @@ def fit(script, report):
                 raise NoScript(f"report line {entry.line}: the script has no such data unit")
     for device, events in enumerate(report.devices):
         for event in events:
-            if event.slot is not None and event.slot >= script.slots[device]:
-                raise NoScript(f"report line {event.line}: the script's device {device} has no slot {event.slot}")
+            slot = max([event.slot or 0, *(slot for slot, _ in event.skips)])
+            if slot >= script.slots[device]:
+                raise NoScript(f"report line {event.line}: the script's device {device} has no slot {slot}")
 
 
 def windows(section, answers):
