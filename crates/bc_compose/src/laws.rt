@@ -4,7 +4,8 @@ ghost use Rattle.bc_compose.specs.Composed.{SectionsMakeALawfulRun, SectionsInTu
 
 use bc_bio::bio_laws;
 
-/// Does nothing, and states that sections that are done make a run that is lawful but for who held a slot. A caller's proof cites it from this call.
+/// Does nothing, and states that sections that are done make a run that is lawful but for who held a slot. A caller's
+/// proof cites it from this call.
 pub fn sections_make_a_lawful_run()
     ensures { SectionsMakeALawfulRun }
 {
