@@ -17,3 +17,4 @@ mod Lawful
 mod InTurn
 mod OneOrder
 mod OneReport
+mod OneSection

@@ -1,6 +1,6 @@
 //! The laws of runs and their sections.
 
-ghost use Rattle.bc_compose.specs.Composed.{SectionsMakeALawfulRun, SectionsInTurnMakeASerialRun, SerialRunsHaveKnownHolders, SerialRunsAgree};
+ghost use Rattle.bc_compose.specs.Composed.{SectionsMakeALawfulRun, SectionsInTurnMakeASerialRun, SerialRunsHaveKnownHolders, SerialRunsAgree, OneSectionFindsNone};
 
 use bc_bio::bio_laws;
 
@@ -31,4 +31,10 @@ pub fn serial_runs_have_known_holders()
 /// proof cites it from this call.
 pub fn serial_runs_agree()
     ensures { SerialRunsAgree }
+{}
+
+/// Does nothing, and states that a lawful run of a script of one section has no refused eviction and no slot that was passed
+/// over. A caller's proof cites it from this call.
+pub fn one_section_finds_none()
+    ensures { OneSectionFindsNone }
 {}
