@@ -18,3 +18,4 @@ mod InTurn
 mod OneOrder
 mod OneReport
 mod OneSection
+mod Examples
