@@ -1,5 +1,5 @@
 -- The journal of one caller's uses: no slot is found with references, and at the end every slot is idle.
-use Rattle.std.proofs.Common.{◌≡◌, ◌≢◌, ℕ, zero, suc, ◌+◌, ◌<◌, ◌≤◌, Bool, true, false, cond, List, [], ◌∷◌, ◌++◌, map, refl, sym, ap, subst, ◌∙◌, Option, Some, None, arith}
+use Rattle.std.proofs.Common.{◌≡◌, ◌≢◌, ℕ, zero, suc, ◌+◌, ◌<◌, ◌≤◌, Bool, true, false, cond, List, [], ◌∷◌, ◌++◌, length, map, refl, sym, ap, subst, ◌∙◌, Option, Some, None, arith}
 use Rattle.std.specs.Prelude.{◌==◌, ◌||◌, ◌&&◌, not, is_some, unwrap_or}
 use Rattle.std.specs.List.{AllZip, enumerate_from, list_all, list_any, range_with_len}
 use Rattle.std.specs.Option.{option_map_or}
@@ -19,7 +19,7 @@ use Rattle.bc_script.specs.Script.{Script}
 use Rattle.bc_report.specs.Holders.{HasHolders, HaveHolders}
 use Rattle.bc_report.specs.LawfulRun.{EndIdle}
 use Rattle.bc_report.specs.SerialRun.{serial_journal, uses_of}
-use Rattle.bc_compose.specs.Composed.{SerialRunsHaveKnownHolders}
+use Rattle.bc_compose.specs.Composed.{SerialRunsHaveKnownHolders, FindsNone}
 
 -- ---- events one after the other
 
@@ -46,13 +46,6 @@ after_uses P keeps slots (use' ∷ done) has =
 
 -- ---- holders
 
--- an event that finds no slot with references
-abbrev pub FindsNone : Event → Type 0
-FindsNone (events.Program slot key []) = Unit {0}
-FindsNone (events.Program slot key (skip ∷ skips)) = ⊥
-FindsNone (events.Busy slot key refs) = ⊥
-FindsNone _ = Unit {0}
-
 eviction_finds_none : (slots : Slots) (key : ℕ) → EachEvent (λ _ event. FindsNone event) slots (events_of_eviction slots key)
 eviction_finds_none slots key =
     elim (slot_with slots key) as (λ (o : Option ℕ). EachEvent (λ _ event. FindsNone event) slots (option_map_or (λ slot. events.Evict slot key ∷ []) o [])) [
@@ -64,7 +57,7 @@ hold_finds_none : (slots : Slots) (key slot : ℕ) → EachEvent (λ _ event. Fi
 hold_finds_none slots key slot =
     elim (is_some (slot_with slots key)) as (λ (b : Bool). EachEvent (λ _ event. FindsNone event) slots (cond b [] (events.Program (first_idle slots) key [] ∷ []) ++ events.Idle slot ∷ [])) [
       | true ↦ (tt, tt)
-      | false ↦ (tt, (tt, tt))
+      | false ↦ (refl, (tt, tt))
     ]
 
 pub use_finds_none : (slots : Slots) (use' : Use) → EachEvent (λ _ event. FindsNone event) slots (events_of_use slots use')
@@ -79,7 +72,7 @@ each_weaker P Q f slots (event ∷ journal) each = (f slots event each.0, each_w
 
 needs_none : (script : Script) (device : ℕ) (slots : Slots) (event : Event) → FindsNone event → HasHolders script device slots event
 needs_none script device slots (events.Program slot key []) none = λ k d less. absurd (omega (arith, less))
-needs_none script device slots (events.Program slot key (skip ∷ skips)) none = absurd none
+needs_none script device slots (events.Program slot key (skip ∷ skips)) none = absurd (omega (arith, ap length none))
 needs_none script device slots (events.Busy slot key refs) none = absurd none
 needs_none script device slots (events.Idle slot) none = tt
 needs_none script device slots (events.Evict slot key) none = tt

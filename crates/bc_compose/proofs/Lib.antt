@@ -17,4 +17,5 @@ mod Lawful
 mod InTurn
 mod OneOrder
 mod OneReport
+mod OneSection
 mod Examples

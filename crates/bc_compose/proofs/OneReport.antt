@@ -33,9 +33,9 @@ use Rattle.bc_report.specs.Answers.{IsAnswerTo, AreAnswersTo, HasAnswers}
 use Rattle.bc_report.specs.Evictions.{Eviction, eviction_in, evictions_in, evictions_of, is_busy_with, names_busy, count_answered, IsEvictionAnswer, BusyAnswersHold}
 use Rattle.bc_report.specs.Ways.{HasWay, HaveWays, way_in}
 use Rattle.bc_report.specs.SerialRun.{uses_of, journal_by, serial_journal, uses_through, NamesHoldUnder, NamesHold, IsSerialRun}
-use Rattle.bc_compose.specs.Composed.{SerialRunsAgree}
+use Rattle.bc_compose.specs.Composed.{SerialRunsAgree, FindsNone}
 use Rattle.bc_compose.proofs.Lists.{In, all_at, in_append_left, in_append_right}
-use Rattle.bc_compose.proofs.Holders.{FindsNone, each_of_uses, use_finds_none}
+use Rattle.bc_compose.proofs.Holders.{each_of_uses, use_finds_none}
 use Rattle.bc_compose.proofs.Units.{all_of}
 use Rattle.bc_compose.proofs.OneOrder.{InSections, one_order}
 
@@ -127,8 +127,7 @@ none_refused : (key slot refs : ℕ) (slots : Slots) (journal : List Event) → 
 none_refused key slot refs slots journal each = count_none (is_busy_with key slot refs) journal (go slots journal each)
   where
     passes_none : (event : Event) → FindsNone event → is_busy_with key slot refs event ≡ false
-    passes_none (events.Program s k []) none = refl
-    passes_none (events.Program s k (skip ∷ skips)) none = refl
+    passes_none (events.Program s k skipped) none = refl
     passes_none (events.Busy s k n) none = absurd none
     passes_none (events.Idle s) none = refl
     passes_none (events.Evict s k) none = refl

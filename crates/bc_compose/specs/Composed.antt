@@ -1,6 +1,6 @@
 -- A run put together from its sections: what each thread knows, and what the closed shards and devices tell. Such a run is
 -- lawful but for who held a slot; where its sections follow one another it is the one serial run, which is lawful whole.
-use Rattle.std.specs.Prelude.{◌≡◌, ℕ, ◌*◌, ◌<◌, ◌≤◌, List, map, filter, flat_map, length}
+use Rattle.std.specs.Prelude.{◌≡◌, ℕ, ◌*◌, ◌<◌, ◌≤◌, List, [], map, filter, flat_map, length, All, ⊤}
 use Rattle.std.specs.List.{range_with_len, enumerate_from}
 use Rattle.bc_base.specs.Lists.{Each, list_at}
 use Rattle.bc_medium.specs.declared.entry.Entry.{Entry}
@@ -8,12 +8,14 @@ use Rattle.bc_medium.specs.KeyedDisk.{Sectors}
 use Rattle.bc_medium.specs.Entries.{name_of_entry}
 use Rattle.bc_medium.specs.Growth.{lies_in}
 use Rattle.bc_medium.specs.Outcome.{Run}
+use Rattle.bc_profile.specs.declared.event.Event.{Event}
+use Rattle.bc_profile.specs.declared.event.Event.TheVariants as events
 use Rattle.bc_profile.specs.declared.noted.Noted.{Noted}
 use Rattle.bc_profile.specs.Story.{events_of}
 use Rattle.bc_script.specs.Script.{Script, IsScript}
 use Rattle.bc_report.specs.Report.{Report}
 use Rattle.bc_report.specs.RunOf.{run_of}
-use Rattle.bc_report.specs.LawfulRun.{LawfulButHolders, HoldersAreKnown}
+use Rattle.bc_report.specs.LawfulRun.{LawfulButHolders, HoldersAreKnown, LawfulRun}
 use Rattle.bc_report.specs.SerialRun.{NamesHoldUnder, serial_journal, IsSerial, IsSerialRun}
 use Rattle.bc_compose.specs.SectionDone.{key_of_entry, SectionDone}
 use Rattle.bc_compose.specs.Closed.{ShardsClosed, StoresClosed, DevicesClosed, IsReported}
@@ -83,3 +85,16 @@ SerialRunsAgree =
     → IsScript script
     → IsSerialRun script image shards one left → IsSerialRun script image shards other other_left
     → (one ≡ other) × (left ≡ other_left)
+
+-- an event found no slot with references: it isn't a refusal, nor a programming that passed over a slot
+abbrev pub FindsNone : Event → Type 0
+FindsNone (events.Program slot key skipped) = skipped ≡ []
+FindsNone (events.Busy slot key refs) = ⊥
+FindsNone _ = ⊤
+
+-- in a lawful run of one section no event finds a slot with references
+abbrev pub OneSectionFindsNone : Type 0
+OneSectionFindsNone =
+    (script : Script) (image : List ℕ) (shards : ℕ) (report : Report) (left : List ℕ)
+    → length script.threads ≡ 1 → LawfulRun script image shards report left
+    → All (All FindsNone) report.devices

@@ -1,6 +1,6 @@
 //! The laws of runs and their sections.
 
-ghost use Rattle.bc_compose.specs.Composed.{SectionsMakeALawfulRun, SectionsInTurnMakeASerialRun, SerialRunsHaveKnownHolders, SerialRunsAgree};
+ghost use Rattle.bc_compose.specs.Composed.{SectionsMakeALawfulRun, SectionsInTurnMakeASerialRun, SerialRunsHaveKnownHolders, SerialRunsAgree, OneSectionFindsNone};
 
 use bc_bio::bio_laws;
 
@@ -20,8 +20,8 @@ pub fn sections_in_turn_make_a_serial_run()
     bio_laws();
 }
 
-/// Does nothing, and states that in a serial run it is known who held each slot: none is found held, and all are idle at the
-/// end. A caller's proof cites it from this call.
+/// Does nothing, and states that in a serial run it is known who held each slot: none is found held, and all are idle at
+/// the end. A caller's proof cites it from this call.
 pub fn serial_runs_have_known_holders()
     ensures { SerialRunsHaveKnownHolders }
 {
@@ -32,4 +32,10 @@ pub fn serial_runs_have_known_holders()
 /// proof cites it from this call.
 pub fn serial_runs_agree()
     ensures { SerialRunsAgree }
+{}
+
+/// Does nothing, and states that a lawful run of a script of one section has no refused eviction and no slot that was
+/// passed over. A caller's proof cites it from this call.
+pub fn one_section_finds_none()
+    ensures { OneSectionFindsNone }
 {}

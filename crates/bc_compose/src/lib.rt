@@ -6,6 +6,6 @@
 mod laws;
 
 pub use laws::{
-    sections_in_turn_make_a_serial_run, sections_make_a_lawful_run, serial_runs_agree,
-    serial_runs_have_known_holders,
+    one_section_finds_none, sections_in_turn_make_a_serial_run, sections_make_a_lawful_run,
+    serial_runs_agree, serial_runs_have_known_holders,
 };

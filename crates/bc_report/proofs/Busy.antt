@@ -129,3 +129,7 @@ no_second_beside_it = refl
 
 not_by_itself : may_skip three 0 2 1 1 ≡ false
 not_by_itself = refl
+
+-- nobody evicts key 0 there, so no eviction of it can have been refused
+no_eviction : may_refuse three 0 0 1 ≡ false
+no_eviction = refl

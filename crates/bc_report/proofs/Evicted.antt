@@ -1,7 +1,9 @@
 -- Evictions on two devices: what a serial run makes of them, when they are behind an entry, and which `busy` events go with
 -- their answers.
-use Rattle.std.proofs.Common.{◌≡◌, ℕ, true, false, List, [], ◌∷◌, map, Some, refl, arith}
+use Rattle.std.proofs.Common.{◌≡◌, ℕ, zero, suc, ◌+◌, ◌≤◌, Bool, true, false, cond, List, [], ◌∷◌, map, Some, refl, arith}
+use Rattle.std.specs.Prelude.{◌==◌, ◌&&◌}
 use Rattle.std.specs.List.{enumerate_from}
+use Rattle.std.proofs.Math.Dec.{eqb-zero-suc}
 use Rattle.bc_medium.specs.declared.via.Via.TheVariants as vias
 use Rattle.bc_profile.specs.declared.event.Event.{Event}
 use Rattle.bc_profile.specs.declared.event.Event.TheVariants.{Idle, Evict, Busy}
@@ -9,7 +11,7 @@ use Rattle.bc_script.specs.Script.{Script}
 use Rattle.bc_report.specs.declared.answer.Answer.{Answer}
 use Rattle.bc_report.specs.declared.answer.Answer.TheVariants as answers
 use Rattle.bc_report.specs.Report.{Report}
-use Rattle.bc_report.specs.Evictions.{Eviction, evictions_of, is_busy, is_busy_with, names_busy, names_before, count_answered, count_events, IsEvictionAnswer, EvictionsHold, BusyAnswersHold}
+use Rattle.bc_report.specs.Evictions.{Eviction, evictions_of, is_busy, is_busy_with, names_busy, names_device, names_before, count_answered, count_events, IsEvictionAnswer, EvictionsHold, BusyAnswersHold}
 use Rattle.bc_report.specs.Programmings.{InlineEntry, InOrder, is_evicted_between}
 use Rattle.bc_report.specs.SerialRun.{serial_journal, NamesHoldUnder}
 use Rattle.bc_report.proofs.Journals.{device, script_of, write, evict, program, name}
@@ -120,6 +122,38 @@ its_event = refl
 
 further : count_events both 1 (is_busy 0) ≡ count_answered (evicted_as (answers.Busy 0 0 1)) 0 (names_before 1)
 further = refl
+
+one_event : (b c d : Bool) → 0 + cond {A = ℕ} (b && (true && c && d)) 1 0 ≤ 0 + cond {A = ℕ} (b && c && d) 1 0
+one_event true true true = omega arith
+one_event true true false = omega arith
+one_event true false d = omega arith
+one_event false c d = omega arith
+
+no_answer : (b : Bool) (n : ℕ) → 0 + cond {A = ℕ} (b && false) 1 0 ≤ n
+no_answer true n = omega arith
+no_answer false n = omega arith
+
+each_has_one : (device key slot refs : ℕ) → count_answered (evicted_as (answers.Busy 0 0 1)) key (names_busy device slot refs) ≤ count_events both device (is_busy_with key slot refs)
+each_has_one zero key slot refs = one_event (0 == key) (0 == slot) (1 == refs)
+each_has_one (suc zero) key slot refs = no_answer (0 == key) (count_events both 1 (is_busy_with key slot refs))
+each_has_one (suc (suc device)) key slot refs = simp eqb-zero-suc (no_answer (0 == key) 0)
+
+at_device_0 : (b : Bool) → 0 + cond {A = ℕ} b 1 0 ≤ 0 + cond {A = ℕ} (b && true) 1 0 + (0 + cond {A = ℕ} (b && false) 1 0)
+at_device_0 true = omega arith
+at_device_0 false = omega arith
+
+at_device_1 : (b : Bool) → 0 + cond {A = ℕ} b 1 0 ≤ 0 + cond {A = ℕ} (b && false) 1 0 + (0 + cond {A = ℕ} (b && true) 1 0)
+at_device_1 true = omega arith
+at_device_1 false = omega arith
+
+each_further : (device key : ℕ) → count_events both device (is_busy key)
+    ≤ count_answered (evicted_as (answers.Busy 0 0 1)) key (names_device device) + count_answered (evicted_as (answers.Busy 0 0 1)) key (names_before device)
+each_further zero key = at_device_0 (0 == key)
+each_further (suc zero) key = at_device_1 (0 == key)
+each_further (suc (suc device)) key = omega arith
+
+both_refused : BusyAnswersHold (evicted_as (answers.Busy 0 0 1)) both
+both_refused = record { each_has_its_event = each_has_one; further = each_further }
 
 -- the event of device 0 has no eviction where the answer names device 1
 without_eviction : BusyAnswersHold (evicted_as (answers.Busy 1 0 1)) both → ⊥
