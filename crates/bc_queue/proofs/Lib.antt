@@ -5,3 +5,4 @@ pub mod Marks
 pub mod Steps
 pub mod Growing
 pub mod Walk
+pub mod MediumAccess

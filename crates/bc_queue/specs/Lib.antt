@@ -1,3 +1,4 @@
 pub mod Plugs
 pub mod RequestUnits
 pub mod Carrying
+pub mod Queues

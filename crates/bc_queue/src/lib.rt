@@ -11,7 +11,13 @@ mod plug;
 mod request_units;
 mod unit_access;
 
+// dispatch
+mod inline_access;
+mod plain_access;
+mod queue;
+
 pub use plug::{MAX_PLUGGED, Plug};
+pub use queue::{Queue, QueuePass};
 pub use request_units::carry_out;
 pub use unit_access::UnitAccess;
 

@@ -55,6 +55,13 @@ impl Controller {
         }
     }
 
+    /// The number of its device.
+    pub fn device(&self) -> u8
+        ensures { result ≡ self.now.device }
+    {
+        self.device
+    }
+
     /// Its keyslots.
     pub fn profile(&self) -> &Profile
         ensures { result.now ≡ self.now.profile }
