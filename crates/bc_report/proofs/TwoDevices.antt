@@ -29,7 +29,7 @@ use Rattle.bc_report.specs.Counts.{is_reset, is_reset_of, is_programming_of, is_
 use Rattle.bc_report.specs.SerialRun.{serial_journal, NamesHold, IsSerial, IsSerialRun}
 use Rattle.bc_report.specs.LawfulRun.{LawfulButHolders, HoldersAreKnown}
 use Rattle.bc_report.proofs.Finite.{all_by_each, lawful_by_cases}
-use Rattle.bc_report.proofs.Journals.{under, device, script_of, write, program, two}
+use Rattle.bc_report.proofs.Journals.{under, device, script_of, write, program, two, with_reset_of_1}
 
 -- the way of a unit
 abbrev way_in_plan : Script → PlannedUnit → Way
@@ -118,6 +118,13 @@ idles (suc (suc device)) = omega arith
 
 counts_hold : CountsHold two report.devices
 counts_hold = record { resets = resets; programmings = programmings; idles = idles }
+
+-- resets are counted on their own devices
+resets_of_0 : count_operations with_reset_of_1 (is_reset_of 0) ≡ 0
+resets_of_0 = refl
+
+resets_of_1 : count_operations with_reset_of_1 (is_reset_of 1) ≡ 1
+resets_of_1 = refl
 
 may_program : MayProgram (opening 1) 0 0 []
 may_program = record {
