@@ -24,9 +24,7 @@ pub fn sections_in_turn_make_a_serial_run()
 /// the end. A caller's proof cites it from this call.
 pub fn serial_runs_have_known_holders()
     ensures { SerialRunsHaveKnownHolders }
-{
-    bio_laws();
-}
+{}
 
 /// Does nothing, and states that a script, an image and a number of shards have one serial run at most. A caller's
 /// proof cites it from this call.

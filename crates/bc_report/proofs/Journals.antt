@@ -145,6 +145,13 @@ two = script_of 2 true (device 0 1 1 1 ∷ device 1 1 1 1 ∷ []) (write 0 6 4 0
 two_devices : map (serial_journal two) (enumerate_from 0 two.targets) ≡ (program 0 0 ∷ Idle 0 ∷ []) ∷ (program 0 0 ∷ Idle 0 ∷ []) ∷ []
 two_devices = refl
 
+-- a reset is of its own device
+abbrev pub with_reset_of_1 : Script
+with_reset_of_1 = script_of 2 true (device 0 1 1 1 ∷ device 1 1 1 1 ∷ []) (write 0 6 4 0 ∷ ops.Reset 1 ∷ [])
+
+reset_of_1 : map (serial_journal with_reset_of_1) (enumerate_from 0 with_reset_of_1.targets) ≡ (program 0 0 ∷ Idle 0 ∷ []) ∷ (program 0 0 ∷ Idle 0 ∷ Reset ∷ []) ∷ []
+reset_of_1 = refl
+
 -- sections follow one another, on a device of one slot
 two_sections : serial_journal
     (record { blocks = 1; fallback = false; targets = device 0 1 1 1 ∷ []; keys = three_keys; faults = []; threads = (write 0 0 1 0 ∷ []) ∷ (write 1 0 1 0 ∷ write 1 0 1 0 ∷ []) ∷ [] })

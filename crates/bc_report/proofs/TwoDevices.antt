@@ -29,7 +29,7 @@ use Rattle.bc_report.specs.Counts.{is_reset, is_reset_of, is_programming_of, is_
 use Rattle.bc_report.specs.SerialRun.{serial_journal, NamesHold, IsSerial, IsSerialRun}
 use Rattle.bc_report.specs.LawfulRun.{LawfulButHolders, HoldersAreKnown}
 use Rattle.bc_report.proofs.Finite.{all_by_each, lawful_by_cases}
-use Rattle.bc_report.proofs.Journals.{under, device, script_of, write, program, two}
+use Rattle.bc_report.proofs.Journals.{under, device, script_of, write, program, two, with_reset_of_1}
 
 -- the way of a unit
 abbrev way_in_plan : Script → PlannedUnit → Way
@@ -118,6 +118,39 @@ idles (suc (suc device)) = omega arith
 
 counts_hold : CountsHold two report.devices
 counts_hold = record { resets = resets; programmings = programmings; idles = idles }
+
+-- resets are counted on their own devices
+resets_of_0 : count_operations with_reset_of_1 (is_reset_of 0) ≡ 0
+resets_of_0 = refl
+
+resets_of_1 : count_operations with_reset_of_1 (is_reset_of 1) ≡ 1
+resets_of_1 = refl
+
+-- the bio over both devices is one bio on each; one of block 0 is on device 0 alone, under its own key
+on_device_0 : count_operations two (touches_any two 0) ≡ 1
+on_device_0 = refl
+
+on_device_1 : count_operations two (touches_any two 1) ≡ 1
+on_device_1 = refl
+
+abbrev block_0 : Script
+block_0 = script_of 2 true (device 0 1 1 1 ∷ device 1 1 1 1 ∷ []) (write 1 0 2 0 ∷ [])
+
+on_its_device : count_operations block_0 (touches_under block_0 0 1) ≡ 1
+on_its_device = refl
+
+not_under_another_key : count_operations block_0 (touches_under block_0 0 0) ≡ 0
+not_under_another_key = refl
+
+not_on_device_1 : count_operations block_0 (touches_under block_0 1 1) ≡ 0
+not_on_device_1 = refl
+
+none_on_device_1 : count_operations block_0 (touches_any block_0 1) ≡ 0
+none_on_device_1 = refl
+
+-- a bio that goes by software is on no device
+none_by_software : count_operations (partly true) (touches_any (partly true) 0) ≡ 0
+none_by_software = refl
 
 may_program : MayProgram (opening 1) 0 0 []
 may_program = record {
