@@ -6,3 +6,4 @@ pub mod Steps
 pub mod Growing
 pub mod Walk
 pub mod MediumAccess
+pub mod Queues

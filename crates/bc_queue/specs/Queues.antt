@@ -1,6 +1,6 @@
 -- What contracts see of the queue of a disk and of its callers' passes: a controller for each device over one medium, and of
 -- each caller a pass of each controller's keyslots and one of the medium. And what a dispatch does.
-use Rattle.std.specs.Prelude.{◌≡◌, ◌≢◌, ℕ, ◌+◌, ◌-◌, ◌<◌, ◌≤◌, true, List, map, Option, Some, None, IsSomeAnd, option_and_then, slice_get}
+use Rattle.std.specs.Prelude.{◌≡◌, ◌≢◌, ℕ, ◌+◌, ◌-◌, ◌<◌, ◌≤◌, true, List, map, Option, Some, None, IsSomeAnd, option_and_then, slice_get, slice_set}
 use Rattle.std.specs.Option.{option_map_or}
 use Rattle.std.specs.List.{AllZip}
 use Rattle.bc_base.specs.Lists.{Each, EachFrom, At, AllAt, ChangesAt}
@@ -11,17 +11,18 @@ use Rattle.bc_modes.specs.Capabilities.{Capabilities, is_supported}
 use Rattle.bc_bio.specs.declared.context.Context.{Context}
 use Rattle.bc_bio.specs.declared.marked_bio.MarkedBio.{MarkedBio}
 use Rattle.bc_bio.specs.Extent.{unit_sectors}
-use Rattle.bc_bio.specs.Requests.{RequestParts}
+use Rattle.bc_bio.specs.Windows.{count_units}
+use Rattle.bc_bio.specs.Requests.{RequestParts, tagged_bios}
 use Rattle.bc_turn.specs.Parts.{Pass}
 use Rattle.bc_medium.specs.declared.entry.Entry.{Entry}
 use Rattle.bc_medium.specs.declared.via.Via.{Via}
 use Rattle.bc_medium.specs.declared.via.Via.TheVariants as ways
 use Rattle.bc_medium.specs.Medium.{MediumData, OpeningData, shards_of, seen_by, own_at, quota_of, Belongs, OwnsSectors}
 use Rattle.bc_profile.specs.Story.{Holds}
-use Rattle.bc_profile.specs.Passes.{SlotFacts, HoldFacts, ProfileData, slots_in, IsOf, Gets, Puts}
+use Rattle.bc_profile.specs.Passes.{SlotFacts, HoldFacts, ProfileData, slots_in, IsOf, HasSpare, Gets, Puts}
 use Rattle.bc_ufs.specs.Controllers.{ControllerData, row_for, Serves, via_of}
-use Rattle.bc_queue.specs.RequestUnits.{named_at}
-use Rattle.bc_queue.specs.Carrying.{AccessFacts, CarriesOut}
+use Rattle.bc_queue.specs.RequestUnits.{named_at, planned_part, units_on}
+use Rattle.bc_queue.specs.Carrying.{AccessFacts, CarriesOut, ArePerformable}
 
 -- a queue: its controllers by device, and its medium
 pub record QueueData (S : Type 0) : Type 0 where
@@ -79,6 +80,68 @@ module _ {S : Type 0} where
     pub sectors : OwnsSectors owns m sector (unit_sectors m.keys.keys context)
     pub supported : IsSomeAnd context (λ c. IsSomeAnd (key_at m.keys.keys c.key)
         (λ key. is_supported caps key.config ≡ true))
+
+-- the pass of a device's keyslots may make so many events more
+abbrev pub HasEvents : {S : Type 0} → QueueData S → List SlotFacts → ℕ → ℕ → Type 0
+HasEvents queue slots device events =
+    AllAt queue.controllers device (λ controller. AllAt slots device (λ pass. HasSpare controller.profile pass events))
+
+-- so many units of a request from this number on have their bytes, lie in sectors of their shards' stores, and have a key
+-- that the device supports
+abbrev pub CanGo : {S : Type 0} → (S → ℕ → Rattle.std.specs.Prelude.Bool) → QueueData S → ℕ → List MarkedBio → ℕ → ℕ
+    → Type 0
+CanGo owns queue device bios first count =
+    AllAt queue.controllers device (λ controller. ArePerformable queue.medium.keys.keys
+    (TakesInline owns queue.medium controller.caps) bios first count)
+
+-- the same of all units of a request whose bios have no context
+abbrev pub CanGoPlain : {S : Type 0} → (S → ℕ → Rattle.std.specs.Prelude.Bool) → QueueData S → List MarkedBio → Type 0
+CanGoPlain owns queue bios =
+    ArePerformable queue.medium.keys.keys (TakesPlain owns queue.medium) bios 0 (count_units (tagged_bios bios))
+
+-- the pass has a spare of an entry for each of so many units of a request from this number on, on the unit's shard
+abbrev pub HasSpareOfUnits : {S : Type 0} → QueueData S → Pass Entry (OpeningData S) → List MarkedBio → ℕ → ℕ → Type 0
+HasSpareOfUnits queue units bios first count =
+    (shard : ℕ) → units_on (shards_of queue.medium) shard (planned_part queue.medium.keys.keys bios first count)
+    ≤ spare_of queue.medium units shard
+
+-- Private: the pass of this device's keyslots has the hold.
+pub record IsHolding {S : Type 0} (queue : QueueData S) (slots : List SlotFacts) (device : ℕ) (hold : HoldFacts)
+    : Type 0 where
+  pub controller : ControllerData
+  pub controller_at : At queue.controllers device controller
+  pub pass : SlotFacts
+  pub pass_at : At slots device pass
+  pub is_of : IsOf controller.profile pass
+  pub held : pass.hold ≡ Some hold
+  pub spare : HasSpare controller.profile pass 1
+
+-- Private: the pass of this device's keyslots took a hold of the key.
+pub record HasGot {S : Type 0} (queue : QueueData S) (old new : List SlotFacts) (device key : ℕ) (hold : HoldFacts)
+    : Type 0 where
+  pub holding : IsHolding queue new device hold
+  pub before : SlotFacts
+  pub before_at : At old device before
+  pub sets : new ≡ slice_set old device holding.pass
+  pub key_is : hold.key ≡ key
+  pub gets : Gets (slots_in holding.controller.profile) before holding.pass key hold.slot
+  pub holds : Holds (slots_in holding.controller.profile) holding.pass.seen key hold.slot hold.epoch
+
+-- Private: it gave the hold back.
+pub record HasPut {S : Type 0} (queue : QueueData S) (old new : List SlotFacts) (device : ℕ) (hold : HoldFacts)
+    : Type 0 where
+  pub during : SlotFacts
+  pub during_at : At old device during
+  pub after : SlotFacts
+  pub sets : new ≡ slice_set old device after
+  pub is_of : AllAt queue.controllers device (λ controller. IsOf controller.profile after)
+  pub free : after.hold ≡ None
+  pub puts : Puts during after hold.slot
+
+-- Private: these units are under this key.
+abbrev pub AreUnderKey : List KeyData → List MarkedBio → ℕ → ℕ → ℕ → Type 0
+AreUnderKey keys bios first count key =
+    (n : ℕ) → first ≤ n → n < first + count → IsSomeAnd (named_at keys bios n).context (λ c. c.key.0 ≡ key)
 
 -- Private: a way through a controller: the hold that it goes under, and the passes of the keyslots with it.
 pub record InlineData (S : Type 0) : Type 0 where
