@@ -2,7 +2,7 @@ use Rattle.std.proofs.Common.{◌≡◌, ◌∙◌, ◌<◌, ◌≤◌, ◌+◌,
 use Rattle.std.specs.List.{AllByRecursion}
 use Rattle.std.specs.Prelude.{sum_by}
 use Rattle.bc_script.specs.declared.op.Op.{Op}
-use Rattle.bc_script.specs.Script.{Script, keys_of, IsSection, max_ops, max_threads, unit_count_of_section}
+use Rattle.bc_script.specs.Script.{Script, IsScriptSection, max_ops, max_threads, unit_count_of_section}
 use Rattle.bc_report.specs.declared.answer.Answer.{Answer}
 use Rattle.bc_run.specs.Sections.{CarriesSection, SectionsDone}
 use Rattle.bc_run.specs.Standing.{device_of}
@@ -36,14 +36,14 @@ pub carry_section_out-requires : goal.carry_section_out-requires
 carry_section_out-requires c =
     let section = c.index-sections-thread.result in
     let script : c.loop-thread.direct.script ≡ c.args.direct.now.script = ap (λ d. d.script) c.loop-thread.invariant.done.same in
-    let all : AllByRecursion (IsSection (keys_of c.args.direct.now.script)) c.args.sections.now =
-    subst (AllByRecursion (IsSection (keys_of c.args.direct.now.script))) (sym c.requires.sections) c.requires.rules.threads.each in
+    let all : AllByRecursion (IsScriptSection c.args.direct.now.script) c.args.sections.now =
+    subst (AllByRecursion (IsScriptSection c.args.direct.now.script)) (sym c.requires.sections) c.requires.rules.threads.each in
     let most = subst (λ l. sum_by length l ≤ max_ops) (sym c.requires.sections) c.requires.rules.threads.few_ops in
     let few = few_ops c.args.sections.now c.loop-thread.thread section c.loop-thread-test.true c.index-sections-thread.is in
     record {
-      rules = subst (λ (s : Script). IsSection (keys_of s) c.as_slice.result.now) (sym script)
-          (subst (IsSection (keys_of c.args.direct.now.script)) (sym c.as_slice.ensures)
-          (all_read (IsSection (keys_of c.args.direct.now.script)) c.args.sections.now c.loop-thread.thread section all c.loop-thread-test.true c.index-sections-thread.is));
+      rules = subst (λ (s : Script). IsScriptSection s c.as_slice.result.now) (sym script)
+          (subst (IsScriptSection c.args.direct.now.script) (sym c.as_slice.ensures)
+          (all_read (IsScriptSection c.args.direct.now.script) c.args.sections.now c.loop-thread.thread section all c.loop-thread-test.true c.index-sections-thread.is));
       few = omega (arith, ap length c.as_slice.ensures);
       spare = omega (
         arith,
