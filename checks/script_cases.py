@@ -28,6 +28,16 @@ def headed(*lines):
     return text_of([*HEAD, *lines, "end"])
 
 
+def three_blocks(*lines):
+    """The lines behind the first three ones of a disk of three blocks, and the end."""
+    return text_of(["blkcrypt 1", "disk 3", "fallback on", *lines, "end"])
+
+
+def eight_devices(*lines):
+    """The lines behind eight devices of one block each, and the end."""
+    return text_of(["blkcrypt 1", "disk 8", "fallback on", *(f"device {first} 1 1 1 0 8" for first in range(8)), *lines, "end"])
+
+
 def many_names(count):
     return [H512.replace(" a ", f" k{place} ") for place in range(count)]
 
@@ -70,10 +80,30 @@ REFUSED = [
     ("a second fallback line", headed("fallback on"), 4, "word"),
     ("a late fallback off", headed("fallback off"), 4, "word"),
     ("no fallback line", text_of(["blkcrypt 1", "disk 1", "end"]), 3, "word"),
-    # what isn't built
+    # devices
     ("a device", headed("device 0 1 1 1 0 8", H512), 4, "not built"),
-    ("a device with other fields", headed("device x"), 4, "not built"),
-    ("a device without fields", headed("device"), 4, "not built"),
+    ("a device and no fallback", text_of(["blkcrypt 1", "disk 1", "fallback off", "device 0 1 1 1 0 8", "end"]), 3, "not built"),
+    ("a device that begins elsewhere", headed("device 1 1 1 1 0 8"), 4, "device"),
+    ("no fallback and a device elsewhere", text_of(["blkcrypt 1", "disk 1", "fallback off", "device 1 1 1 1 0 8"]), 4, "device"),
+    ("a mask of 16", headed("device 0 1 1 16 0 8"), 4, "number"),
+    ("a mask of 16 elsewhere", headed("device 1 1 1 0 16 8"), 4, "number"),
+    ("a device without keyslots", headed("device 0 1 0 1 0 8"), 4, "number"),
+    ("33 keyslots", headed("device 0 1 33 1 0 8"), 4, "number"),
+    ("9 number bytes of a device", headed("device 0 1 1 1 0 9"), 4, "number"),
+    ("a device without blocks", headed("device 0 0 1 1 0 8"), 4, "number"),
+    ("a device longer than the disk", headed("device 0 2 1 1 0 8"), 5, "device"),
+    ("devices shorter than the disk", three_blocks("device 0 1 1 1 0 8", "device 1 1 1 1 0 8", H512), 6, "device"),
+    ("a fault behind a short device", three_blocks("device 0 2 1 1 0 8", "fault 0 0"), 5, "device"),
+    ("a section behind a short device", three_blocks("device 0 2 1 1 0 8", "thread", "plug"), 5, "device"),
+    ("a wrong key behind a short device", three_blocks("device 0 2 1 1 0 8", H512[:-2]), 5, "key"),
+    ("a wrong fault behind a short device", three_blocks("device 0 2 1 1 0 8", "fault 64 0"), 5, "number"),
+    ("another gap", three_blocks("device 0 2 1 1 0 8", "device 1 1 1 1 0 8"), 5, "device"),
+    ("nine devices", eight_devices("device 8 1 1 1 0 8"), 12, "limit"),
+    ("nine devices and a gap", eight_devices("device 7 1 1 1 0 8"), 12, "device"),
+    ("a reset of a device", headed("device 0 1 1 1 0 8", "thread", "reset 0"), 4, "not built"),
+    ("a reset of another", headed("device 0 1 1 1 0 8", "thread", "reset 1"), 6, "number"),
+    ("a device with other fields", headed("device x"), 4, "word"),
+    ("a device without fields", headed("device"), 4, "word"),
     ("a device behind a key", headed(H512, "device 0 1 1 1 0 8"), 5, "word"),
     ("a device in a section", ended("device 0 1 1 1 0 8"), 6, "word"),
     ("a device before the fallback line", text_of(["blkcrypt 1", "disk 1", "device 0 1 1 1 0 8"]), 3, "word"),
@@ -349,7 +379,7 @@ def agrees(wanted, found):
 
 def wrong(modelled):
     """The names of the cases that a model answers otherwise, and what it answers."""
-    if len({kind for *_, kind in documented()}) != 9:
+    if len({kind for *_, kind in documented()}) != 10:
         yield "the examples of errors of docs/SCRIPT.md, of which there is one at least of each kind", ()
     for name, text, line, kind in REFUSED:
         if modelled(text) != (2, b"", f"blkcrypt: script line {line}: {kind}\n".encode()):

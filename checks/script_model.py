@@ -20,6 +20,7 @@ KEY_BYTES = {XTS: 64, ESSIV: 16}
 UNIT_SIZES = [512, 1024, 2048, 4096]
 
 MOST_TEXT = 16777216
+MOST_DEVICES = 8
 MOST_KEYS = 4096
 MOST_FAULTS = 1024
 MOST_SECTIONS = 16
@@ -106,6 +107,8 @@ class Reader:
     def __init__(self):
         self.place = "version"
         self.blocks = 0
+        self.fallback = True
+        self.devices = []  # the blocks of each
         self.keys = {}
         self.faults = []
         self.sections = []
@@ -114,8 +117,8 @@ class Reader:
         self.units = 0
 
     def line(self, line):
-        """Takes a line in, or fails with its kind. The tests stand in their order: End, then Word or not built by the
-        cases of `match`, then those of each form."""
+        """Takes a line in, or fails with its kind. The tests stand in their order: End, then Word by the cases of `match`,
+        then those of each form."""
         test(self.place != "done", "end")
         match self.place, line.split(b" "):
             case "version", [b"blkcrypt", b"1"]:
@@ -123,12 +126,12 @@ class Reader:
             case "disk", [b"disk", blocks]:
                 self.blocks = decimal(blocks, 1, 16384)
                 self.place = "fallback"
-            case "fallback", [b"fallback", b"on"]:
+            case "fallback", [b"fallback", (b"on" | b"off") as switch]:
+                self.fallback = switch == b"on"
                 self.place = "devices"
-            case "fallback", [b"fallback", b"off"]:
-                raise Fails("not built")
-            case "devices", [b"device", *_]:
-                raise Fails("not built")
+            case "devices", [b"device", first, blocks, slots, xts, essiv, size]:
+                self.device(decimal(first, 0, 16383), decimal(blocks, 1, 16384), decimal(slots, 1, 32),
+                            decimal(xts, 0, 15), decimal(essiv, 0, 15), decimal(size, 1, 8))
             case "devices" | "keys", [b"key", name, (b"aes-256-xts" | b"aes-128-cbc-essiv") as mode, unit, size, digits]:
                 self.key(name, mode, unit, size, digits)
                 self.place = "keys"
@@ -137,11 +140,13 @@ class Reader:
                 self.place = "faults"
             case "devices" | "keys" | "faults" | "sections", [b"thread"]:
                 test(not self.plugged, "order")
+                self.whole_devices()
                 test(len(self.sections) < MOST_SECTIONS, "limit")
                 self.sections.append([])
                 self.place = "sections"
             case "devices" | "keys" | "faults" | "sections", [b"end"]:
                 test(not self.plugged, "order")
+                self.whole_devices()
                 self.place = "done"
             case "sections", [b"write", key, sector, units, number, (b"fill" | b"hex") as how, digits] if (
                     (key == b"-") == (number == b"-")):
@@ -156,8 +161,9 @@ class Reader:
             case "sections", [b"evict", name]:
                 self.named(name)
                 self.operation("evicted")
-            case "sections", [b"reset", _]:
-                raise Fails("number")  # there is no device that the field could name
+            case "sections", [b"reset", device]:
+                decimal(device, 0, len(self.devices) - 1)
+                self.operation("reset")
             case "sections", [b"plug"]:
                 test(not self.plugged, "order")
                 self.operation("plug")
@@ -169,6 +175,15 @@ class Reader:
             case _:
                 raise Fails("word")
 
+    def device(self, first, blocks, *_):
+        test(first == sum(self.devices), "device")
+        test(len(self.devices) < MOST_DEVICES, "limit")
+        self.devices.append(blocks)
+
+    def whole_devices(self):
+        """The devices, if there are any, have the disk's blocks together."""
+        test(not self.devices or sum(self.devices) == self.blocks, "device")
+
     def key(self, name, mode, unit, size, digits):
         test(re.fullmatch(rb"[a-z][a-z0-9]{0,15}", name) and name not in self.keys, "name")
         unit = decimal(unit, 0, 4294967295)
@@ -176,11 +191,13 @@ class Reader:
         raw = hexadecimal(digits, 1, 128)
         test(len(raw) == KEY_BYTES[mode] and unit in UNIT_SIZES and 1 <= size <= 16, "key")
         test(mode != XTS or raw[:32] != raw[32:], "key")
+        self.whole_devices()
         test(len(self.keys) < MOST_KEYS, "limit")
         self.keys[name] = Key(mode, unit, size, raw)
 
     def fault(self, shard, access):
         test(not self.faults or self.faults[-1] < (shard, access), "order")
+        self.whole_devices()
         test(len(self.faults) < MOST_FAULTS, "limit")
         self.faults.append((shard, access))
 
@@ -211,7 +228,8 @@ class Reader:
 
 
 def read_script(text):
-    """The script that a text says; or, where it says none, the first line that fails a test, from 1, and the test."""
+    """The script that a text says; or, where it says none, the first line that fails a test, from 1, and the test. A script
+    without a fallback, or with devices, isn't carried out yet, which is answered by the line that says so."""
     *lines, rest = text.split(b"\n")
     reader = Reader()
     for place, line in enumerate(lines):
@@ -222,6 +240,10 @@ def read_script(text):
     # Behind the last line feed stands nothing, and nothing is missing.
     if rest or reader.place != "done":
         return len(lines) + 1, "end"
+    if not reader.fallback:
+        return 3, "not built"
+    if reader.devices:
+        return 4, "not built"
     return Script(reader.blocks, reader.faults, reader.sections)
 
 

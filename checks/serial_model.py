@@ -16,7 +16,7 @@ import script_cases
 import script_texts
 from script_model import Script, modelled, read_script, report_of
 
-KINDS = ["end", "word", "not built", "number", "name", "hex", "key", "order", "limit"]
+KINDS = ["end", "word", "not built", "number", "name", "hex", "key", "order", "device", "limit"]
 ANSWERS = ["done", "done fill", "done sha256", "fault 0", "fault 1", "fault 255", "refused empty", "refused misaligned",
            "refused outside", "refused dun", "evicted", "plug", "unplug"]
 

@@ -12,3 +12,4 @@ pub mod Words
 pub mod Equal
 pub mod EqualParts
 pub mod Texts
+pub mod Refusing

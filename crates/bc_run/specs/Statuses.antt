@@ -5,7 +5,7 @@ use Rattle.bc_base.specs.Outside.{Rose, AppendsPrefix}
 use Rattle.bc_run.specs.declared.status.Status.{Status}
 use Rattle.bc_run.specs.declared.status.Status.TheVariants.{Ok, Usage, BadScript, ReadFault, WriteFault, TooLong, NoMemory}
 use Rattle.bc_script.specs.declared.limits.TheConstants.{MAX_TEXT}
-use Rattle.bc_run.specs.Command.{IsCommand, IsNoScript, IsCarriedOut}
+use Rattle.bc_run.specs.Command.{IsCommand, IsBadScript, IsCarriedOut}
 
 -- the number that the process ends with
 abbrev pub code_of : Status → ℕ
@@ -52,7 +52,7 @@ EndsBy run Usage = IsCommand run.words → ⊥
 EndsBy run ReadFault = IsCommand run.words × ReadRose run
 EndsBy run (TooLong limit) =
     IsCommand run.words × (limit ≡ MAX_TEXT) × IfSome run.text (λ text. limit < length text)
-EndsBy run (BadScript e) = IsCommand run.words × IfSome run.text (IsNoScript e)
+EndsBy run (BadScript e) = IsCommand run.words × IfSome run.text (IsBadScript e)
 EndsBy run WriteFault =
     IsCommand run.words × IfSome run.text (IsCarriedOut (PrefixWritten run)) × WriteRose run
 EndsBy run Ok = IsCommand run.words × IfSome run.text (IsCarriedOut (Written run))

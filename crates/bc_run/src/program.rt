@@ -7,7 +7,7 @@ ghost use Rattle.bc_base.specs.Outside.{Rose, HasCause, AppendsPrefix};
 ghost use Rattle.bc_script.specs.ScriptText.{Says, NoScriptHas};
 ghost use Rattle.bc_report.specs.ReportText.{report_text};
 ghost use Rattle.bc_script.specs.declared.limits.TheConstants.{MAX_TEXT};
-ghost use Rattle.bc_run.specs.Command.{IsCommand, IsTextOf, IsReportOf, zeros_for};
+ghost use Rattle.bc_run.specs.Command.{IsCommand, IsTextOf, IsBuilt, IsReportOf, unbuilt_line, zeros_for};
 ghost use Rattle.bc_run.specs.Statuses.{EndsBy};
 ghost use Rattle.bc_run.specs.Stages.{status_of, IsNotRead};
 ghost use Rattle.bc_script.specs.Script as specs;
@@ -17,8 +17,14 @@ use crate::status::Status;
 use bc_base::{BLOCK_BYTES, ReadError, Sink, Source, read_all, write_all};
 use bc_report::{Report, print};
 use bc_script::limits::MAX_TEXT;
-use bc_script::{ParseError, Script, parse};
+use bc_script::{ParseError, Script, ScriptError, ScriptWhy, no_proper_prefix, parse};
 use std::alloc::{AllocError, Global};
+
+/// The line of a script that says whether there is a fallback.
+const FALLBACK_LINE: u32 = 3;
+
+/// The line of a script's first device, where it has one.
+const FIRST_DEVICE_LINE: u32 = 4;
 
 /// Runs the command that the words say, and returns how that ended. The words are those after the program's name.
 ///
@@ -33,7 +39,8 @@ use std::alloc::{AllocError, Global};
 /// - [`Status::Usage`]: the words are no command.
 /// - [`Status::ReadFault`]: the source failed, and its count of faults rose.
 /// - [`Status::TooLong`]: the source had more than 16 MiB.
-/// - [`Status::BadScript`]: no script has the text; the line and the test that it fails first.
+/// - [`Status::BadScript`]: no script has the text; the line and the test that it fails first. Or the script has no
+///   fallback, or has devices, which isn't carried out yet: line 3, or line 4, and that it isn't built.
 /// - [`Status::WriteFault`]: the sink failed, and its count of faults rose. It holds a prefix of the report.
 ///
 /// [`Status::NoMemory`] can come at each stage but the first and the last. After it, and after each other status but
@@ -68,13 +75,15 @@ pub fn run<Rt, S: Source, K: Sink, F, G>(
     ensures write_cause { HasCause (K.faults out.old) (K.faults out.new)
         (result ≡ Status.WriteFault) }
 
-    // A script within the limit is carried out, unless a count of faults rose or memory ran out.
+    // A script within the limit that asks for nothing that isn't carried out yet is carried out, unless a count of faults
+    // rose or memory ran out.
     ensures complete { IsCommand (map string_bytes words.now)
-        → IfSome (S.left script.old) (λ text. (asked : specs.Script) → IsTextOf text asked
+        → IfSome (S.left script.old) (λ text. (asked : specs.Script) → IsTextOf text asked → IsBuilt asked
         → (Rose (S.faults script.old) (S.faults script.new) → ⊥)
         → (Rose (K.faults out.old) (K.faults out.new) → ⊥)
         → (result ≡ Status.Ok) ⊎ (result ≡ Status.NoMemory)) }
 {
+    no_proper_prefix();
     match stages(alloc, words, script, out) {
         Ok(()) => Status::Ok,
         Err(status) => status,
@@ -147,15 +156,35 @@ fn read_script<S: Source>(alloc: Global, source: &mut S) -> Result<Vec<u8>, Stat
     }
 }
 
-/// The script that the text says.
+/// The script that the text says, where it asks for nothing that isn't carried out yet.
 fn script_of_text(alloc: Global, text: &[u8]) -> Result<Script, Status>
     ensures ok { IfOk result (Says text.now) }
+    ensures built { IfOk result IsBuilt }
     ensures bad { IfErr result (IsNotRead text.now) }
 {
     match parse(alloc, text) {
-        Ok(script) => Ok(script),
+        Ok(script) => match unbuilt_line(&script) {
+            None => Ok(script),
+            Some(line) => Err(Status::BadScript(ScriptError {
+                line,
+                why: ScriptWhy::NotBuilt,
+            })),
+        },
         Err(ParseError::Bad(error)) => Err(Status::BadScript(error)),
         Err(ParseError::Memory) => Err(Status::NoMemory),
+    }
+}
+
+/// The line of a script that asks for what isn't carried out yet.
+fn unbuilt_line(script: &Script) -> Option<u32>
+    ensures { result ≡ unbuilt_line script.now }
+{
+    if !script.fallback() {
+        Some(FALLBACK_LINE)
+    } else if !script.targets().is_empty() {
+        Some(FIRST_DEVICE_LINE)
+    } else {
+        None
     }
 }
 
