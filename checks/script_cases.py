@@ -199,8 +199,11 @@ REFUSED = [
 NOT_BUILT = [
     ("fallback off", text_of(["blkcrypt 1", "disk 1", "fallback off", "end"]), 3, "not built"),
     ("a device", headed("device 0 1 1 1 0 8", H512), 4, "not built"),
-    ("a device with other fields", headed("device x"), 4, "not built"),
-    ("a device without fields", headed("device"), 4, "not built"),
+    ("a device and no fallback", text_of(["blkcrypt 1", "disk 1", "fallback off", "device 0 1 1 1 0 8", "end"]), 3, "not built"),
+    ("no fallback and a device elsewhere", text_of(["blkcrypt 1", "disk 1", "fallback off", "device 1 1 1 1 0 8"]), 4, "device"),
+    ("a reset of a device", headed("device 0 1 1 1 0 8", "thread", "reset 0"), 4, "not built"),
+    ("a device with other fields", headed("device x"), 4, "word"),
+    ("a device without fields", headed("device"), 4, "word"),
 ]
 
 IN_A_PLUG = ["thread", "plug", "write a 0 2 0 fill 11", "write a 2 2 2 fill 22", "write a 4 1 4 fill 33", "unplug", "read - 2 1 -",

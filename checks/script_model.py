@@ -134,10 +134,9 @@ def hexadecimal(field, least, most):
 class Reader:
     """Reads lines one after the other. `place` says what the lines so far are: it is the name of the next line where
     one line may follow, `devices` directly behind the first three lines and behind devices, then `keys`, `faults`, `sections`
-    and `done`. Without `devices` it is the reader of a program that refuses devices and `fallback off` as not built."""
+    and `done`."""
 
-    def __init__(self, devices):
-        self.built = devices
+    def __init__(self):
         self.place = "version"
         self.blocks = 0
         self.fallback = True
@@ -150,7 +149,7 @@ class Reader:
         self.units = 0
 
     def line(self, line):
-        """Takes a line in, or fails with its kind. The tests stand in their order: End, then Word or not built by the
+        """Takes a line in, or fails with its kind. The tests stand in their order: End, then Word by the
         cases of `match`, then those of each form."""
         test(self.place != "done", "end")
         match self.place, line.split(b" "):
@@ -159,14 +158,9 @@ class Reader:
             case "disk", [b"disk", blocks]:
                 self.blocks = decimal(blocks, 1, 16384)
                 self.place = "fallback"
-            case "fallback", [b"fallback", b"on"]:
+            case "fallback", [b"fallback", (b"on" | b"off") as switch]:
+                self.fallback = switch == b"on"
                 self.place = "devices"
-            case "fallback", [b"fallback", b"off"]:
-                test(self.built, "not built")
-                self.fallback = False
-                self.place = "devices"
-            case "devices", [b"device", *_] if not self.built:
-                raise Fails("not built")
             case "devices", [b"device", first, blocks, slots, xts, essiv, number_bytes]:
                 self.device(Device(decimal(first, 0, 16383), decimal(blocks, 1, 16384), decimal(slots, 1, 32), decimal(xts, 0, 15),
                                    decimal(essiv, 0, 15), decimal(number_bytes, 1, 8)))
@@ -265,9 +259,10 @@ class Reader:
 
 
 def read_script(text, devices=DEVICES):
-    """The script that a text says; or, where it says none, the first line that fails a test, from 1, and the test."""
+    """The script that a text says; or, where it says none, the first line that fails a test, from 1, and the test. Without
+    `devices` a script without a fallback, or with devices, isn't carried out: then it is the line that says so, and `not built`."""
     *lines, rest = text.split(b"\n")
-    reader = Reader(devices)
+    reader = Reader()
     for place, line in enumerate(lines):
         try:
             reader.line(line)
@@ -276,6 +271,10 @@ def read_script(text, devices=DEVICES):
     # Behind the last line feed stands nothing, and nothing is missing.
     if rest or reader.place != "done":
         return len(lines) + 1, "end"
+    if not devices and not reader.fallback:
+        return 3, "not built"
+    if not devices and reader.devices:
+        return 4, "not built"
     return Script(reader.blocks, reader.fallback, reader.devices, list(reader.keys.values()), reader.faults, reader.sections)
 
 

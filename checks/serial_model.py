@@ -20,7 +20,7 @@ import script_texts
 from judge import judged
 from script_model import DEVICES, SECTOR, Script, modelled, read_script, report_of, run_of
 
-KINDS = ["end", "word", "number", "name", "hex", "key", "order", "limit"]
+KINDS = ["end", "word", "number", "name", "hex", "key", "order", "device", "limit"]
 ANSWERS = ["done", "done fill", "done sha256", "fault 0", "fault 1", "fault 255", "refused empty", "refused misaligned",
            "refused outside", "refused dun", "evicted", "plug", "unplug"]
 

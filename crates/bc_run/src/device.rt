@@ -4,7 +4,7 @@ ghost use Rattle.std.specs.Prelude.{◌≡◌, ◌+◌, ◌^◌, ◌<◌, ◌≤
 ghost use Rattle.std.specs.List.{AllByRecursion};
 ghost use Rattle.bc_bio.specs.Conditions.{HasKey};
 ghost use Rattle.bc_script.specs.declared.op.Op.TheVariants as ops;
-ghost use Rattle.bc_script.specs.Script.{keys_of, unit_count, unit_count_of_section, IsOp};
+ghost use Rattle.bc_script.specs.Script.{keys_of, unit_count, unit_count_of_section, IsScriptOp};
 ghost use Rattle.bc_script.specs.Bios.{bio_of, refusal_of};
 ghost use Rattle.bc_run.specs.Sections.{DeviceData, CarriesOne, CarriesSection};
 
@@ -27,7 +27,7 @@ pub(crate) trait Device<R, E> {
 
     /// Submits an operation's bio, which isn't refused.
     fn submit(&mut self, rt: &R, op: u32, operation: &Op, bio: &Extent) -> Result<Answer, E>
-        requires rules { IsOp (keys_of (facts self.old).script) operation.now }
+        requires rules { IsScriptOp (facts self.old).script operation.now }
         requires bio { bio_of operation.now ≡ Some bio.now }
         requires accepted { refusal_of (facts self.old).script bio.now ≡ None }
         requires spare { unit_count operation.now ≤ (facts self.old).spare }
@@ -35,7 +35,7 @@ pub(crate) trait Device<R, E> {
 
     /// Takes a key out of all keyslots.
     fn evict(&mut self, rt: &R, op: u32, key: KeyNo) -> Result<Answer, E>
-        requires rules { IsOp (keys_of (facts self.old).script) (ops.Evict key) }
+        requires rules { IsScriptOp (facts self.old).script (ops.Evict key) }
         ensures { IfOk result (CarriesOne (facts self.old) (facts self.new) (op, ops.Evict key)) };
 
     /// Has a device program its keyslots again.
@@ -56,7 +56,7 @@ pub(crate) fn carry_out<R, E, D: Device<R, E>>(
     section: &[Op],
     answers: &mut Vec<Answer>,
 ) -> Result<(), E>
-    requires rules { AllByRecursion (IsOp (keys_of (D.facts device.old).script)) section.now }
+    requires rules { AllByRecursion (IsScriptOp (D.facts device.old).script) section.now }
     requires few { length section.now < 2 ^ 32 }
     requires spare { unit_count_of_section section.now ≤ (D.facts device.old).spare }
     requires empty { answers.old.items ≡ [] }
@@ -78,7 +78,7 @@ fn carry_out_one<R, E, D: Device<R, E>>(
     op: u32,
     operation: &Op,
 ) -> Result<Answer, E>
-    requires rules { IsOp (keys_of (D.facts device.old).script) operation.now }
+    requires rules { IsScriptOp (D.facts device.old).script operation.now }
     requires spare { unit_count operation.now ≤ (D.facts device.old).spare }
     ensures { IfOk result (CarriesOne (D.facts device.old) (D.facts device.new) (op, operation.now)) }
 {
@@ -100,7 +100,7 @@ fn carry_bio_out<R, E, D: Device<R, E>>(
     operation: &Op,
 ) -> Result<Answer, E>
     requires bio { IsSome (bio_of operation.now) }
-    requires rules { IsOp (keys_of (D.facts device.old).script) operation.now }
+    requires rules { IsScriptOp (D.facts device.old).script operation.now }
     requires spare { unit_count operation.now ≤ (D.facts device.old).spare }
     ensures { IfOk result (CarriesOne (D.facts device.old) (D.facts device.new) (op, operation.now)) }
 {

@@ -3,7 +3,7 @@
 ghost use Rattle.std.specs.Prelude.{◌≡◌, ℕ, ◌*◌, ◌^◌, ◌<◌, ◌≤◌, [], length, map, sum_by, IfOk};
 ghost use Rattle.bc_base.specs.Lists.{Each, list_at};
 ghost use Rattle.bc_medium.specs.Shards.{orders_of};
-ghost use Rattle.bc_script.specs.Script.{IsScript, keys_of, IsSection, unit_count_of_section, max_ops};
+ghost use Rattle.bc_script.specs.Script.{IsScript, IsScriptSection, unit_count_of_section, max_ops};
 ghost use Rattle.bc_report.specs.LawfulRun.{LawfulRun};
 ghost use Rattle.bc_report.specs.RunOf.{run_of};
 ghost use Rattle.bc_report.specs.SerialRun.{IsSerial};
@@ -134,7 +134,7 @@ fn carry_section_out(
     thread: u16,
     section: &[Op],
 ) -> Result<Items<Answer>, AllocError>
-    requires rules { IsSection (keys_of direct.old.script) section.now }
+    requires rules { IsScriptSection direct.old.script section.now }
     requires few { length section.now ≤ max_ops }
     requires spare { unit_count_of_section section.now ≤ direct.old.left }
     ensures { IfOk result (CarriesSection

@@ -51,7 +51,7 @@ undeclared : error_of (codes "blkcrypt 1\ndisk 1\nfallback on\nthread\nevict b\n
 unfolding digits encode_with decode_pairs
 undeclared = refl
 
-no_fallback : error_of (codes "blkcrypt 1\ndisk 1\nfallback off\nend\n") ≡ fails 3 why.NotBuilt
+no_fallback : error_of (codes "blkcrypt 1\ndisk 1\nfallback off\nend\n") ≡ None
 unfolding digits encode_with decode_pairs
 no_fallback = refl
 
@@ -66,6 +66,26 @@ dash_alone = refl
 unclosed_plug : error_of (codes "blkcrypt 1\ndisk 1\nfallback on\nthread\nplug\nend\n") ≡ fails 6 why.Order
 unfolding digits encode_with decode_pairs
 unclosed_plug = refl
+
+two_devices : error_of (codes "blkcrypt 1\ndisk 3\nfallback on\ndevice 0 2 1 1 0 8\ndevice 2 1 32 15 15 1\nthread\nreset 1\nend\n") ≡ None
+unfolding digits encode_with decode_pairs
+two_devices = refl
+
+device_elsewhere : error_of (codes "blkcrypt 1\ndisk 1\nfallback on\ndevice 1 1 1 1 0 8\nend\n") ≡ fails 4 why.Device
+unfolding digits encode_with decode_pairs
+device_elsewhere = refl
+
+devices_too_long : error_of (codes "blkcrypt 1\ndisk 1\nfallback on\ndevice 0 2 1 1 0 8\nend\n") ≡ fails 5 why.Device
+unfolding digits encode_with decode_pairs
+devices_too_long = refl
+
+mask_of_five_bits : error_of (codes "blkcrypt 1\ndisk 1\nfallback on\ndevice 0 1 1 16 0 8\nend\n") ≡ fails 4 why.Number
+unfolding digits encode_with decode_pairs
+mask_of_five_bits = refl
+
+reset_of_none : error_of (codes "blkcrypt 1\ndisk 1\nfallback on\nthread\nreset 0\nend\n") ≡ fails 5 why.Number
+unfolding digits encode_with decode_pairs
+reset_of_none = refl
 
 faults : error_of (codes "blkcrypt 1\ndisk 1\nfallback on\nfault 0 2\nfault 0 10\nfault 63 65535\nend\n") ≡ None
 unfolding digits encode_with decode_pairs

@@ -4,9 +4,9 @@ use Rattle.std.proofs.lemmas.Slice.Eq.{bytes_eq-Decides}
 use Rattle.bc_text.specs.Lines.{TextLine}
 use Rattle.bc_key.specs.declared.config.Mode.{Mode}
 use Rattle.bc_key.specs.declared.config.Mode.TheVariants.{Aes256Xts, Aes128CbcEssiv}
-use Rattle.bc_script.specs.ScriptText.{mode_text}
+use Rattle.bc_script.specs.ScriptText.{on_off, mode_text}
 use Rattle.bc_script.specs.Statements.{text_line, form_line, DashesAgree}
-use Rattle.bc_script.specs.Forms.{Form, BioForm, TextForm, Fill, Hex, Version, Disk, Fallback, Key, Fault, Thread, Write, Read, Evict, Reset, Plug, Unplug, End, alone, with_one, with_word, mode_of, key_form, with_key, with_fault, dashes_agree, text_form, write_form, with_bio, with_bio_and_text, form_of}
+use Rattle.bc_script.specs.Forms.{Form, BioForm, TextForm, Fill, Hex, Version, Disk, Fallback, Device, Key, Fault, Thread, Write, Read, Evict, Reset, Plug, Unplug, End, alone, with_one, with_word, switch_of, fallback_form, with_switch, with_device, mode_of, key_form, with_key, with_fault, dashes_agree, text_form, write_form, with_bio, with_bio_and_text, form_of}
 
 -- the line of a form
 pub record IsLineOf (line : TextLine) (form : Form) : Type 0 where
@@ -84,6 +84,50 @@ of_key form (name ∷ mode ∷ unit ∷ dun_bytes ∷ digits ∷ []) e = by_mode
         carry (codes "key" ∷ name ∷ mode ∷ unit ∷ dun_bytes ∷ digits ∷ []) built form
         (record { line_is = ap (λ (w : List ℕ). codes "key" ∷ name ∷ w ∷ unit ∷ dun_bytes ∷ digits ∷ []) (mode_text-mode_of mode m is); agrees = tt })
         (sym (ap (λ (o : Option Mode). key_form name o unit dun_bytes digits) is) ∙ e)
+
+-- the word of a switch
+on_off-switch_of : (word : List ℕ) (on : Bool) → switch_of word ≡ Some on → word ≡ on_off on
+on_off-switch_of word on e = first (bytes_eq word (codes "on")) refl
+  where
+    same : (a b : Bool) → Some a ≡ Some b → a ≡ b
+    same a b e = cc
+
+    second : (b : Bool) → bytes_eq word (codes "off") ≡ b → (if b then Some false else None) ≡ Some on → word ≡ on_off on
+    second true is e = (bytes_eq-Decides word (codes "off")).0 is ∙ ap on_off (same false on e)
+    second false is e = absurd cc
+
+    first : (b : Bool) → bytes_eq word (codes "on") ≡ b → word ≡ on_off on
+    first true is =
+        let found : Some true ≡ Some on = sym (ap (λ (b : Bool). if b then Some true else (if bytes_eq word (codes "off") then Some false else None)) is) ∙ e in
+        (bytes_eq-Decides word (codes "on")).0 is ∙ ap on_off (same true on found)
+    first false is =
+        second (bytes_eq word (codes "off")) refl
+        (sym (ap (λ (b : Bool). if b then Some true else (if bytes_eq word (codes "off") then Some false else None)) is) ∙ e)
+
+of_fallback : (form : Form) (fields : TextLine) → with_switch fields ≡ Some form → IsLineOf (codes "fallback" ∷ fields) form
+of_fallback form [] e = absurd (no_form form e)
+of_fallback form (a ∷ b ∷ fs) e = absurd (no_form form e)
+of_fallback form (word ∷ []) e = by_switch (switch_of word) refl
+  where
+    by_switch : (o : Option Bool) → switch_of word ≡ o → IsLineOf (codes "fallback" ∷ word ∷ []) form
+    by_switch None is = absurd (no_form form (sym (ap fallback_form is) ∙ e))
+    by_switch (Some on) is =
+        carry (codes "fallback" ∷ word ∷ []) (Fallback on) form
+        (record { line_is = ap (λ (w : List ℕ). codes "fallback" ∷ w ∷ []) (on_off-switch_of word on is); agrees = tt })
+        (sym (ap fallback_form is) ∙ e)
+
+of_device : (form : Form) (fields : TextLine) → with_device fields ≡ Some form → IsLineOf (codes "device" ∷ fields) form
+of_device form [] e = absurd (no_form form e)
+of_device form (a ∷ []) e = absurd (no_form form e)
+of_device form (a ∷ b ∷ []) e = absurd (no_form form e)
+of_device form (a ∷ b ∷ c ∷ []) e = absurd (no_form form e)
+of_device form (a ∷ b ∷ c ∷ d ∷ []) e = absurd (no_form form e)
+of_device form (a ∷ b ∷ c ∷ d ∷ f ∷ []) e = absurd (no_form form e)
+of_device form (a ∷ b ∷ c ∷ d ∷ f ∷ g ∷ h ∷ fs) e = absurd (no_form form e)
+of_device form (first ∷ blocks ∷ slots ∷ xts ∷ essiv ∷ dun_bytes ∷ []) e =
+    carry (codes "device" ∷ first ∷ blocks ∷ slots ∷ xts ∷ essiv ∷ dun_bytes ∷ [])
+    (Device (record { first = first; blocks = blocks; slots = slots; xts = xts; essiv = essiv; dun_bytes = dun_bytes })) form
+    (record { line_is = refl; agrees = tt }) e
 
 of_fault : (form : Form) (fields : TextLine) → with_fault fields ≡ Some form → IsLineOf (codes "fault" ∷ fields) form
 of_fault form [] e = absurd (no_form form e)
@@ -171,6 +215,7 @@ IsLineOf-form_of (word ∷ fields) form e =
     by_word word (codes "fault") fields form _ _ e (of_fault form fields) (λ e.
     by_word word (codes "blkcrypt") fields form _ _ e (of_word (codes "blkcrypt") (codes "1") Version form fields (record { line_is = refl; agrees = tt })) (λ e.
     by_word word (codes "disk") fields form _ _ e (of_one (codes "disk") Disk form fields (λ field. record { line_is = refl; agrees = tt })) (λ e.
-    by_word word (codes "fallback") fields form _ _ e (of_word (codes "fallback") (codes "on") Fallback form fields (record { line_is = refl; agrees = tt })) (λ e.
+    by_word word (codes "fallback") fields form _ _ e (of_fallback form fields) (λ e.
+    by_word word (codes "device") fields form _ _ e (of_device form fields) (λ e.
     by_word word (codes "end") fields form _ _ e (of_alone (codes "end") End form fields (record { line_is = refl; agrees = tt })) (λ e.
-    absurd (no_form form e))))))))))))))
+    absurd (no_form form e)))))))))))))))

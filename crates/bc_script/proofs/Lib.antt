@@ -8,6 +8,7 @@ pub mod ScriptLaws
 pub mod LineForms
 pub mod Onto
 pub mod Faults
+pub mod Devices
 pub mod FormsRead
 pub mod Above
 pub mod Steps

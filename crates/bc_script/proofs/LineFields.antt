@@ -1,5 +1,5 @@
 -- Each line of a script is one: its fields have no space and no line feed.
-use Rattle.std.proofs.Common.{◌≡◌, ◌≢◌, ℕ, zero, suc, ◌<◌, ◌/◌, ◌%◌, ◌^◌, Bool, true, false, List, [], ◌∷◌, ◌++◌, length, get_or, map, refl, arith}
+use Rattle.std.proofs.Common.{◌≡◌, ◌≢◌, ℕ, zero, suc, ◌<◌, ◌≤◌, ◌/◌, ◌%◌, ◌^◌, Bool, true, false, List, [], ◌∷◌, ◌++◌, length, get_or, map, refl, arith}
 use Rattle.std.specs.Prelude.{codes, ◌&&◌, flat_map, Some, None, Option}
 use Rattle.std.specs.List.{AllByRecursion, list_all}
 use Rattle.std.proofs.lemmas.Bool.Decides.{nat_tests}
@@ -16,14 +16,15 @@ use Rattle.bc_key.specs.NumberText.{number_text, IsHexDigit}
 use Rattle.bc_key.specs.declared.keys.KeyNo.{KeyNo}
 use Rattle.bc_key.proofs.NumberTextLaws.{IsNumberText-number_text}
 use Rattle.bc_bio.specs.declared.context.Context.{Context}
+use Rattle.bc_stack.specs.declared.target.Target.{Target}
 use Rattle.bc_script.specs.declared.named_key.NamedKey.{NamedKey}
 use Rattle.bc_script.specs.declared.op.Op.{Op}
 use Rattle.bc_script.specs.declared.op.Op.TheVariants as ops
 use Rattle.bc_script.specs.declared.op.Text.{Text}
 use Rattle.bc_script.specs.declared.op.Text.TheVariants.{Fill, Bytes}
 use Rattle.bc_script.specs.Name.{is_name, is_name_byte, is_lower_letter}
-use Rattle.bc_script.specs.Script.{Script, IsScript, AreKeys, IsNamedKey, IsFault, IsContext, IsBio, IsText, IsOp, IsSection, bare_keys}
-use Rattle.bc_script.specs.ScriptText.{script_lines, key_line, op_line, name_of, section_lines, mode_text, fault_line, on_off, key_field, number_field, bio_fields, text_fields}
+use Rattle.bc_script.specs.Script.{Script, IsScript, IsDevice, AreKeys, IsNamedKey, IsFault, IsContext, IsBio, IsText, IsOp, IsSection, bare_keys}
+use Rattle.bc_script.specs.ScriptText.{script_lines, device_line, key_line, op_line, name_of, section_lines, mode_text, fault_line, on_off, key_field, number_field, bio_fields, text_fields}
 use Rattle.bc_script.proofs.ByteLists.{IsBytes-All}
 use Rattle.bc_script.proofs.KeyNames.{is_name_of}
 
@@ -134,29 +135,29 @@ bio_fields_are keys context sector units others are is rest =
     let few = is.few_units in
     (IsField-key keys context are is.context_is, (IsField-decimal sector (omega arith), (IsField-decimal units (omega arith), (IsField-number keys context is.context_is, rest))))
 
-op_line_is : (keys : List NamedKey) → AreKeys keys → (op : Op) → IsOp (bare_keys keys) op → IsLine (op_line keys op)
-op_line_is keys are (ops.Write context sector units text) valid =
+op_line_is : (devices : ℕ) (keys : List NamedKey) → AreKeys keys → devices ≤ 8 → (op : Op) → IsOp devices (bare_keys keys) op → IsLine (op_line keys op)
+op_line_is devices keys are few (ops.Write context sector units text) valid =
     (omega arith, (IsField-from_test (codes "write") refl, bio_fields_are keys context sector units (text_fields text) are valid.0 (text_fields_are keys context units text valid.1)))
-op_line_is keys are (ops.Read context sector units) valid = (omega arith, (IsField-from_test (codes "read") refl, bio_fields_are keys context sector units [] are valid tt))
-op_line_is keys are (ops.Evict key) valid = (omega arith, (IsField-from_test (codes "evict") refl, (IsField-name_of keys key are valid, tt)))
-op_line_is keys are (ops.Reset device) valid = (omega arith, (IsField-from_test (codes "reset") refl, (IsField-decimal device (omega arith), tt)))
-op_line_is keys are ops.Plug valid = (omega arith, (IsField-from_test (codes "plug") refl, tt))
-op_line_is keys are ops.Unplug valid = (omega arith, (IsField-from_test (codes "unplug") refl, tt))
+op_line_is devices keys are few (ops.Read context sector units) valid = (omega arith, (IsField-from_test (codes "read") refl, bio_fields_are keys context sector units [] are valid tt))
+op_line_is devices keys are few (ops.Evict key) valid = (omega arith, (IsField-from_test (codes "evict") refl, (IsField-name_of keys key are valid, tt)))
+op_line_is devices keys are few (ops.Reset device) valid = (omega arith, (IsField-from_test (codes "reset") refl, (IsField-decimal device (omega arith), tt)))
+op_line_is devices keys are few ops.Plug valid = (omega arith, (IsField-from_test (codes "plug") refl, tt))
+op_line_is devices keys are few ops.Unplug valid = (omega arith, (IsField-from_test (codes "unplug") refl, tt))
 
-op_lines_are : (keys : List NamedKey) → AreKeys keys → (section : List Op) → AllByRecursion (IsOp (bare_keys keys)) section → AllByRecursion IsLine (map (op_line keys) section)
-op_lines_are keys are [] each = tt
-op_lines_are keys are (op ∷ section) each = (op_line_is keys are op each.0, op_lines_are keys are section each.1)
+op_lines_are : (devices : ℕ) (keys : List NamedKey) → AreKeys keys → devices ≤ 8 → (section : List Op) → AllByRecursion (IsOp devices (bare_keys keys)) section → AllByRecursion IsLine (map (op_line keys) section)
+op_lines_are devices keys are few [] each = tt
+op_lines_are devices keys are few (op ∷ section) each = (op_line_is devices keys are few op each.0, op_lines_are devices keys are few section each.1)
 
 All-append : (xs ys : List TextLine) → AllByRecursion IsLine xs → AllByRecursion IsLine ys → AllByRecursion IsLine (xs ++ ys)
 All-append [] ys p q = q
 All-append (x ∷ xs) ys p q = (p.0, All-append xs ys p.1 q)
 
-sections_are : (keys : List NamedKey) → AreKeys keys → (threads : List (List Op)) → AllByRecursion (IsSection (bare_keys keys)) threads → AllByRecursion IsLine (flat_map (section_lines keys) threads)
-sections_are keys are [] each = tt
-sections_are keys are (section ∷ threads) each =
+sections_are : (devices : ℕ) (keys : List NamedKey) → AreKeys keys → devices ≤ 8 → (threads : List (List Op)) → AllByRecursion (IsSection devices (bare_keys keys)) threads → AllByRecursion IsLine (flat_map (section_lines keys) threads)
+sections_are devices keys are few [] each = tt
+sections_are devices keys are few (section ∷ threads) each =
     All-append (section_lines keys section) (flat_map (section_lines keys) threads)
-    ((omega arith, (IsField-from_test (codes "thread") refl, tt)), op_lines_are keys are section each.0.each)
-    (sections_are keys are threads each.1)
+    ((omega arith, (IsField-from_test (codes "thread") refl, tt)), op_lines_are devices keys are few section each.0.each)
+    (sections_are devices keys are few threads each.1)
 
 fault_line_is : (fault : ℕ × ℕ) → IsFault fault → IsLine (fault_line fault)
 fault_line_is fault is =
@@ -168,17 +169,50 @@ fault_lines_are : (faults : List (ℕ × ℕ)) → AllByRecursion IsFault faults
 fault_lines_are [] each = tt
 fault_lines_are (f ∷ fs) each = (fault_line_is f each.0, fault_lines_are fs each.1)
 
+device_line_is : (device : Target) → IsDevice device → IsLine (device_line device)
+device_line_is device is =
+    let first = is.first in
+    let blocks = is.few_blocks in
+    let slots = is.slots.most in
+    let xts = is.xts in
+    let essiv = is.essiv in
+    let dun_bytes = is.few_dun_bytes in (
+      omega arith,
+      (
+        IsField-from_test (codes "device") refl,
+        (
+          IsField-decimal device.first (omega arith),
+          (
+            IsField-decimal device.blocks (omega arith),
+            (
+              IsField-decimal device.slots (omega arith),
+              (
+                IsField-decimal device.caps.xts (omega arith),
+                (IsField-decimal device.caps.essiv (omega arith), (IsField-decimal device.caps.max_dun_bytes (omega arith), tt)),
+              ),
+            ),
+          ),
+        ),
+      ),
+    )
+
+device_lines_are : (devices : List Target) → AllByRecursion IsDevice devices → AllByRecursion IsLine (map device_line devices)
+device_lines_are [] each = tt
+device_lines_are (d ∷ ds) each = (device_line_is d each.0, device_lines_are ds each.1)
+
 pub script_lines_are_lines : (s : Script) → IsScript s → AllByRecursion IsLine (script_lines s)
 script_lines_are_lines s valid =
-    let size = valid.blocks in (
+    let size = valid.blocks in
+    let few = valid.devices.stack.few in (
       (omega arith, (IsField-from_test (codes "blkcrypt") refl, (IsField-from_test (codes "1") refl, tt))),
       (
         (omega arith, (IsField-from_test (codes "disk") refl, (IsField-decimal s.blocks (omega arith), tt))),
         (
           (omega arith, (IsField-from_test (codes "fallback") refl, (IsField-on_off s.fallback, tt))),
-          All-append _ _ (key_lines_are s.keys valid.keys.each)
+          All-append _ _ (device_lines_are s.targets valid.devices.each)
+              (All-append _ _ (key_lines_are s.keys valid.keys.each)
               (All-append _ _ (fault_lines_are s.faults valid.faults.each)
-              (All-append _ _ (sections_are s.keys valid.keys s.threads valid.threads.each) ((omega arith, (IsField-from_test (codes "end") refl, tt)), tt))),
+              (All-append _ _ (sections_are (length s.targets) s.keys valid.keys few s.threads valid.threads.each) ((omega arith, (IsField-from_test (codes "end") refl, tt)), tt)))),
         ),
       ),
     )

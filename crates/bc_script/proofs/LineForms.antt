@@ -1,5 +1,5 @@
 -- The form of each printed line.
-use Rattle.std.proofs.Common.{◌≡◌, ◌≢◌, ℕ, ◌<◌, ◌^◌, true, false, List, [], ◌∷◌, slice_get, unwrap_or, option_map, Option, Some, None, bytes_eq, refl, ap, subst, arith}
+use Rattle.std.proofs.Common.{◌≡◌, ◌≢◌, ℕ, ◌<◌, ◌^◌, Bool, true, false, List, [], ◌∷◌, slice_get, unwrap_or, option_map, Option, Some, None, bytes_eq, refl, ap, subst, arith}
 use Rattle.std.specs.List.{All}
 use Rattle.std.specs.Fmt.{decimal}
 use Rattle.std.proofs.Math.Logic.{⊎_elim}
@@ -13,6 +13,7 @@ use Rattle.bc_key.specs.declared.keys.KeyNo.{KeyNo}
 use Rattle.bc_key.specs.NumberText.{number_text, IsHexDigit}
 use Rattle.bc_key.proofs.NumberTextLaws.{IsNumberText-number_text}
 use Rattle.bc_bio.specs.declared.context.Context.{Context}
+use Rattle.bc_stack.specs.declared.target.Target.{Target}
 use Rattle.bc_script.specs.declared.named_key.NamedKey.{NamedKey}
 use Rattle.bc_script.specs.declared.op.Op.{Op}
 use Rattle.bc_script.specs.declared.op.Op.TheVariants as ops
@@ -20,10 +21,11 @@ use Rattle.bc_script.specs.declared.op.Text.{Text}
 use Rattle.bc_script.specs.declared.op.Text.TheVariants as texts
 use Rattle.bc_script.specs.Name.{is_name}
 use Rattle.bc_script.specs.Script.{AreKeys, IsContext, IsOp, bare_keys}
-use Rattle.bc_script.specs.ScriptText.{version_line, disk_line, fallback_line, thread_line, end_line, key_line, fault_line, op_line, mode_text, name_of, dash, key_field, number_field}
+use Rattle.bc_script.specs.ScriptText.{version_line, disk_line, fallback_line, device_line, thread_line, end_line, key_line, fault_line, op_line, mode_text, name_of, dash, key_field, number_field}
 use Rattle.bc_script.proofs.KeyNames.{is_name_of}
 use Rattle.bc_script.proofs.Faults.{fault_fields}
-use Rattle.bc_script.specs.Forms.{Form, KeyForm, BioForm, TextForm, Fill, Hex, Version, Disk, Fallback, Key, Fault, Thread, Write, Read, Evict, Reset, Plug, Unplug, End, form_of, mode_of, key_form, dashes_agree}
+use Rattle.bc_script.specs.Forms.{Form, KeyForm, BioForm, TextForm, Fill, Hex, Version, Disk, Fallback, Device, Key, Fault, Thread, Write, Read, Evict, Reset, Plug, Unplug, End, form_of, mode_of, key_form, dashes_agree}
+use Rattle.bc_script.specs.DeviceFields.{device_form}
 
 -- the fields of a key's line
 abbrev pub key_fields : NamedKey → KeyForm
@@ -86,8 +88,12 @@ form_of-version = refl
 pub form_of-disk : (blocks : ℕ) → form_of (disk_line blocks) ≡ Some (Disk (decimal blocks))
 form_of-disk blocks = refl
 
-pub form_of-fallback : form_of (fallback_line true) ≡ Some Fallback
-form_of-fallback = refl
+pub form_of-fallback : (on : Bool) → form_of (fallback_line on) ≡ Some (Fallback on)
+form_of-fallback true = refl
+form_of-fallback false = refl
+
+pub form_of-device_line : (device : Target) → form_of (device_line device) ≡ Some (Device (device_form device))
+form_of-device_line device = refl
 
 pub form_of-thread : form_of thread_line ≡ Some Thread
 form_of-thread = refl
@@ -116,11 +122,11 @@ dashes_agree-bio_form keys (Some context) sector units are valid =
     let number : bytes_eq (number_text context.dun) dash ≡ false = bytes_eq-other (number_text context.dun) dash (number_is_no_dash context.dun valid.1) in
     rw (key, number) refl
 
-pub form_of-op_line : (keys : List NamedKey) (op : Op) → AreKeys keys → IsOp (bare_keys keys) op → form_of (op_line keys op) ≡ Some (op_form keys op)
-form_of-op_line keys (ops.Write context sector units (texts.Fill byte)) are valid = let agree = dashes_agree-bio_form keys context sector units are valid.0.context_is in rw agree refl
-form_of-op_line keys (ops.Write context sector units (texts.Bytes bytes)) are valid = let agree = dashes_agree-bio_form keys context sector units are valid.0.context_is in rw agree refl
-form_of-op_line keys (ops.Read context sector units) are valid = let agree = dashes_agree-bio_form keys context sector units are valid.context_is in rw agree refl
-form_of-op_line keys (ops.Evict key) are valid = refl
-form_of-op_line keys (ops.Reset device) are valid = refl
-form_of-op_line keys ops.Plug are valid = refl
-form_of-op_line keys ops.Unplug are valid = refl
+pub form_of-op_line : (devices : ℕ) (keys : List NamedKey) (op : Op) → AreKeys keys → IsOp devices (bare_keys keys) op → form_of (op_line keys op) ≡ Some (op_form keys op)
+form_of-op_line devices keys (ops.Write context sector units (texts.Fill byte)) are valid = let agree = dashes_agree-bio_form keys context sector units are valid.0.context_is in rw agree refl
+form_of-op_line devices keys (ops.Write context sector units (texts.Bytes bytes)) are valid = let agree = dashes_agree-bio_form keys context sector units are valid.0.context_is in rw agree refl
+form_of-op_line devices keys (ops.Read context sector units) are valid = let agree = dashes_agree-bio_form keys context sector units are valid.context_is in rw agree refl
+form_of-op_line devices keys (ops.Evict key) are valid = refl
+form_of-op_line devices keys (ops.Reset device) are valid = refl
+form_of-op_line devices keys ops.Plug are valid = refl
+form_of-op_line devices keys ops.Unplug are valid = refl

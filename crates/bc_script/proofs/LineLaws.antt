@@ -1,5 +1,5 @@
 -- A line is that of one key, of one planned fault, or of one operation.
-use Rattle.std.proofs.Common.{◌≡◌, ℕ, ◌<◌, ◌^◌, true, false, List, [], ◌∷◌, length, Option, Some, None, refl, sym, ap, ◌∙◌, arith}
+use Rattle.std.proofs.Common.{◌≡◌, ℕ, ◌<◌, ◌^◌, ◌≤◌, Bool, true, false, List, [], ◌∷◌, length, Option, Some, None, refl, sym, ap, ◌∙◌, arith}
 use Rattle.std.specs.Prelude.{codes, unwrap_or}
 use Rattle.std.specs.Str.{bytes_eq}
 use Rattle.std.specs.Str.Parse.{digits_value}
@@ -17,14 +17,15 @@ use Rattle.bc_key.specs.DataUnits.{bytes_of, unit_of}
 use Rattle.bc_key.specs.NumberText.{number_text}
 use Rattle.bc_key.specs.declared.keys.KeyNo.{KeyNo}
 use Rattle.bc_bio.specs.declared.context.Context.{Context}
+use Rattle.bc_stack.specs.declared.target.Target.{Target}
 use Rattle.bc_script.specs.declared.named_key.NamedKey.{NamedKey}
 use Rattle.bc_script.specs.declared.op.Op.{Op}
 use Rattle.bc_script.specs.declared.op.Op.TheVariants as ops
 use Rattle.bc_script.specs.declared.op.Text.{Text}
 use Rattle.bc_script.specs.declared.op.Text.TheVariants.{Fill, Bytes}
 use Rattle.bc_script.specs.Name.{is_name}
-use Rattle.bc_script.specs.Script.{AreKeys, IsNamedKey, IsFault, IsContext, IsBio, IsText, IsOp, bare_keys}
-use Rattle.bc_script.specs.ScriptText.{key_line, fault_line, op_line, name_of, dash, mode_text, key_field, number_field, text_fields}
+use Rattle.bc_script.specs.Script.{IsDevice, AreKeys, IsNamedKey, IsFault, IsContext, IsBio, IsText, IsOp, bare_keys}
+use Rattle.bc_script.specs.ScriptText.{on_off, device_line, key_line, fault_line, op_line, name_of, dash, mode_text, key_field, number_field, text_fields}
 use Rattle.bc_script.proofs.KeyNames.{is_name_of, same_key, named_too}
 use Rattle.bc_script.proofs.ByteLists.{IsBytes-All}
 use Rattle.bc_script.proofs.LineFields.{IsBytes-one, small_unit}
@@ -66,6 +67,43 @@ unit_text_injective a b e =
     found Bytes1024 = refl
     found Bytes2048 = refl
     found Bytes4096 = refl
+
+-- ---- a fallback's line
+
+pub on_off_injective : (a b : Bool) → on_off a ≡ on_off b → a ≡ b
+on_off_injective true true e = refl
+on_off_injective false false e = refl
+on_off_injective true false e = absurd (clash_words (codes "on") (codes "off") refl e)
+on_off_injective false true e = absurd (clash_words (codes "off") (codes "on") refl e)
+
+-- ---- a device's line
+
+after_first_of_seven : (p q r s t u m v w x y z o n : List ℕ) → p ∷ q ∷ r ∷ s ∷ t ∷ u ∷ m ∷ [] ≡ v ∷ w ∷ x ∷ y ∷ z ∷ o ∷ n ∷ []
+    → (q ≡ w) × (r ≡ x) × (s ≡ y) × (t ≡ z) × (u ≡ o) × (m ≡ n)
+after_first_of_seven p q r s t u m v w x y z o n e = (cc, cc, cc, cc, cc, cc)
+
+pub device_line_injective : (a b : Target) → IsDevice a → IsDevice b → device_line a ≡ device_line b → a ≡ b
+device_line_injective a b p q e =
+    let fields = after_first_of_seven _ _ _ _ _ _ _ _ _ _ _ _ _ _ e in
+    let a_first = p.first in
+    let b_first = q.first in
+    let a_blocks = p.few_blocks in
+    let b_blocks = q.few_blocks in
+    let a_slots = p.slots.most in
+    let b_slots = q.slots.most in
+    let a_xts = p.xts in
+    let b_xts = q.xts in
+    let a_essiv = p.essiv in
+    let b_essiv = q.essiv in
+    let a_dun = p.few_dun_bytes in
+    let b_dun = q.few_dun_bytes in
+    let first = decimal_injective a.first b.first (omega arith) (omega arith) fields.0 in
+    let blocks = decimal_injective a.blocks b.blocks (omega arith) (omega arith) fields.1 in
+    let slots = decimal_injective a.slots b.slots (omega arith) (omega arith) fields.2 in
+    let xts = decimal_injective a.caps.xts b.caps.xts (omega arith) (omega arith) fields.3 in
+    let essiv = decimal_injective a.caps.essiv b.caps.essiv (omega arith) (omega arith) fields.4 in
+    let dun_bytes = decimal_injective a.caps.max_dun_bytes b.caps.max_dun_bytes (omega arith) (omega arith) fields.5 in
+    λ i. record { first = first i; blocks = blocks i; slots = slots i; caps = record { xts = xts i; essiv = essiv i; max_dun_bytes = dun_bytes i } }
 
 -- ---- a key's line
 
@@ -144,46 +182,46 @@ same_bio keys a b s t u v word other c d are p q e =
       fields.4,
     )
 
-pub op_line_injective : (keys : List NamedKey) → AreKeys keys → (a b : Op) → IsOp (bare_keys keys) a → IsOp (bare_keys keys) b → op_line keys a ≡ op_line keys b → a ≡ b
-op_line_injective keys are (ops.Write a s u x) (ops.Write b t v y) p q e =
+pub op_line_injective : (devices : ℕ) (keys : List NamedKey) → AreKeys keys → devices ≤ 8 → (a b : Op) → IsOp devices (bare_keys keys) a → IsOp devices (bare_keys keys) b → op_line keys a ≡ op_line keys b → a ≡ b
+op_line_injective devices keys are few (ops.Write a s u x) (ops.Write b t v y) p q e =
     let bio = same_bio keys a b s t u v _ _ _ _ are p.0 q.0 e in
     let text = same_text keys a b u v x y p.1 q.1 bio.3 in
     λ i. ops.Write (bio.0 i) (bio.1 i) (bio.2 i) (text i)
-op_line_injective keys are (ops.Read a s u) (ops.Read b t v) p q e =
+op_line_injective devices keys are few (ops.Read a s u) (ops.Read b t v) p q e =
     let bio = same_bio keys a b s t u v _ _ _ _ are p q e in
     λ i. ops.Read (bio.0 i) (bio.1 i) (bio.2 i)
-op_line_injective keys are (ops.Evict a) (ops.Evict b) p q e =
+op_line_injective devices keys are few (ops.Evict a) (ops.Evict b) p q e =
     ap (λ (k : KeyNo). ops.Evict k) (same_key keys a b are (named_too keys a.0 p) (named_too keys b.0 q) (second_of_two _ _ _ _ e))
-op_line_injective keys are (ops.Reset a) (ops.Reset b) p q e = ap (λ (d : ℕ). ops.Reset d) (decimal_injective a b (omega arith) (omega arith) (second_of_two _ _ _ _ e))
-op_line_injective keys are ops.Plug ops.Plug p q e = refl
-op_line_injective keys are ops.Unplug ops.Unplug p q e = refl
-op_line_injective keys are (ops.Write c s u t) (ops.Read d r v) p q e = absurd (clash (codes "write") (codes "read") _ _ refl e)
-op_line_injective keys are (ops.Write c s u t) (ops.Evict d) p q e = absurd (clash (codes "write") (codes "evict") _ _ refl e)
-op_line_injective keys are (ops.Write c s u t) (ops.Reset d) p q e = absurd (clash (codes "write") (codes "reset") _ _ refl e)
-op_line_injective keys are (ops.Write c s u t) ops.Plug p q e = absurd (clash (codes "write") (codes "plug") _ _ refl e)
-op_line_injective keys are (ops.Write c s u t) ops.Unplug p q e = absurd (clash (codes "write") (codes "unplug") _ _ refl e)
-op_line_injective keys are (ops.Read c s u) (ops.Write d r v o) p q e = absurd (clash (codes "read") (codes "write") _ _ refl e)
-op_line_injective keys are (ops.Read c s u) (ops.Evict d) p q e = absurd (clash (codes "read") (codes "evict") _ _ refl e)
-op_line_injective keys are (ops.Read c s u) (ops.Reset d) p q e = absurd (clash (codes "read") (codes "reset") _ _ refl e)
-op_line_injective keys are (ops.Read c s u) ops.Plug p q e = absurd (clash (codes "read") (codes "plug") _ _ refl e)
-op_line_injective keys are (ops.Read c s u) ops.Unplug p q e = absurd (clash (codes "read") (codes "unplug") _ _ refl e)
-op_line_injective keys are (ops.Evict c) (ops.Write d r v o) p q e = absurd (clash (codes "evict") (codes "write") _ _ refl e)
-op_line_injective keys are (ops.Evict c) (ops.Read d r v) p q e = absurd (clash (codes "evict") (codes "read") _ _ refl e)
-op_line_injective keys are (ops.Evict c) (ops.Reset d) p q e = absurd (clash (codes "evict") (codes "reset") _ _ refl e)
-op_line_injective keys are (ops.Evict c) ops.Plug p q e = absurd (clash (codes "evict") (codes "plug") _ _ refl e)
-op_line_injective keys are (ops.Evict c) ops.Unplug p q e = absurd (clash (codes "evict") (codes "unplug") _ _ refl e)
-op_line_injective keys are (ops.Reset c) (ops.Write d r v o) p q e = absurd (clash (codes "reset") (codes "write") _ _ refl e)
-op_line_injective keys are (ops.Reset c) (ops.Read d r v) p q e = absurd (clash (codes "reset") (codes "read") _ _ refl e)
-op_line_injective keys are (ops.Reset c) (ops.Evict d) p q e = absurd (clash (codes "reset") (codes "evict") _ _ refl e)
-op_line_injective keys are (ops.Reset c) ops.Plug p q e = absurd (clash (codes "reset") (codes "plug") _ _ refl e)
-op_line_injective keys are (ops.Reset c) ops.Unplug p q e = absurd (clash (codes "reset") (codes "unplug") _ _ refl e)
-op_line_injective keys are ops.Plug (ops.Write d r v o) p q e = absurd (clash (codes "plug") (codes "write") _ _ refl e)
-op_line_injective keys are ops.Plug (ops.Read d r v) p q e = absurd (clash (codes "plug") (codes "read") _ _ refl e)
-op_line_injective keys are ops.Plug (ops.Evict d) p q e = absurd (clash (codes "plug") (codes "evict") _ _ refl e)
-op_line_injective keys are ops.Plug (ops.Reset d) p q e = absurd (clash (codes "plug") (codes "reset") _ _ refl e)
-op_line_injective keys are ops.Plug ops.Unplug p q e = absurd (clash (codes "plug") (codes "unplug") _ _ refl e)
-op_line_injective keys are ops.Unplug (ops.Write d r v o) p q e = absurd (clash (codes "unplug") (codes "write") _ _ refl e)
-op_line_injective keys are ops.Unplug (ops.Read d r v) p q e = absurd (clash (codes "unplug") (codes "read") _ _ refl e)
-op_line_injective keys are ops.Unplug (ops.Evict d) p q e = absurd (clash (codes "unplug") (codes "evict") _ _ refl e)
-op_line_injective keys are ops.Unplug (ops.Reset d) p q e = absurd (clash (codes "unplug") (codes "reset") _ _ refl e)
-op_line_injective keys are ops.Unplug ops.Plug p q e = absurd (clash (codes "unplug") (codes "plug") _ _ refl e)
+op_line_injective devices keys are few (ops.Reset a) (ops.Reset b) p q e = ap (λ (d : ℕ). ops.Reset d) (decimal_injective a b (omega arith) (omega arith) (second_of_two _ _ _ _ e))
+op_line_injective devices keys are few ops.Plug ops.Plug p q e = refl
+op_line_injective devices keys are few ops.Unplug ops.Unplug p q e = refl
+op_line_injective devices keys are few (ops.Write c s u t) (ops.Read d r v) p q e = absurd (clash (codes "write") (codes "read") _ _ refl e)
+op_line_injective devices keys are few (ops.Write c s u t) (ops.Evict d) p q e = absurd (clash (codes "write") (codes "evict") _ _ refl e)
+op_line_injective devices keys are few (ops.Write c s u t) (ops.Reset d) p q e = absurd (clash (codes "write") (codes "reset") _ _ refl e)
+op_line_injective devices keys are few (ops.Write c s u t) ops.Plug p q e = absurd (clash (codes "write") (codes "plug") _ _ refl e)
+op_line_injective devices keys are few (ops.Write c s u t) ops.Unplug p q e = absurd (clash (codes "write") (codes "unplug") _ _ refl e)
+op_line_injective devices keys are few (ops.Read c s u) (ops.Write d r v o) p q e = absurd (clash (codes "read") (codes "write") _ _ refl e)
+op_line_injective devices keys are few (ops.Read c s u) (ops.Evict d) p q e = absurd (clash (codes "read") (codes "evict") _ _ refl e)
+op_line_injective devices keys are few (ops.Read c s u) (ops.Reset d) p q e = absurd (clash (codes "read") (codes "reset") _ _ refl e)
+op_line_injective devices keys are few (ops.Read c s u) ops.Plug p q e = absurd (clash (codes "read") (codes "plug") _ _ refl e)
+op_line_injective devices keys are few (ops.Read c s u) ops.Unplug p q e = absurd (clash (codes "read") (codes "unplug") _ _ refl e)
+op_line_injective devices keys are few (ops.Evict c) (ops.Write d r v o) p q e = absurd (clash (codes "evict") (codes "write") _ _ refl e)
+op_line_injective devices keys are few (ops.Evict c) (ops.Read d r v) p q e = absurd (clash (codes "evict") (codes "read") _ _ refl e)
+op_line_injective devices keys are few (ops.Evict c) (ops.Reset d) p q e = absurd (clash (codes "evict") (codes "reset") _ _ refl e)
+op_line_injective devices keys are few (ops.Evict c) ops.Plug p q e = absurd (clash (codes "evict") (codes "plug") _ _ refl e)
+op_line_injective devices keys are few (ops.Evict c) ops.Unplug p q e = absurd (clash (codes "evict") (codes "unplug") _ _ refl e)
+op_line_injective devices keys are few (ops.Reset c) (ops.Write d r v o) p q e = absurd (clash (codes "reset") (codes "write") _ _ refl e)
+op_line_injective devices keys are few (ops.Reset c) (ops.Read d r v) p q e = absurd (clash (codes "reset") (codes "read") _ _ refl e)
+op_line_injective devices keys are few (ops.Reset c) (ops.Evict d) p q e = absurd (clash (codes "reset") (codes "evict") _ _ refl e)
+op_line_injective devices keys are few (ops.Reset c) ops.Plug p q e = absurd (clash (codes "reset") (codes "plug") _ _ refl e)
+op_line_injective devices keys are few (ops.Reset c) ops.Unplug p q e = absurd (clash (codes "reset") (codes "unplug") _ _ refl e)
+op_line_injective devices keys are few ops.Plug (ops.Write d r v o) p q e = absurd (clash (codes "plug") (codes "write") _ _ refl e)
+op_line_injective devices keys are few ops.Plug (ops.Read d r v) p q e = absurd (clash (codes "plug") (codes "read") _ _ refl e)
+op_line_injective devices keys are few ops.Plug (ops.Evict d) p q e = absurd (clash (codes "plug") (codes "evict") _ _ refl e)
+op_line_injective devices keys are few ops.Plug (ops.Reset d) p q e = absurd (clash (codes "plug") (codes "reset") _ _ refl e)
+op_line_injective devices keys are few ops.Plug ops.Unplug p q e = absurd (clash (codes "plug") (codes "unplug") _ _ refl e)
+op_line_injective devices keys are few ops.Unplug (ops.Write d r v o) p q e = absurd (clash (codes "unplug") (codes "write") _ _ refl e)
+op_line_injective devices keys are few ops.Unplug (ops.Read d r v) p q e = absurd (clash (codes "unplug") (codes "read") _ _ refl e)
+op_line_injective devices keys are few ops.Unplug (ops.Evict d) p q e = absurd (clash (codes "unplug") (codes "evict") _ _ refl e)
+op_line_injective devices keys are few ops.Unplug (ops.Reset d) p q e = absurd (clash (codes "unplug") (codes "reset") _ _ refl e)
+op_line_injective devices keys are few ops.Unplug ops.Plug p q e = absurd (clash (codes "unplug") (codes "plug") _ _ refl e)

@@ -4,7 +4,7 @@ use Rattle.std.specs.List.{AllByRecursion}
 use Rattle.std.proofs.lemmas.List.Sums.{sum_by-cons, sum_by-append}
 use Rattle.bc_text.specs.Lines.{TextLine}
 use Rattle.bc_script.specs.declared.sort.Sort.{Sort}
-use Rattle.bc_script.specs.Forms.{Form, FaultForm, Version, Disk, Fallback, Key, Fault, Thread, Write, Read, Evict, Reset, Plug, Unplug, End, form_of, sort_of}
+use Rattle.bc_script.specs.Forms.{Form, FaultForm, Version, Disk, Fallback, Device, Key, Fault, Thread, Write, Read, Evict, Reset, Plug, Unplug, End, form_of, sort_of}
 use Rattle.bc_script.specs.ScriptErrors.{with_form, last_sort, is_key, is_fault, key_named, ascends}
 use Rattle.bc_script.specs.Progress.{forms_below}
 
@@ -110,7 +110,8 @@ last_sort-onto sort (f ∷ fs) above same e = last_sort-onto sort fs (f ∷ abov
 pub key_named-other : (name : List ℕ) (form : Form) (above : List Form) → is_key form ≡ false → key_named name (form ∷ above) ≡ key_named name above
 key_named-other name Version above e = refl
 key_named-other name (Disk blocks) above e = refl
-key_named-other name Fallback above e = refl
+key_named-other name (Fallback on) above e = refl
+key_named-other name (Device device) above e = refl
 key_named-other name (Key key) above e = absurd cc
 key_named-other name (Fault fault) above e = refl
 key_named-other name Thread above e = refl
@@ -131,7 +132,8 @@ key_named-onto name (f ∷ fs) above others = key_named-onto name fs (f ∷ abov
 ascends-other : (fault : FaultForm) (form : Form) (above : List Form) → is_fault form ≡ false → ascends (form ∷ above) fault ≡ ascends above fault
 ascends-other fault Version above e = refl
 ascends-other fault (Disk blocks) above e = refl
-ascends-other fault Fallback above e = refl
+ascends-other fault (Fallback on) above e = refl
+ascends-other fault (Device device) above e = refl
 ascends-other fault (Key key) above e = refl
 ascends-other fault (Fault planned) above e = absurd cc
 ascends-other fault Thread above e = refl

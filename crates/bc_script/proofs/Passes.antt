@@ -1,5 +1,5 @@
 -- A line passes its tests where it stands in order and what it says fits behind the lines above.
-use Rattle.std.proofs.Common.{◌≡◌, ◌≢◌, ℕ, ◌<◌, ◌≤◌, ◌+◌, ◌*◌, ◌^◌, Bool, true, false, not, ◌&&◌, ◌||◌, nat_lt, nat_le, nat_eq, List, [], ◌∷◌, ◌++◌, length, take, drop, codes, Option, Some, None, bytes_eq, option_map, is_some, is_none, if◌then◌else◌, refl, sym, ap, ◌∙◌, arith, eq-eqb, le-leb, lt-ltb, mul-pos}
+use Rattle.std.proofs.Common.{◌≡◌, ◌≢◌, ℕ, ◌<◌, ◌≤◌, ◌+◌, ◌*◌, ◌^◌, Bool, true, false, not, ◌&&◌, ◌||◌, nat_lt, nat_le, nat_eq, List, [], ◌∷◌, ◌++◌, length, take, drop, Option, Some, None, bytes_eq, option_map, is_some, is_none, if◌then◌else◌, refl, sym, ap, ◌∙◌, arith, eq-eqb, le-leb, lt-ltb, mul-pos}
 use Rattle.std.specs.Prelude.{sum_by, count_by, IsSome}
 use Rattle.std.specs.List.{AllByRecursion}
 use Rattle.std.specs.Option.{option_map_or}
@@ -19,6 +19,8 @@ use Rattle.bc_key.specs.KeyList.{key_at}
 use Rattle.bc_key.specs.KeyRefusal.{key_refusal, has_equal_halves}
 use Rattle.bc_bio.specs.declared.context.Context.{Context}
 use Rattle.bc_bio.specs.Extent.{unit_sectors}
+use Rattle.bc_stack.specs.declared.target.Target.{Target}
+use Rattle.bc_stack.specs.Targets.{CoverAll}
 use Rattle.bc_script.specs.declared.named_key.NamedKey.{NamedKey}
 use Rattle.bc_script.specs.declared.op.Op.{Op}
 use Rattle.bc_script.specs.declared.op.Op.TheVariants as ops
@@ -29,20 +31,22 @@ use Rattle.bc_script.specs.declared.sort.Sort.TheVariants as sorts
 use Rattle.bc_script.specs.declared.script_error.ScriptWhy.{ScriptWhy}
 use Rattle.bc_script.specs.declared.script_error.ScriptWhy.TheVariants as why
 use Rattle.bc_script.specs.Name.{is_name}
-use Rattle.bc_script.specs.Script.{IsDiskSize, IsNamedKey, IsFault, IsContext, IsBio, IsText, IsOp, bare_keys, open_after, unit_count, unit_count_of_section, max_keys, max_faults, last_shard, last_access, max_threads, max_ops, max_units, max_bio_units, max_bio_sectors}
+use Rattle.bc_script.specs.Script.{IsDiskSize, IsDevice, IsNamedKey, IsFault, IsContext, IsBio, IsText, IsOp, bare_keys, open_after, unit_count, unit_count_of_section, max_blocks, last_block, max_devices, max_slots, max_unit_mask, max_device_dun_bytes, max_keys, max_faults, last_shard, last_access, max_threads, max_ops, max_units, max_bio_units, max_bio_sectors}
 use Rattle.bc_script.specs.ScriptText.{dash, name_of, key_field}
-use Rattle.bc_script.specs.Forms.{Form, Disk, Key, Fault, Thread, End, form_of, sort_of}
-use Rattle.bc_script.specs.Order.{may_follow, is_unbuilt}
-use Rattle.bc_script.specs.ScriptErrors.{Why, first_of, is_number, is_number_text, number_in, bytes_in, is_hex_text, number_test, key_refused, key_test, is_declared, sectors_under, is_open, ascends, is_key, is_fault, is_thread, is_operation, units_in, op_limit, bio_limits, bio_tests, is_text, size_of, last_sort, is_end, tests_of, error_of_form, error_at}
-use Rattle.bc_script.specs.Progress.{Progress, IsProgress, forms_read, sections_read}
+use Rattle.bc_script.specs.Forms.{Form, Disk, Device, Key, Fault, Thread, End, form_of, sort_of}
+use Rattle.bc_script.specs.Order.{may_follow}
+use Rattle.bc_script.specs.ScriptErrors.{Why, first_of, is_number, is_number_below, device_blocks_above, are_whole, device_test, device_fields, is_device, is_number_text, number_in, bytes_in, is_hex_text, number_test, key_refused, key_test, is_declared, sectors_under, is_open, ascends, is_key, is_fault, is_thread, is_operation, units_in, op_limit, bio_limits, bio_tests, is_text, size_of, last_sort, is_end, tests_of, error_of_form, error_at}
+use Rattle.bc_script.specs.Progress.{Progress, IsProgress, blocks_of, forms_read, sections_read}
 use Rattle.bc_script.proofs.Fields.{number_in-decimal, is_number-decimal, is_number_text-number_text, bytes_in-encode_lower, is_hex_text-encode_lower}
 use Rattle.bc_script.proofs.KeyNames.{named_too}
 use Rattle.bc_script.proofs.ByteLists.{IsBytes-All}
 use Rattle.bc_script.proofs.LineFields.{IsBytes-one}
-use Rattle.bc_script.proofs.Above.{key_fields, fault_fields, op_form, bio_form, text_form_of, last_sort-read, keys-read, faults-read, threads-read, operations-read, units-read, is_open-read, ascends-read, is_declared-read, is_declared-none, sectors_under-read}
+use Rattle.bc_script.proofs.Above.{key_fields, fault_fields, op_form, bio_form, text_form_of, last_sort-read, devices-read, device_blocks-read, are_whole-read, keys-read, faults-read, threads-read, operations-read, units-read, is_open-read, ascends-read, is_declared-read, is_declared-none, sectors_under-read}
 use Rattle.bc_script.specs.Statements.{is_after}
+use Rattle.bc_script.specs.DeviceFields.{device_form}
+use Rattle.bc_script.proofs.Devices.{is_covered}
 use Rattle.bc_script.proofs.Faults.{fault_in-fault_fields}
-use Rattle.bc_script.proofs.LineForms.{bytes_eq-other}
+use Rattle.bc_script.proofs.LineForms.{bytes_eq-same, bytes_eq-other}
 
 -- ---- tests, one after the other
 
@@ -55,6 +59,7 @@ not_after_end None sort h = refl
 not_after_end (Some sorts.Version) sort h = refl
 not_after_end (Some sorts.Disk) sort h = refl
 not_after_end (Some sorts.Fallback) sort h = refl
+not_after_end (Some sorts.Device) sort h = refl
 not_after_end (Some sorts.Key) sort h = refl
 not_after_end (Some sorts.Fault) sort h = refl
 not_after_end (Some sorts.Thread) sort h = refl
@@ -62,6 +67,7 @@ not_after_end (Some sorts.Operation) sort h = refl
 not_after_end (Some sorts.End) sorts.Version h = absurd cc
 not_after_end (Some sorts.End) sorts.Disk h = absurd cc
 not_after_end (Some sorts.End) sorts.Fallback h = absurd cc
+not_after_end (Some sorts.End) sorts.Device h = absurd cc
 not_after_end (Some sorts.End) sorts.Key h = absurd cc
 not_after_end (Some sorts.End) sorts.Fault h = absurd cc
 not_after_end (Some sorts.End) sorts.Thread h = absurd cc
@@ -69,30 +75,14 @@ not_after_end (Some sorts.End) sorts.Operation h = absurd cc
 not_after_end (Some sorts.End) sorts.End h = absurd cc
 
 -- a line passes where its form may stand and passes its own tests
-pub error_at-passed : (p : Progress) (line : TextLine) (form : Form) → IsProgress p → is_unbuilt p.last line ≡ false → form_of line ≡ Some form → may_follow p.last (sort_of form) ≡ true → tests_of (forms_read p) form ≡ None → error_at (forms_read p) line ≡ None
-error_at-passed p line form is built is_form follows tests =
+pub error_at-passed : (p : Progress) (line : TextLine) (form : Form) → IsProgress p → form_of line ≡ Some form → may_follow p.last (sort_of form) ≡ true → tests_of (forms_read p) form ≡ None → error_at (forms_read p) line ≡ None
+error_at-passed p line form is is_form follows tests =
     let above = forms_read p in
     let last = last_sort-read p is in
     let behind : is_end (last_sort above) ≡ false = ap is_end last ∙ not_after_end p.last (sort_of form) follows in
-    let there : is_unbuilt (last_sort above) line ≡ false = ap (λ (l : Option Sort). is_unbuilt l line) last ∙ built in
     let stands : may_follow (last_sort above) (sort_of form) ≡ true = ap (λ (l : Option Sort). may_follow l (sort_of form)) last ∙ follows in
     let of_form : error_of_form above (form_of line) ≡ None = ap (error_of_form above) is_form ∙ passed (may_follow (last_sort above) (sort_of form)) why.Word (tests_of above form) stands tests in
-    passed (not (is_end (last_sort above))) why.End _ (not_from_false _ behind)
-    (passed (not (is_unbuilt (last_sort above) line)) why.NotBuilt (error_of_form above (form_of line)) (not_from_false _ there) of_form)
-
--- no line that begins otherwise is of a form that isn't built
-pub is_built : (last : Option Sort) (word : List ℕ) (fields : TextLine) → bytes_eq word (codes "fallback") ≡ false → bytes_eq word (codes "device") ≡ false → is_unbuilt last (word ∷ fields) ≡ false
-is_built None word fields fallback device = refl
-is_built (Some sorts.Version) word fields fallback device = refl
-is_built (Some sorts.Disk) word [] fallback device = refl
-is_built (Some sorts.Disk) word (switch ∷ []) fallback device = ap (λ (b : Bool). b && bytes_eq switch (codes "off")) fallback
-is_built (Some sorts.Disk) word (switch ∷ more ∷ fields) fallback device = refl
-is_built (Some sorts.Fallback) word fields fallback device = device
-is_built (Some sorts.Key) word fields fallback device = refl
-is_built (Some sorts.Fault) word fields fallback device = refl
-is_built (Some sorts.Thread) word fields fallback device = refl
-is_built (Some sorts.Operation) word fields fallback device = refl
-is_built (Some sorts.End) word fields fallback device = refl
+    passed (not (is_end (last_sort above))) why.End _ (not_from_false _ behind) of_form
 
 -- ---- numbers
 
@@ -101,6 +91,40 @@ number_passed least most n next small low high rest = passed (is_number least mo
 
 pub disk_passed : (above : List Form) (blocks : ℕ) → IsDiskSize blocks → tests_of above (Disk (decimal blocks)) ≡ None
 disk_passed above blocks size = let most = size.1 in number_passed 1 16384 blocks None (omega arith) size.0 size.1 refl
+
+-- ---- devices
+
+-- the fields of a device pass
+pub fields_passed : (device : Target) (next : Why) → IsDevice device → next ≡ None → device_fields (device_form device) next ≡ None
+fields_passed device next valid rest =
+    let first = valid.first in
+    let blocks = valid.few_blocks in
+    let slots = valid.slots.most in
+    let xts = valid.xts in
+    let essiv = valid.essiv in
+    let dun_bytes = valid.few_dun_bytes in
+    number_passed 0 last_block device.first _ (omega arith) (omega arith) valid.first
+    (number_passed 1 max_blocks device.blocks _ (omega arith) valid.some_blocks valid.few_blocks
+    (number_passed 1 max_slots device.slots _ (omega arith) valid.slots.least valid.slots.most
+    (number_passed 0 max_unit_mask device.caps.xts _ (omega arith) (omega arith) valid.xts
+    (number_passed 0 max_unit_mask device.caps.essiv _ (omega arith) (omega arith) valid.essiv
+    (number_passed 1 max_device_dun_bytes device.caps.max_dun_bytes _ (omega arith) valid.some_dun_bytes valid.few_dun_bytes rest)))))
+
+-- a device after the blocks of the others passes, where there is room
+pub device_passed : (p : Progress) (device : Target) → IsProgress p → IsDevice device → device.first ≡ blocks_of p.targets → length p.targets < max_devices → tests_of (forms_read p) (Device (device_form device)) ≡ None
+device_passed p device is valid at room =
+    let above = forms_read p in
+    let few = valid.first in
+    let first : nat_eq (number_in (decimal device.first)) (device_blocks_above above) ≡ true =
+    eq-eqb (number_in (decimal device.first)) (device_blocks_above above) (number_in-decimal device.first (omega arith) ∙ at ∙ sym (device_blocks-read p is)) in
+    let limit : nat_lt (count_by is_device above) max_devices ≡ true = ap (λ (n : ℕ). nat_lt n max_devices) (devices-read p is) ∙ lt-ltb (length p.targets) max_devices room in
+    fields_passed device _ valid
+    (passed (nat_eq (number_in (decimal device.first)) (device_blocks_above above)) why.Device _ first
+    (passed (nat_lt (count_by is_device above) max_devices) why.Limit None limit refl))
+
+-- devices that cover the disk pass at the lines behind them
+pub whole_passed : (p : Progress) (next : Why) → IsProgress p → CoverAll p.blocks p.targets → next ≡ None → device_test (forms_read p) next ≡ None
+whole_passed p next is whole rest = passed (are_whole (forms_read p)) why.Device next (are_whole-read p is ∙ is_covered p.targets p.blocks whole) rest
 
 -- ---- keys
 
@@ -156,8 +180,8 @@ not_refused named is =
     ap (λ (o : Option KeyError). option_map (λ error. why.Key error) o) refusal
 
 -- a valid key with a new name passes, where there is room
-pub key_passed : (p : Progress) (named : NamedKey) → IsProgress p → IsNamedKey named → AllByRecursion (λ (key : NamedKey). key.name ≢ named.name) p.keys → length p.keys < max_keys → tests_of (forms_read p) (Key (key_fields named)) ≡ None
-key_passed p named is valid fresh room =
+pub key_passed : (p : Progress) (named : NamedKey) → IsProgress p → CoverAll p.blocks p.targets → IsNamedKey named → AllByRecursion (λ (key : NamedKey). key.name ≢ named.name) p.keys → length p.keys < max_keys → tests_of (forms_read p) (Key (key_fields named)) ≡ None
+key_passed p named is whole valid fresh room =
     let above = forms_read p in
     let few = unit_le named.key.config.unit in
     let dun = valid.valid.most in
@@ -171,14 +195,14 @@ key_passed p named is valid fresh room =
     (number_passed 0 4294967295 (bytes_of named.key.config.unit) _ (omega arith) (omega arith) (omega arith)
     (number_passed 0 255 named.key.config.dun_bytes _ (omega arith) (omega arith) (omega arith)
     (passed (is_hex_text 1 128 (encode_lower named.key.raw)) why.Hex _ digits
-    (ap (λ (w : Why). key_test w (first_of (nat_lt (count_by is_key above) max_keys) why.Limit None)) (not_refused named valid)
-    ∙ passed (nat_lt (count_by is_key above) max_keys) why.Limit None limit refl))))
+    (ap (λ (w : Why). key_test w (device_test above (first_of (nat_lt (count_by is_key above) max_keys) why.Limit None))) (not_refused named valid)
+    ∙ whole_passed p _ is whole (passed (nat_lt (count_by is_key above) max_keys) why.Limit None limit refl)))))
 
 -- ---- planned faults
 
 -- a fault that comes after the last one passes, where there is room
-pub fault_passed : (p : Progress) (fault : ℕ × ℕ) → IsProgress p → IsFault fault → is_after p.faults fault ≡ true → length p.faults < max_faults → tests_of (forms_read p) (Fault (fault_fields fault)) ≡ None
-fault_passed p fault is valid after room =
+pub fault_passed : (p : Progress) (fault : ℕ × ℕ) → IsProgress p → CoverAll p.blocks p.targets → IsFault fault → is_after p.faults fault ≡ true → length p.faults < max_faults → tests_of (forms_read p) (Fault (fault_fields fault)) ≡ None
+fault_passed p fault is whole valid after room =
     let above = forms_read p in
     let shard = valid.shard in
     let access = valid.access in
@@ -187,22 +211,23 @@ fault_passed p fault is valid after room =
     number_passed 0 last_shard fault.0 _ (omega arith) (omega arith) shard
     (number_passed 0 last_access fault.1 _ (omega arith) (omega arith) access
     (passed (ascends above (fault_fields fault)) why.Order _ behind
-    (passed (nat_lt (count_by is_fault above) max_faults) why.Limit None limit refl)))
+    (whole_passed p _ is whole (passed (nat_lt (count_by is_fault above) max_faults) why.Limit None limit refl))))
 
 -- ---- sections
 
 closed : (p : Progress) → IsProgress p → open_after false p.section ≡ Some false → not (is_open (forms_read p)) ≡ true
 closed p is behind = not_from_false _ (is_open-read p false is behind)
 
-pub thread_passed : (p : Progress) → IsProgress p → open_after false p.section ≡ Some false → length (sections_read p) < max_threads → tests_of (forms_read p) Thread ≡ None
-thread_passed p is behind room =
+pub thread_passed : (p : Progress) → IsProgress p → CoverAll p.blocks p.targets → open_after false p.section ≡ Some false → length (sections_read p) < max_threads → tests_of (forms_read p) Thread ≡ None
+thread_passed p is whole behind room =
     passed (not (is_open (forms_read p))) why.Order _ (closed p is behind)
+    (whole_passed p _ is whole
     (passed (nat_lt (count_by is_thread (forms_read p)) max_threads) why.Limit None
     (ap (λ (n : ℕ). nat_lt n max_threads) (threads-read p is) ∙ lt-ltb (length (sections_read p)) max_threads room)
-    refl)
+    refl))
 
-pub end_passed : (p : Progress) → IsProgress p → open_after false p.section ≡ Some false → tests_of (forms_read p) End ≡ None
-end_passed p is behind = passed (not (is_open (forms_read p))) why.Order None (closed p is behind) refl
+pub end_passed : (p : Progress) → IsProgress p → CoverAll p.blocks p.targets → open_after false p.section ≡ Some false → tests_of (forms_read p) End ≡ None
+end_passed p is whole behind = passed (not (is_open (forms_read p))) why.Order _ (closed p is behind) (whole_passed p None is whole refl)
 
 -- ---- operations
 
@@ -317,7 +342,7 @@ plug_was_open p is closes =
     only false h = absurd cc
 
 -- a valid operation passes, where there is room for it
-pub op_passed : (p : Progress) (op : Op) → IsProgress p → IsOp (bare_keys p.keys) op → IsSome (open_after false (p.section ++ op ∷ [])) → sum_by length (sections_read p) < max_ops → sum_by unit_count_of_section (sections_read p) + unit_count op ≤ max_units
+pub op_passed : (p : Progress) (op : Op) → IsProgress p → IsOp (length p.targets) (bare_keys p.keys) op → IsSome (open_after false (p.section ++ op ∷ [])) → sum_by length (sections_read p) < max_ops → sum_by unit_count_of_section (sections_read p) + unit_count op ≤ max_units
     → tests_of (forms_read p) (op_form p.keys op) ≡ None
 op_passed p (ops.Write context sector units text) is valid plugs room fits =
     bio_passed p context sector units _ is valid.0
@@ -326,6 +351,12 @@ op_passed p (ops.Write context sector units text) is valid plugs room fits =
 op_passed p (ops.Read context sector units) is valid plugs room fits = bio_passed p context sector units _ is valid (bio_room p context sector units is valid room fits)
 op_passed p (ops.Evict key) is valid plugs room fits =
     passed (is_declared (name_of p.keys key) (forms_read p)) why.Name _ (is_declared-read p key is (named_too p.keys key.0 valid)) (op_room p is room)
-op_passed p (ops.Reset device) is valid plugs room fits = absurd (omega arith)
+op_passed p (ops.Reset device) is valid plugs room fits =
+    let few = is.devices.count in
+    let said = number_in-decimal device (omega arith) in
+    let below : is_number_below (count_by is_device (forms_read p)) (decimal device) ≡ true =
+    ap (λ (n : ℕ). is_number_below n (decimal device)) (devices-read p is)
+    ∙ and_from _ _ (ap (λ (n : ℕ). bytes_eq (decimal n) (decimal device)) said ∙ bytes_eq-same (decimal device)) (ap (λ (n : ℕ). nat_lt n (length p.targets)) said ∙ lt-ltb device (length p.targets) valid) in
+    passed (is_number_below (count_by is_device (forms_read p)) (decimal device)) why.Number _ below (op_room p is room)
 op_passed p ops.Plug is valid plugs room fits = passed (not (is_open (forms_read p))) why.Order _ (closed p is (plug_was_closed p is plugs)) (op_room p is room)
 op_passed p ops.Unplug is valid plugs room fits = passed (is_open (forms_read p)) why.Order _ (is_open-read p true is (plug_was_open p is plugs)) (op_room p is room)

@@ -49,6 +49,19 @@ key_parts old name mode unit bytes digits t u v new p q r s =
     four_parts old (codes "key ") name (space ∷ fields_text (mode ∷ unit ∷ bytes ∷ [])) last t u v new p q r s
     ∙ ap (λ (x : List ℕ). old ++ (codes "key " ++ (name ++ space ∷ x))) left ∙ sym (ap (λ (x : List ℕ). old ++ (codes "key " ++ x)) right)
 
+-- a device's line
+pub device_parts : (old first blocks slots xts essiv dun_bytes t u v new : List ℕ) → t ≡ old ++ codes "device " → u ≡ t ++ fields_text (first ∷ blocks ∷ slots ∷ [])
+    → v ≡ u ++ space ∷ fields_text (xts ∷ essiv ∷ dun_bytes ∷ []) → new ≡ v ++ line_feed ∷ []
+    → new ≡ old ++ line_text (codes "device" ∷ first ∷ blocks ∷ slots ∷ xts ∷ essiv ∷ dun_bytes ∷ [])
+device_parts old first blocks slots xts essiv dun_bytes t u v new p q r s =
+    let end : List ℕ = line_feed ∷ [] in
+    let caps = space ∷ fields_text (xts ∷ essiv ∷ dun_bytes ∷ []) in
+    let last : caps ++ end ≡ _ = ap (λ (x : List ℕ). space ∷ x) (in_front xts _ end _ (in_front essiv dun_bytes end _ refl)) in
+    let left = in_front first (blocks ++ space ∷ slots) (caps ++ end) _ (in_front blocks slots (caps ++ end) _ refl) in
+    let right = in_front first _ end _ (in_front blocks _ end _ (in_front slots _ end _ (in_front xts _ end _ (in_front essiv dun_bytes end _ refl)))) in
+    four_parts old (codes "device ") (fields_text (first ∷ blocks ∷ slots ∷ [])) caps end t u v new p q r s
+    ∙ ap (λ (x : List ℕ). old ++ (codes "device " ++ x)) (left ∙ ap (λ (x : List ℕ). first ++ space ∷ (blocks ++ space ∷ (slots ++ x))) last ∙ sym right)
+
 -- the first fields of a bio's line
 pub bio_parts : (old word key sector units number t u v new : List ℕ) → t ≡ old ++ word → u ≡ t ++ space ∷ key → v ≡ u ++ space ∷ fields_text (sector ∷ units ∷ [])
     → new ≡ v ++ space ∷ number → new ≡ old ++ fields_text (word ∷ key ∷ sector ∷ units ∷ number ∷ [])
@@ -59,6 +72,12 @@ bio_parts old word key sector units number t u v new p q r s =
 -- three lines
 pub three_lines : (old a b c new : List ℕ) → new ≡ ((old ++ a) ++ b) ++ c → new ≡ old ++ (a ++ (b ++ (c ++ [])))
 three_lines old a b c new e = e ∙ append_assoc (old ++ a) b c ∙ append_assoc old a (b ++ c) ∙ ap (λ (t : List ℕ). old ++ (a ++ (b ++ t))) (sym (append-nil c))
+
+-- the first three lines, and those of devices
+pub with_devices : (old first new : List ℕ) (a b c : TextLine) (ds : List TextLine) → first ≡ old ++ lines_text (a ∷ b ∷ c ∷ []) → new ≡ first ++ lines_text ds → new ≡ old ++ lines_text (a ∷ b ∷ c ∷ ds)
+with_devices old first new a b c ds p q =
+    q ∙ ap (λ (x : List ℕ). x ++ lines_text ds) p ∙ append_assoc old (lines_text (a ∷ b ∷ c ∷ [])) (lines_text ds)
+    ∙ sym (ap (λ (x : List ℕ). old ++ x) (lines_text-append (a ∷ b ∷ c ∷ []) ds))
 
 -- all parts of a text
 pub all_parts : (head keys faults sections text : List ℕ) (a b c d e : List TextLine) → head ≡ lines_text a → keys ≡ head ++ lines_text b → faults ≡ keys ++ lines_text c → sections ≡ faults ++ lines_text d → text ≡ sections ++ lines_text e

@@ -1,13 +1,15 @@
 -- The tests of a line, one after the other, up to the one that fails.
-use Rattle.std.proofs.Common.{◌≡◌, ◌≢◌, ℕ, suc, ◌≤◌, ◌+◌, ◌*◌, Bool, true, false, not, ◌&&◌, ◌||◌, nat_lt, nat_le, List, [], ◌∷◌, length, Option, Some, None, is_some, bytes_eq, refl, sym, ap, subst, ◌∙◌, arith, ltb-true}
+use Rattle.std.proofs.Common.{◌≡◌, ◌≢◌, ℕ, suc, ◌≤◌, ◌+◌, ◌*◌, Bool, true, false, not, ◌&&◌, ◌||◌, nat_eq, nat_lt, nat_le, List, [], ◌∷◌, length, Option, Some, None, is_some, bytes_eq, refl, sym, ap, subst, ◌∙◌, arith, ltb-true, eqb-true, eq-eqb}
 use Rattle.std.specs.Prelude.{sum_by, count_by, MatchOption}
 use Rattle.std.specs.List.{AllByRecursion}
 use Rattle.std.specs.Option.{option_map}
+use Rattle.std.proofs.lemmas.Bool.{false_from_ne_true}
 use Rattle.bc_text.specs.Lines.{TextLine}
 use Rattle.bc_key.specs.declared.keys.KeyNo.{KeyNo}
 use Rattle.bc_key.specs.declared.key.KeyError.{KeyError}
 use Rattle.bc_key.specs.KeyRefusal.{key_refusal}
 use Rattle.bc_bio.specs.Extent.{unit_sectors}
+use Rattle.bc_stack.specs.declared.target.Target.{Target}
 use Rattle.bc_script.specs.declared.named_key.NamedKey.{NamedKey}
 use Rattle.bc_script.specs.declared.sort.Sort.{Sort}
 use Rattle.bc_script.specs.declared.statement.Unread.{Unread}
@@ -16,18 +18,19 @@ use Rattle.bc_script.specs.declared.script_error.ScriptWhy.{ScriptWhy}
 use Rattle.bc_script.specs.declared.script_error.ScriptWhy.TheVariants as why
 use Rattle.bc_script.specs.declared.reader.line.BioFields.{BioFields}
 use Rattle.bc_script.specs.Name.{is_name}
-use Rattle.bc_script.specs.Script.{bare_keys, unit_count_of_section, max_keys, max_faults, last_shard, last_access, max_threads, max_ops, max_units, max_bio_units, max_bio_sectors}
+use Rattle.bc_script.specs.Script.{bare_keys, unit_count_of_section, max_devices, max_keys, max_faults, last_shard, last_access, max_threads, max_ops, max_units, max_bio_units, max_bio_sectors}
 use Rattle.bc_script.specs.ScriptText.{dash}
-use Rattle.bc_script.specs.Forms.{Form, KeyForm, FaultForm, BioForm, TextForm, form_of, sort_of}
-use Rattle.bc_script.specs.Order.{may_follow, is_unbuilt}
-use Rattle.bc_script.specs.ScriptErrors.{Why, first_of, number_test, is_number, is_number_text, is_hex_text, is_text, number_in, bytes_in, is_key, is_fault, is_thread, is_operation, is_declared, sectors_under, is_open, key_refused, key_test, key_tests, fault_tests, ascends, op_limit, bio_limits, bio_tests, size_of, tests_of, is_end, last_sort, error_of_form, error_at}
-use Rattle.bc_script.specs.Progress.{Progress, IsProgress, forms_read, sections_read}
+use Rattle.bc_script.specs.Forms.{Form, DeviceForm, KeyForm, FaultForm, BioForm, TextForm, form_of, sort_of}
+use Rattle.bc_script.specs.Order.{may_follow}
+use Rattle.bc_script.specs.ScriptErrors.{Why, first_of, number_test, is_number, is_number_below, is_device, device_blocks_above, are_whole, device_test, device_tests, is_number_text, is_hex_text, is_text, number_in, bytes_in, is_key, is_fault, is_thread, is_operation, is_declared, sectors_under, is_open, key_refused, key_test, key_tests, fault_tests, ascends, op_limit, bio_limits, bio_tests, size_of, tests_of, is_end, last_sort, error_of_form, error_at}
+use Rattle.bc_script.specs.Progress.{Progress, IsProgress, blocks_of, is_whole, forms_read, sections_read}
 use Rattle.bc_script.specs.NamedKeys.{IsNamed, IsNoName}
 use Rattle.bc_script.specs.Statements.{Reports, Refuses, is_after}
 use Rattle.bc_script.specs.Says.{SaysNumber}
+use Rattle.bc_script.specs.DeviceFields.{SaysDevice}
 use Rattle.bc_script.specs.BioFields.{SaysKey, SaysNumberField, SaysBio}
 use Rattle.bc_script.specs.Reading.{IsReading}
-use Rattle.bc_script.proofs.Above.{keys-read, faults-read, threads-read, operations-read, units-read, last_sort-read, is_open-read, ascends-read, is_declared-read, is_declared-none, sectors_under-read}
+use Rattle.bc_script.proofs.Above.{devices-read, device_blocks-read, are_whole-read, keys-read, faults-read, threads-read, operations-read, units-read, last_sort-read, is_open-read, ascends-read, is_declared-read, is_declared-none, sectors_under-read}
 
 -- ---- one test
 
@@ -77,33 +80,24 @@ module _ (p : Progress) (line : TextLine) (last : Option Sort) (is : IsProgress 
   pub behind_end : is_end last ≡ true → error_at (forms_read p) line ≡ Some why.End
   behind_end h = fails (not (is_end (last_sort (forms_read p)))) why.End _ (not_true _ (ap is_end nearest_is ∙ h))
 
-  past_end : is_end last ≡ false → error_at (forms_read p) line ≡ first_of (not (is_unbuilt (last_sort (forms_read p)) line)) why.NotBuilt (error_of_form (forms_read p) (form_of line))
+  past_end : is_end last ≡ false → error_at (forms_read p) line ≡ error_of_form (forms_read p) (form_of line)
   past_end h = goes_on (not (is_end (last_sort (forms_read p)))) why.End _ (not_false _ (ap is_end nearest_is ∙ h))
 
-  unbuilt_is : is_unbuilt (last_sort (forms_read p)) line ≡ is_unbuilt last line
-  unbuilt_is = ap (λ (l : Option Sort). is_unbuilt l line) nearest_is
-
-  pub not_built : is_end last ≡ false → is_unbuilt last line ≡ true → error_at (forms_read p) line ≡ Some why.NotBuilt
-  not_built e h = past_end e ∙ fails (not (is_unbuilt (last_sort (forms_read p)) line)) why.NotBuilt _ (not_true _ (unbuilt_is ∙ h))
-
-  past_unbuilt : is_end last ≡ false → is_unbuilt last line ≡ false → error_at (forms_read p) line ≡ error_of_form (forms_read p) (form_of line)
-  past_unbuilt e h = past_end e ∙ goes_on (not (is_unbuilt (last_sort (forms_read p)) line)) why.NotBuilt _ (not_false _ (unbuilt_is ∙ h))
-
-  pub no_form_there : is_end last ≡ false → is_unbuilt last line ≡ false → None ≡ form_of line → error_at (forms_read p) line ≡ Some why.Word
-  no_form_there e h none = past_unbuilt e h ∙ ap (error_of_form (forms_read p)) (sym none)
+  pub no_form_there : is_end last ≡ false → None ≡ form_of line → error_at (forms_read p) line ≡ Some why.Word
+  no_form_there e none = past_end e ∙ ap (error_of_form (forms_read p)) (sym none)
 
   module _ (form : Form) (is_form : Some form ≡ form_of line) where
     follow_is : may_follow (last_sort (forms_read p)) (sort_of form) ≡ may_follow last (sort_of form)
     follow_is = ap (λ (l : Option Sort). may_follow l (sort_of form)) nearest_is
 
-    at_form : is_end last ≡ false → is_unbuilt last line ≡ false → error_at (forms_read p) line ≡ first_of (may_follow (last_sort (forms_read p)) (sort_of form)) why.Word (tests_of (forms_read p) form)
-    at_form e h = past_unbuilt e h ∙ ap (error_of_form (forms_read p)) (sym is_form)
+    at_form : is_end last ≡ false → error_at (forms_read p) line ≡ first_of (may_follow (last_sort (forms_read p)) (sort_of form)) why.Word (tests_of (forms_read p) form)
+    at_form e = past_end e ∙ ap (error_of_form (forms_read p)) (sym is_form)
 
-    pub elsewhere : is_end last ≡ false → is_unbuilt last line ≡ false → may_follow last (sort_of form) ≡ false → error_at (forms_read p) line ≡ Some why.Word
-    elsewhere e h f = at_form e h ∙ fails (may_follow (last_sort (forms_read p)) (sort_of form)) why.Word _ (follow_is ∙ f)
+    pub elsewhere : is_end last ≡ false → may_follow last (sort_of form) ≡ false → error_at (forms_read p) line ≡ Some why.Word
+    elsewhere e f = at_form e ∙ fails (may_follow (last_sort (forms_read p)) (sort_of form)) why.Word _ (follow_is ∙ f)
 
-    pub tests_are : is_end last ≡ false → is_unbuilt last line ≡ false → may_follow last (sort_of form) ≡ true → error_at (forms_read p) line ≡ tests_of (forms_read p) form
-    tests_are e h f = at_form e h ∙ goes_on (may_follow (last_sort (forms_read p)) (sort_of form)) why.Word _ (follow_is ∙ f)
+    pub tests_are : is_end last ≡ false → may_follow last (sort_of form) ≡ true → error_at (forms_read p) line ≡ tests_of (forms_read p) form
+    tests_are e f = at_form e ∙ goes_on (may_follow (last_sort (forms_read p)) (sort_of form)) why.Word _ (follow_is ∙ f)
 
 pub follows_here : (p : Progress) (last : Option Sort) (form : Form) (sort : Sort) (follows : Bool) → last ≡ p.last → sort ≡ sort_of form → follows ≡ may_follow last sort → follows ≡ true → may_follow p.last (sort_of form) ≡ true
 follows_here p last form sort follows nearest sorted test holds =
@@ -126,6 +120,30 @@ no_room p room is test denied = fails (nat_lt (count_by is_operation (forms_read
 
 pub too_many_threads : (p : Progress) (count : ℕ) → IsProgress p → count ≡ length (sections_read p) → max_threads ≤ count → first_of (nat_lt (count_by is_thread (forms_read p)) max_threads) why.Limit None ≡ Some why.Limit
 too_many_threads p count is same many = fails (nat_lt (count_by is_thread (forms_read p)) max_threads) why.Limit None (ap (λ (n : ℕ). nat_lt n max_threads) (threads-read p is ∙ sym same) ∙ at_least count max_threads many)
+
+-- ---- devices at the lines behind them
+
+-- devices that don't have the disk's blocks together fail
+pub not_whole : (p : Progress) (next : Why) (whole : Bool) → IsProgress p → whole ≡ is_whole p → whole ≡ false → device_test (forms_read p) next ≡ Some why.Device
+not_whole p next whole is test denied = fails (are_whole (forms_read p)) why.Device next (are_whole-read p is ∙ sym test ∙ denied)
+
+pub goes_on_whole : (p : Progress) (next : Why) (whole : Bool) → IsProgress p → whole ≡ is_whole p → whole ≡ true → device_test (forms_read p) next ≡ next
+goes_on_whole p next whole is test holds = goes_on (are_whole (forms_read p)) why.Device next (are_whole-read p is ∙ sym test ∙ holds)
+
+-- ---- the number of a device
+
+pub below_is : (p : Progress) (count : ℕ) (field : List ℕ) → IsProgress p → count ≡ length p.targets → is_number_below (count_by is_device (forms_read p)) field ≡ is_number_below count field
+below_is p count field is same = ap (λ (n : ℕ). is_number_below n field) (devices-read p is ∙ sym same)
+
+pub reset_refused : (p : Progress) (count : ℕ) (field : List ℕ) (e : Unread) → IsProgress p → count ≡ length p.targets → Refuses (is_number_below count field) why.Number e
+    → Reports (first_of (is_number_below (count_by is_device (forms_read p)) field) why.Number (op_limit (forms_read p))) e
+reset_refused p count field e is same r =
+    refused (is_number_below (count_by is_device (forms_read p)) field) why.Number (op_limit (forms_read p)) e (subst (λ (b : Bool). Refuses b why.Number e) (sym (below_is p count field is same)) r)
+
+pub reset_without_room : (p : Progress) (count : ℕ) (field : List ℕ) (room : Bool) → IsProgress p → count ≡ length p.targets → is_number_below count field ≡ true → room ≡ nat_lt (sum_by length (sections_read p)) max_ops → room ≡ false
+    → first_of (is_number_below (count_by is_device (forms_read p)) field) why.Number (op_limit (forms_read p)) ≡ Some why.Limit
+reset_without_room p count field room is same passes test denied =
+    goes_on (is_number_below (count_by is_device (forms_read p)) field) why.Number (op_limit (forms_read p)) (below_is p count field is same ∙ passes) ∙ no_room p room is test denied
 
 -- ---- names
 
@@ -157,7 +175,7 @@ module _ (above : List Form) (key : KeyForm) where
   name_test = is_name key.name && not (is_declared key.name above)
 
   abbrev limit_left : Why
-  limit_left = first_of (nat_lt (count_by is_key above) max_keys) why.Limit None
+  limit_left = device_test above (first_of (nat_lt (count_by is_key above) max_keys) why.Limit None)
 
   abbrev key_left : Why
   key_left = key_test (key_refused key) limit_left
@@ -201,19 +219,52 @@ module _ (above : List Form) (key : KeyForm) where
     no_key error n u d h e =
         past_digits n u d h ∙ ap (λ (o : Option KeyError). key_test (option_map (λ error. why.Key error) o) limit_left) (sym same_key ∙ e)
 
-    pub too_many_keys : (p : Progress) (count : ℕ) → above ≡ forms_read p → IsProgress p → count ≡ length p.keys → max_keys ≤ count → name_test ≡ true → is_number 0 4294967295 key.unit ≡ true → is_number 0 255 key.dun_bytes ≡ true
-        → is_hex_text 1 128 key.digits ≡ true → key_refusal key.mode raw unit dun_bytes ≡ None → key_tests above key ≡ Some why.Limit
-    too_many_keys p count forms is same many n u d h e =
-        past_digits n u d h
-        ∙ ap (λ (o : Option KeyError). key_test (option_map (λ error. why.Key error) o) limit_left) (sym same_key ∙ e)
-        ∙ fails (nat_lt (count_by is_key above) max_keys) why.Limit None
-        (ap (λ (fs : List Form). nat_lt (count_by is_key fs) max_keys) forms ∙ ap (λ (n : ℕ). nat_lt n max_keys) (keys-read p is ∙ sym same) ∙ at_least count max_keys many)
+    module _ (n : name_test ≡ true) (u : is_number 0 4294967295 key.unit ≡ true) (d : is_number 0 255 key.dun_bytes ≡ true) (h : is_hex_text 1 128 key.digits ≡ true) (e : key_refusal key.mode raw unit dun_bytes ≡ None) where
+      past_key_test : key_tests above key ≡ limit_left
+      past_key_test = past_digits n u d h ∙ ap (λ (o : Option KeyError). key_test (option_map (λ error. why.Key error) o) limit_left) (sym same_key ∙ e)
+
+      module _ (p : Progress) (whole : Bool) (forms : above ≡ forms_read p) (is : IsProgress p) (test : whole ≡ is_whole p) where
+        abbrev room_left : List Form → Why
+        room_left forms = first_of (nat_lt (count_by is_key forms) max_keys) why.Limit None
+
+        pub key_not_whole : whole ≡ false → key_tests above key ≡ Some why.Device
+        key_not_whole denied = past_key_test ∙ ap (λ (fs : List Form). device_test fs (room_left fs)) forms ∙ not_whole p (room_left (forms_read p)) whole is test denied
+
+        pub too_many_keys : (count : ℕ) → whole ≡ true → count ≡ length p.keys → max_keys ≤ count → key_tests above key ≡ Some why.Limit
+        too_many_keys count holds same many =
+            past_key_test
+            ∙ ap (λ (fs : List Form). device_test fs (room_left fs)) forms
+            ∙ goes_on_whole p (room_left (forms_read p)) whole is test holds
+            ∙ fails (nat_lt (count_by is_key (forms_read p)) max_keys) why.Limit None (ap (λ (n : ℕ). nat_lt n max_keys) (keys-read p is ∙ sym same) ∙ at_least count max_keys many)
+
+-- ---- a device's line
+
+module _ (p : Progress) (form : DeviceForm) (device : Target) (end : ℕ) (is : IsProgress p) (says : SaysDevice form device) (end_is : end ≡ blocks_of p.targets) where
+  abbrev devices_left : Why
+  devices_left = first_of (nat_lt (count_by is_device (forms_read p)) max_devices) why.Limit None
+
+  abbrev first_left : Why
+  first_left = first_of (nat_eq (number_in form.first) (device_blocks_above (forms_read p))) why.Device devices_left
+
+  first_test : nat_eq (number_in form.first) (device_blocks_above (forms_read p)) ≡ nat_eq device.first end
+  first_test = λ i. nat_eq (sym says.first_is i) ((device_blocks-read p is ∙ sym end_is) i)
+
+  pub device_elsewhere : device.first ≢ end → device_tests (forms_read p) form ≡ Some why.Device
+  device_elsewhere differ =
+      says.passes first_left
+      ∙ fails (nat_eq (number_in form.first) (device_blocks_above (forms_read p))) why.Device devices_left (first_test ∙ false_from_ne_true (nat_eq device.first end) (λ same. differ (eqb-true device.first end same)))
+
+  pub too_many_devices : (count : ℕ) → device.first ≡ end → count ≡ length p.targets → max_devices ≤ count → device_tests (forms_read p) form ≡ Some why.Limit
+  too_many_devices count same length_is many =
+      says.passes first_left
+      ∙ goes_on (nat_eq (number_in form.first) (device_blocks_above (forms_read p))) why.Device devices_left (first_test ∙ eq-eqb device.first end same)
+      ∙ fails (nat_lt (count_by is_device (forms_read p)) max_devices) why.Limit None (ap (λ (n : ℕ). nat_lt n max_devices) (devices-read p is ∙ sym length_is) ∙ at_least count max_devices many)
 
 -- ---- a planned fault's line
 
 module _ (above : List Form) (fault : FaultForm) where
   abbrev fault_limit_left : Why
-  fault_limit_left = first_of (nat_lt (count_by is_fault above) max_faults) why.Limit None
+  fault_limit_left = device_test above (first_of (nat_lt (count_by is_fault above) max_faults) why.Limit None)
 
   abbrev order_left : Why
   order_left = first_of (ascends above fault) why.Order fault_limit_left
@@ -238,11 +289,21 @@ module _ (p : Progress) (fault : FaultForm) (shard access : ℕ) (after : Bool) 
   pub fault_out_of_order : after ≡ false → fault_tests (forms_read p) fault ≡ Some why.Order
   fault_out_of_order denied = past_access (forms_read p) fault says_shard.passes says_access.passes ∙ fails (ascends (forms_read p) fault) why.Order _ (after_is ∙ denied)
 
-  pub too_many_faults : (count : ℕ) → after ≡ true → count ≡ length p.faults → max_faults ≤ count → fault_tests (forms_read p) fault ≡ Some why.Limit
-  too_many_faults count holds same many =
-      past_access (forms_read p) fault says_shard.passes says_access.passes
-      ∙ goes_on (ascends (forms_read p) fault) why.Order _ (after_is ∙ holds)
-      ∙ fails (nat_lt (count_by is_fault (forms_read p)) max_faults) why.Limit None (ap (λ (n : ℕ). nat_lt n max_faults) (faults-read p is ∙ sym same) ∙ at_least count max_faults many)
+  module _ (whole : Bool) (holds : after ≡ true) (whole_test : whole ≡ is_whole p) where
+    abbrev faults_left : Why
+    faults_left = first_of (nat_lt (count_by is_fault (forms_read p)) max_faults) why.Limit None
+
+    past_order : fault_tests (forms_read p) fault ≡ device_test (forms_read p) faults_left
+    past_order = past_access (forms_read p) fault says_shard.passes says_access.passes ∙ goes_on (ascends (forms_read p) fault) why.Order _ (after_is ∙ holds)
+
+    pub fault_not_whole : whole ≡ false → fault_tests (forms_read p) fault ≡ Some why.Device
+    fault_not_whole denied = past_order ∙ not_whole p faults_left whole is whole_test denied
+
+    pub too_many_faults : (count : ℕ) → whole ≡ true → count ≡ length p.faults → max_faults ≤ count → fault_tests (forms_read p) fault ≡ Some why.Limit
+    too_many_faults count is_so same many =
+        past_order
+        ∙ goes_on_whole p faults_left whole is whole_test is_so
+        ∙ fails (nat_lt (count_by is_fault (forms_read p)) max_faults) why.Limit None (ap (λ (n : ℕ). nat_lt n max_faults) (faults-read p is ∙ sym same) ∙ at_least count max_faults many)
 
 -- ---- the fields of a bio
 

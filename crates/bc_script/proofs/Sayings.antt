@@ -19,11 +19,11 @@ use Rattle.bc_script.specs.declared.reader.line.BioFields.{BioFields}
 use Rattle.bc_script.specs.Name.{is_name}
 use Rattle.bc_script.specs.Script.{IsText, bare_keys, open_after, unit_count_of_section, max_ops, max_units, max_bio_units, max_bio_sectors}
 use Rattle.bc_script.specs.ScriptText.{dash}
-use Rattle.bc_script.specs.Forms.{Form, Write, Read, Evict, Plug, Unplug, BioForm, TextForm, sort_of, dashes_agree}
+use Rattle.bc_script.specs.Forms.{Form, Write, Read, Evict, Reset, Plug, Unplug, BioForm, TextForm, sort_of, dashes_agree}
 use Rattle.bc_script.specs.Order.{may_follow}
 use Rattle.bc_script.specs.ScriptErrors.{Why, is_declared, tests_of, error_at}
 use Rattle.bc_script.specs.Progress.{Progress, IsProgress, forms_read, sections_read}
-use Rattle.bc_script.specs.Says.{SaysNumber}
+use Rattle.bc_script.specs.Says.{SaysNumber, SaysNumberBelow}
 use Rattle.bc_script.specs.NamedKeys.{IsNamed, IsNoName}
 use Rattle.bc_script.specs.Statements.{IsStatementOf, IsNext, Reports, form_line}
 use Rattle.bc_script.specs.BioFields.{IsNewName, IsDeclared, SaysKey, SaysNumberField, SaysBio, SaysText, IsTextOf, context_with}
@@ -94,6 +94,21 @@ said_evict p name key room is declared test holds =
       fits = record {
         valid = subst (λ (n : ℕ). key.0 < n) (sym (length-bare_keys p.keys)) within;
         plugs = plain p.section (ops.Evict key) (open_after false p.section) refl (λ b. refl) is.plugs;
+        room = ltb-true _ _ (sym test ∙ holds);
+        units = omega arith;
+      };
+    }
+
+pub said_reset : (p : Progress) (field : List ℕ) (device : ℕ) (room : Bool) → IsProgress p → SaysNumberBelow (length p.targets) field device → room ≡ nat_lt (sum_by length (sections_read p)) max_ops → room ≡ true
+    → IsStatementOf p (Reset field) (statements.Operation (ops.Reset device))
+said_reset p field device room is said test holds =
+    let few = is.few_units in
+    record {
+      line_is = ap (λ (f : List ℕ). codes "reset" ∷ f ∷ []) said.text;
+      sort_is = refl;
+      fits = record {
+        valid = said.below;
+        plugs = plain p.section (ops.Reset device) (open_after false p.section) refl (λ b. refl) is.plugs;
         room = ltb-true _ _ (sym test ∙ holds);
         units = omega arith;
       };

@@ -7,22 +7,25 @@ use Rattle.std.proofs.lemmas.List.Sums.{sum_by-append}
 use Rattle.std.proofs.lemmas.List.Kept.{AllPairs-cons}
 use Rattle.std.proofs.lemmas.List.Elements.{All-from_recursion}
 use Rattle.bc_text.specs.Lines.{TextLine}
+use Rattle.bc_stack.specs.declared.target.Target.{Target}
+use Rattle.bc_stack.specs.Targets.{CoverAll}
 use Rattle.bc_script.specs.declared.named_key.NamedKey.{NamedKey}
 use Rattle.bc_script.specs.declared.op.Op.{Op}
 use Rattle.bc_script.specs.declared.sort.Sort.{Sort}
 use Rattle.bc_script.specs.declared.sort.Sort.TheVariants as sorts
-use Rattle.bc_script.specs.Script.{IsDiskSize, AreKeys, IsNamedKey, IsFault, IsOp, IsSection, bare_keys, open_after, unit_count, unit_count_of_section, max_keys, max_faults, max_threads, max_ops, max_units}
-use Rattle.bc_script.specs.ScriptText.{version_line, disk_line, fallback_line, key_line, fault_line, thread_line, op_line, section_lines, end_line}
+use Rattle.bc_script.specs.Script.{IsDiskSize, IsDevice, AreKeys, IsNamedKey, IsFault, IsOp, IsSection, bare_keys, open_after, unit_count, unit_count_of_section, max_devices, max_keys, max_faults, max_threads, max_ops, max_units}
+use Rattle.bc_script.specs.ScriptText.{version_line, disk_line, fallback_line, device_line, key_line, fault_line, thread_line, op_line, section_lines, end_line}
 use Rattle.bc_script.specs.Order.{may_follow}
-use Rattle.bc_script.specs.Progress.{Progress, IsProgress, IsAt, head_read, with_section, is_in_section, end_read, lines_read, sections_read}
+use Rattle.bc_script.specs.Progress.{Progress, IsProgress, IsAt, blocks_of, first_read, head_read, with_section, is_in_section, end_read, lines_read, sections_read}
 use Rattle.bc_script.specs.Statements.{is_after}
 use Rattle.bc_script.proofs.Onto.{map-append, AllByRecursion-append}
 use Rattle.bc_script.proofs.Faults.{no_faults, AreFaults-push}
+use Rattle.bc_script.proofs.Devices.{no_devices, follow_push}
 
 -- ---- what has been read
 
 abbrev pub nothing_read : Progress
-nothing_read = record { last = None; blocks = 0; keys = []; faults = []; threads = []; section = [] }
+nothing_read = record { last = None; blocks = 0; fallback = true; targets = []; keys = []; faults = []; threads = []; section = [] }
 
 abbrev pub with_version : Progress → Progress
 with_version p = record p { last = Some sorts.Version }
@@ -30,8 +33,11 @@ with_version p = record p { last = Some sorts.Version }
 abbrev pub with_disk : Progress → ℕ → Progress
 with_disk p blocks = record p { last = Some sorts.Disk; blocks = blocks }
 
-abbrev pub with_fallback : Progress → Progress
-with_fallback p = record p { last = Some sorts.Fallback }
+abbrev pub with_fallback : Progress → Bool → Progress
+with_fallback p on = record p { last = Some sorts.Fallback; fallback = on }
+
+abbrev pub with_device : Progress → Target → Progress
+with_device p device = record p { last = Some sorts.Device; targets = p.targets ++ device ∷ [] }
 
 abbrev pub with_key : Progress → NamedKey → Progress
 with_key p named = record p { last = Some sorts.Key; keys = p.keys ++ named ∷ [] }
@@ -44,19 +50,28 @@ with_op p op = record p { last = Some sorts.Operation; section = p.section ++ op
 
 -- the section that is being read has ended, with a line of this sort
 abbrev pub with_section_ended : Progress → Sort → Progress
-with_section_ended p sort = record { last = Some sort; blocks = p.blocks; keys = p.keys; faults = p.faults; threads = sections_read p; section = [] }
+with_section_ended p sort = record { last = Some sort; blocks = p.blocks; fallback = p.fallback; targets = p.targets; keys = p.keys; faults = p.faults; threads = sections_read p; section = [] }
 
 -- ---- the first three lines
 
-head_only : (last : Option Sort) (blocks : ℕ) (keys : List NamedKey) (faults : List (ℕ × ℕ)) (threads : List (List Op)) (section : List Op) → keys ≡ [] → faults ≡ [] → threads ≡ [] → is_in_section last ≡ false → end_read last ≡ []
-    → lines_read (record { last = last; blocks = blocks; keys = keys; faults = faults; threads = threads; section = section }) ≡ head_read last blocks
-head_only last blocks (k ∷ ks) faults threads section none_keys none_faults none outside unended = absurd cc
-head_only last blocks [] (f ∷ fs) threads section none_keys none_faults none outside unended = absurd cc
-head_only last blocks [] [] (t ∷ ts) section none_keys none_faults none outside unended = absurd cc
-head_only last blocks [] [] [] section none_keys none_faults none outside unended =
-    ap (λ (b : Bool). head_read last blocks ++ (flat_map (section_lines []) (with_section b section) ++ end_read last)) outside
-    ∙ ap (λ (e : List TextLine). head_read last blocks ++ e) unended
-    ∙ append-nil (head_read last blocks)
+-- where there are no keys, faults and sections, the lines are those of the head
+head_only : (p : Progress) → p.keys ≡ [] → p.faults ≡ [] → p.threads ≡ [] → is_in_section p.last ≡ false → end_read p.last ≡ [] → lines_read p ≡ head_read p
+head_only p keys faults threads outside unended =
+    let sections = flat_map (section_lines p.keys) (sections_read p) ++ end_read p.last in
+    ap (λ (ks : List NamedKey). head_read p ++ (map key_line ks ++ (map fault_line p.faults ++ sections))) keys
+    ∙ ap (λ (fs : List (ℕ × ℕ)). head_read p ++ (map fault_line fs ++ sections)) faults
+    ∙ ap (λ (ts : List (List Op)). head_read p ++ (flat_map (section_lines p.keys) (ts ++ with_section (is_in_section p.last) p.section) ++ end_read p.last)) threads
+    ∙ ap (λ (b : Bool). head_read p ++ (flat_map (section_lines p.keys) (with_section b p.section) ++ end_read p.last)) outside
+    ∙ ap (λ (e : List TextLine). head_read p ++ e) unended
+    ∙ append-nil (head_read p)
+
+-- and where there are no devices either, they are the first three, or as many as there are
+first_only : (p : Progress) (last : Option Sort) → p.keys ≡ [] → p.faults ≡ [] → p.threads ≡ [] → p.targets ≡ [] → p.last ≡ last → is_in_section last ≡ false → end_read last ≡ [] → lines_read p ≡ first_read last p.blocks p.fallback
+first_only p last keys faults threads targets nearest outside unended =
+    head_only p keys faults threads (ap is_in_section nearest ∙ outside) (ap end_read nearest ∙ unended)
+    ∙ ap (λ (ts : List Target). first_read p.last p.blocks p.fallback ++ map device_line ts) targets
+    ∙ append-nil (first_read p.last p.blocks p.fallback)
+    ∙ ap (λ (l : Option Sort). first_read l p.blocks p.fallback) nearest
 
 -- behind which lines each of the first three stands
 behind_none : (last : Option Sort) → may_follow last sorts.Version ≡ true → last ≡ None
@@ -64,6 +79,7 @@ behind_none None h = refl
 behind_none (Some sorts.Version) h = absurd cc
 behind_none (Some sorts.Disk) h = absurd cc
 behind_none (Some sorts.Fallback) h = absurd cc
+behind_none (Some sorts.Device) h = absurd cc
 behind_none (Some sorts.Key) h = absurd cc
 behind_none (Some sorts.Fault) h = absurd cc
 behind_none (Some sorts.Thread) h = absurd cc
@@ -75,6 +91,7 @@ behind_version None h = absurd cc
 behind_version (Some sorts.Version) h = refl
 behind_version (Some sorts.Disk) h = absurd cc
 behind_version (Some sorts.Fallback) h = absurd cc
+behind_version (Some sorts.Device) h = absurd cc
 behind_version (Some sorts.Key) h = absurd cc
 behind_version (Some sorts.Fault) h = absurd cc
 behind_version (Some sorts.Thread) h = absurd cc
@@ -86,6 +103,7 @@ behind_disk None h = absurd cc
 behind_disk (Some sorts.Version) h = absurd cc
 behind_disk (Some sorts.Disk) h = refl
 behind_disk (Some sorts.Fallback) h = absurd cc
+behind_disk (Some sorts.Device) h = absurd cc
 behind_disk (Some sorts.Key) h = absurd cc
 behind_disk (Some sorts.Fault) h = absurd cc
 behind_disk (Some sorts.Thread) h = absurd cc
@@ -96,12 +114,13 @@ behind_disk (Some sorts.End) h = absurd cc
 no_keys : AreKeys []
 no_keys = record { count = omega arith; each = tt; names = λ i j d lt within. omega arith }
 
--- no keys, no faults and no sections yet
-bare : (p : Progress) → p.keys ≡ [] → p.faults ≡ [] → p.threads ≡ [] → p.section ≡ [] → (last : Option Sort) (blocks : ℕ) → is_in_section last ≡ false
-    → IsAt last (record { last = last; blocks = blocks; keys = []; faults = []; threads = []; section = [] })
-    → IsProgress (record p { last = last; blocks = blocks })
-bare p keys faults threads section last blocks outside at = subst IsProgress (sym same) (record {
+-- no devices, keys, faults and sections yet
+bare : (p : Progress) → p.keys ≡ [] → p.faults ≡ [] → p.threads ≡ [] → p.section ≡ [] → p.targets ≡ [] → (last : Option Sort) (blocks : ℕ) (fallback : Bool) → is_in_section last ≡ false
+    → IsAt last (record { last = last; blocks = blocks; fallback = fallback; targets = []; keys = []; faults = []; threads = []; section = [] })
+    → IsProgress (record p { last = last; blocks = blocks; fallback = fallback })
+bare p keys faults threads section targets last blocks fallback outside at = subst IsProgress (sym same) (record {
   at = at;
+  devices = no_devices;
   keys = no_keys;
   faults = no_faults;
   threads = tt;
@@ -112,53 +131,53 @@ bare p keys faults threads section last blocks outside at = subst IsProgress (sy
   few_units = subst (λ (b : Bool). sum_by unit_count_of_section (with_section b []) ≤ max_units) (sym outside) (omega arith);
 })
   where
-    same : record p { last = last; blocks = blocks } ≡ record { last = last; blocks = blocks; keys = []; faults = []; threads = []; section = [] }
-    same = λ i. record { last = last; blocks = blocks; keys = keys i; faults = faults i; threads = threads i; section = section i }
+    same : record p { last = last; blocks = blocks; fallback = fallback } ≡ record { last = last; blocks = blocks; fallback = fallback; targets = []; keys = []; faults = []; threads = []; section = [] }
+    same = λ i. record { last = last; blocks = blocks; fallback = fallback; targets = targets i; keys = keys i; faults = faults i; threads = threads i; section = section i }
 
 pub IsProgress-nothing_read : IsProgress nothing_read
-IsProgress-nothing_read = bare nothing_read refl refl refl refl None 0 refl (refl, refl, refl, refl)
+IsProgress-nothing_read = bare nothing_read refl refl refl refl refl None 0 true refl (refl, refl, refl, refl, refl)
 
 pub IsProgress-version : (p : Progress) → IsProgress p → may_follow p.last sorts.Version ≡ true → IsProgress (with_version p)
 IsProgress-version p is follows =
     let at = subst (λ (last : Option Sort). IsAt last p) (behind_none p.last follows) is.at in
-    bare p at.0 at.1 at.2 at.3 (Some sorts.Version) p.blocks refl (refl, refl, refl, refl)
+    bare p at.0 at.1 at.2 at.3 at.4 (Some sorts.Version) p.blocks p.fallback refl (refl, refl, refl, refl, refl)
 
 pub lines_read-version : (p : Progress) → IsProgress p → may_follow p.last sorts.Version ≡ true → lines_read (with_version p) ≡ lines_read p ++ version_line ∷ []
 lines_read-version p is follows =
     let last = behind_none p.last follows in
     let at = subst (λ (last : Option Sort). IsAt last p) last is.at in
-    let before : lines_read p ≡ [] = head_only p.last p.blocks p.keys p.faults p.threads p.section at.0 at.1 at.2 (ap is_in_section last) (ap end_read last) ∙ ap (λ (l : Option Sort). head_read l p.blocks) last in
-    head_only (Some sorts.Version) p.blocks p.keys p.faults p.threads p.section at.0 at.1 at.2 refl refl ∙ sym (ap (λ (ls : List TextLine). ls ++ version_line ∷ []) before)
+    let before : lines_read p ≡ [] = first_only p None at.0 at.1 at.2 at.4 last refl refl in
+    first_only (with_version p) (Some sorts.Version) at.0 at.1 at.2 at.4 refl refl refl ∙ sym (ap (λ (ls : List TextLine). ls ++ version_line ∷ []) before)
 
 pub IsProgress-disk : (p : Progress) (blocks : ℕ) → IsProgress p → may_follow p.last sorts.Disk ≡ true → IsDiskSize blocks → IsProgress (with_disk p blocks)
 IsProgress-disk p blocks is follows size =
     let at = subst (λ (last : Option Sort). IsAt last p) (behind_version p.last follows) is.at in
-    bare p at.0 at.1 at.2 at.3 (Some sorts.Disk) blocks refl (size, refl, refl, refl, refl)
+    bare p at.0 at.1 at.2 at.3 at.4 (Some sorts.Disk) blocks p.fallback refl (size, refl, refl, refl, refl, refl)
 
 pub lines_read-disk : (p : Progress) (blocks : ℕ) → IsProgress p → may_follow p.last sorts.Disk ≡ true → lines_read (with_disk p blocks) ≡ lines_read p ++ disk_line blocks ∷ []
 lines_read-disk p blocks is follows =
     let last = behind_version p.last follows in
     let at = subst (λ (last : Option Sort). IsAt last p) last is.at in
-    let before : lines_read p ≡ version_line ∷ [] = head_only p.last p.blocks p.keys p.faults p.threads p.section at.0 at.1 at.2 (ap is_in_section last) (ap end_read last) ∙ ap (λ (l : Option Sort). head_read l p.blocks) last in
-    head_only (Some sorts.Disk) blocks p.keys p.faults p.threads p.section at.0 at.1 at.2 refl refl ∙ sym (ap (λ (ls : List TextLine). ls ++ disk_line blocks ∷ []) before)
+    let before : lines_read p ≡ version_line ∷ [] = first_only p (Some sorts.Version) at.0 at.1 at.2 at.4 last refl refl in
+    first_only (with_disk p blocks) (Some sorts.Disk) at.0 at.1 at.2 at.4 refl refl refl ∙ sym (ap (λ (ls : List TextLine). ls ++ disk_line blocks ∷ []) before)
 
-pub IsProgress-fallback : (p : Progress) → IsProgress p → may_follow p.last sorts.Fallback ≡ true → IsProgress (with_fallback p)
-IsProgress-fallback p is follows =
+pub IsProgress-fallback : (p : Progress) (on : Bool) → IsProgress p → may_follow p.last sorts.Fallback ≡ true → IsProgress (with_fallback p on)
+IsProgress-fallback p on is follows =
     let at = subst (λ (last : Option Sort). IsAt last p) (behind_disk p.last follows) is.at in
-    bare p at.1 at.2 at.3 at.4 (Some sorts.Fallback) p.blocks refl (at.0, refl, refl, refl, refl)
+    bare p at.1 at.2 at.3 at.4 at.5 (Some sorts.Fallback) p.blocks on refl (at.0, refl, refl, refl, refl, refl)
 
-pub lines_read-fallback : (p : Progress) → IsProgress p → may_follow p.last sorts.Fallback ≡ true → lines_read (with_fallback p) ≡ lines_read p ++ fallback_line true ∷ []
-lines_read-fallback p is follows =
+pub lines_read-fallback : (p : Progress) (on : Bool) → IsProgress p → may_follow p.last sorts.Fallback ≡ true → lines_read (with_fallback p on) ≡ lines_read p ++ fallback_line on ∷ []
+lines_read-fallback p on is follows =
     let last = behind_disk p.last follows in
     let at = subst (λ (last : Option Sort). IsAt last p) last is.at in
-    let before : lines_read p ≡ version_line ∷ disk_line p.blocks ∷ [] = head_only p.last p.blocks p.keys p.faults p.threads p.section at.1 at.2 at.3 (ap is_in_section last) (ap end_read last) ∙ ap (λ (l : Option Sort). head_read l p.blocks) last in
-    head_only (Some sorts.Fallback) p.blocks p.keys p.faults p.threads p.section at.1 at.2 at.3 refl refl ∙ sym (ap (λ (ls : List TextLine). ls ++ fallback_line true ∷ []) before)
+    let before : lines_read p ≡ version_line ∷ disk_line p.blocks ∷ [] = first_only p (Some sorts.Disk) at.1 at.2 at.3 at.5 last refl refl in
+    first_only (with_fallback p on) (Some sorts.Fallback) at.1 at.2 at.3 at.5 refl refl refl ∙ sym (ap (λ (ls : List TextLine). ls ++ fallback_line on ∷ []) before)
 
 -- ---- behind the first three lines
 
 -- Behind the first three lines, and before the end.
 record IsBehindHead (last : Option Sort) : Type 0 where
-  head : (blocks : ℕ) → head_read last blocks ≡ version_line ∷ disk_line blocks ∷ fallback_line true ∷ []
+  head : (blocks : ℕ) (fallback : Bool) → first_read last blocks fallback ≡ version_line ∷ disk_line blocks ∷ fallback_line fallback ∷ []
   unended : end_read last ≡ []
   size : (p : Progress) → IsAt last p → IsDiskSize p.blocks
 
@@ -166,11 +185,12 @@ behind_head : (last : Option Sort) → may_follow last sorts.End ≡ true → Is
 behind_head None h = absurd cc
 behind_head (Some sorts.Version) h = absurd cc
 behind_head (Some sorts.Disk) h = absurd cc
-behind_head (Some sorts.Fallback) h = record { head = λ blocks. refl; unended = refl; size = λ p at. at.0 }
-behind_head (Some sorts.Key) h = record { head = λ blocks. refl; unended = refl; size = λ p at. at.0 }
-behind_head (Some sorts.Fault) h = record { head = λ blocks. refl; unended = refl; size = λ p at. at.0 }
-behind_head (Some sorts.Thread) h = record { head = λ blocks. refl; unended = refl; size = λ p at. at.0 }
-behind_head (Some sorts.Operation) h = record { head = λ blocks. refl; unended = refl; size = λ p at. at.0 }
+behind_head (Some sorts.Fallback) h = record { head = λ blocks fallback. refl; unended = refl; size = λ p at. at.0 }
+behind_head (Some sorts.Device) h = record { head = λ blocks fallback. refl; unended = refl; size = λ p at. at.0 }
+behind_head (Some sorts.Key) h = record { head = λ blocks fallback. refl; unended = refl; size = λ p at. at.0 }
+behind_head (Some sorts.Fault) h = record { head = λ blocks fallback. refl; unended = refl; size = λ p at. at.0 }
+behind_head (Some sorts.Thread) h = record { head = λ blocks fallback. refl; unended = refl; size = λ p at. at.0 }
+behind_head (Some sorts.Operation) h = record { head = λ blocks fallback. refl; unended = refl; size = λ p at. at.0 }
 behind_head (Some sorts.End) h = absurd cc
 
 -- where the end may stand, and where a section may begin
@@ -179,6 +199,7 @@ thread_or_end None = refl
 thread_or_end (Some sorts.Version) = refl
 thread_or_end (Some sorts.Disk) = refl
 thread_or_end (Some sorts.Fallback) = refl
+thread_or_end (Some sorts.Device) = refl
 thread_or_end (Some sorts.Key) = refl
 thread_or_end (Some sorts.Fault) = refl
 thread_or_end (Some sorts.Thread) = refl
@@ -197,6 +218,7 @@ before_sections None h = absurd cc
 before_sections (Some sorts.Version) h = absurd cc
 before_sections (Some sorts.Disk) h = absurd cc
 before_sections (Some sorts.Fallback) h = record { ends = refl; outside = refl; threads = λ p at. at.3; section = λ p at. at.4 }
+before_sections (Some sorts.Device) h = record { ends = refl; outside = refl; threads = λ p at. at.3; section = λ p at. at.4 }
 before_sections (Some sorts.Key) h = record { ends = refl; outside = refl; threads = λ p at. at.3; section = λ p at. at.4 }
 before_sections (Some sorts.Fault) h = record { ends = refl; outside = refl; threads = λ p at. at.2; section = λ p at. at.3 }
 before_sections (Some sorts.Thread) h = absurd cc
@@ -213,14 +235,33 @@ before_faults None h = absurd cc
 before_faults (Some sorts.Version) h = absurd cc
 before_faults (Some sorts.Disk) h = absurd cc
 before_faults (Some sorts.Fallback) h = record { fault = refl; faults = λ p at. at.2 }
+before_faults (Some sorts.Device) h = record { fault = refl; faults = λ p at. at.2 }
 before_faults (Some sorts.Key) h = record { fault = refl; faults = λ p at. at.2 }
 before_faults (Some sorts.Fault) h = absurd cc
 before_faults (Some sorts.Thread) h = absurd cc
 before_faults (Some sorts.Operation) h = absurd cc
 before_faults (Some sorts.End) h = absurd cc
 
+-- where a device may stand, a key may, and there are no keys yet
+record IsBeforeKeys (last : Option Sort) : Type 0 where
+  key : may_follow last sorts.Key ≡ true
+  keys : (p : Progress) → IsAt last p → p.keys ≡ []
+
+before_keys : (last : Option Sort) → may_follow last sorts.Device ≡ true → IsBeforeKeys last
+before_keys None h = absurd cc
+before_keys (Some sorts.Version) h = absurd cc
+before_keys (Some sorts.Disk) h = absurd cc
+before_keys (Some sorts.Fallback) h = record { key = refl; keys = λ p at. at.1 }
+before_keys (Some sorts.Device) h = record { key = refl; keys = λ p at. at.1 }
+before_keys (Some sorts.Key) h = absurd cc
+before_keys (Some sorts.Fault) h = absurd cc
+before_keys (Some sorts.Thread) h = absurd cc
+before_keys (Some sorts.Operation) h = absurd cc
+before_keys (Some sorts.End) h = absurd cc
+
 -- an operation stands in a section
 record IsInside (last : Option Sort) : Type 0 where
+  whole : (p : Progress) → IsAt last p → CoverAll p.blocks p.targets
   ends : may_follow last sorts.End ≡ true
   inside : is_in_section last ≡ true
 
@@ -229,25 +270,33 @@ inside_section None h = absurd cc
 inside_section (Some sorts.Version) h = absurd cc
 inside_section (Some sorts.Disk) h = absurd cc
 inside_section (Some sorts.Fallback) h = absurd cc
+inside_section (Some sorts.Device) h = absurd cc
 inside_section (Some sorts.Key) h = absurd cc
 inside_section (Some sorts.Fault) h = absurd cc
-inside_section (Some sorts.Thread) h = record { ends = refl; inside = refl }
-inside_section (Some sorts.Operation) h = record { ends = refl; inside = refl }
+inside_section (Some sorts.Thread) h = record { whole = λ p at. at.2; ends = refl; inside = refl }
+inside_section (Some sorts.Operation) h = record { whole = λ p at. at.2; ends = refl; inside = refl }
 inside_section (Some sorts.End) h = absurd cc
 
 pub is_inside : (last : Option Sort) → may_follow last sorts.Operation ≡ true → is_in_section last ≡ true
 is_inside last follows = (inside_section last follows).inside
 
-abbrev full_head : ℕ → List TextLine
-full_head blocks = version_line ∷ disk_line blocks ∷ fallback_line true ∷ []
+-- in a section, the devices cover the disk
+pub whole_inside : (p : Progress) → IsProgress p → may_follow p.last sorts.Operation ≡ true → CoverAll p.blocks p.targets
+whole_inside p is follows = (inside_section p.last follows).whole p is.at
+
+abbrev full_head : Progress → List TextLine
+full_head p = version_line ∷ disk_line p.blocks ∷ fallback_line p.fallback ∷ map device_line p.targets
+
+head_is : (p : Progress) → IsBehindHead p.last → head_read p ≡ full_head p
+head_is p behind = ap (λ (first : List TextLine). first ++ map device_line p.targets) (behind.head p.blocks p.fallback)
 
 -- the lines behind the head
-body : (p : Progress) → IsBehindHead p.last → lines_read p ≡ full_head p.blocks ++ (map key_line p.keys ++ (map fault_line p.faults ++ flat_map (section_lines p.keys) (sections_read p)))
+body : (p : Progress) → IsBehindHead p.last → lines_read p ≡ full_head p ++ (map key_line p.keys ++ (map fault_line p.faults ++ flat_map (section_lines p.keys) (sections_read p)))
 body p behind =
     let sections = flat_map (section_lines p.keys) (sections_read p) in
-    ap (λ (head : List TextLine). head ++ (map key_line p.keys ++ (map fault_line p.faults ++ (sections ++ end_read p.last)))) (behind.head p.blocks)
-    ∙ ap (λ (end : List TextLine). full_head p.blocks ++ (map key_line p.keys ++ (map fault_line p.faults ++ (sections ++ end)))) behind.unended
-    ∙ ap (λ (ls : List TextLine). full_head p.blocks ++ (map key_line p.keys ++ (map fault_line p.faults ++ ls))) (append-nil sections)
+    ap (λ (head : List TextLine). head ++ (map key_line p.keys ++ (map fault_line p.faults ++ (sections ++ end_read p.last)))) (head_is p behind)
+    ∙ ap (λ (end : List TextLine). full_head p ++ (map key_line p.keys ++ (map fault_line p.faults ++ (sections ++ end)))) behind.unended
+    ∙ ap (λ (ls : List TextLine). full_head p ++ (map key_line p.keys ++ (map fault_line p.faults ++ ls))) (append-nil sections)
 
 -- one more line behind three lists of lines
 one_more : (a b c : List TextLine) (line : TextLine) → (a ++ (b ++ c)) ++ line ∷ [] ≡ a ++ (b ++ (c ++ line ∷ []))
@@ -256,6 +305,48 @@ one_more a b c line = append_assoc a (b ++ c) (line ∷ []) ∙ ap (λ (ls : Lis
 -- and behind four
 one_more_behind : (a b c d : List TextLine) (line : TextLine) → (a ++ (b ++ (c ++ d))) ++ line ∷ [] ≡ a ++ (b ++ (c ++ (d ++ line ∷ [])))
 one_more_behind a b c d line = one_more a b (c ++ d) line ∙ ap (λ (ls : List TextLine). a ++ (b ++ ls)) (append_assoc c d (line ∷ []))
+
+-- ---- devices
+
+-- where a device may stand, there are no keys, and a key may stand
+pub no_keys_yet : (p : Progress) → IsProgress p → may_follow p.last sorts.Device ≡ true → (p.keys ≡ []) × (may_follow p.last sorts.Key ≡ true)
+no_keys_yet p is follows = let before = before_keys p.last follows in (before.keys p is.at, before.key)
+
+pub lines_read-device : (p : Progress) (device : Target) → IsProgress p → may_follow p.last sorts.Device ≡ true → lines_read (with_device p device) ≡ lines_read p ++ device_line device ∷ []
+lines_read-device p device is follows =
+    let no_key = no_keys_yet p is follows in
+    let between = before_faults p.last no_key.1 in
+    let before = before_sections p.last between.fault in
+    let faults = between.faults p is.at in
+    let threads = before.threads p is.at in
+    let behind = behind_head p.last before.ends in
+    let old : lines_read p ≡ full_head p = head_only p no_key.0 faults threads before.outside behind.unended ∙ head_is p behind in
+    let new : lines_read (with_device p device) ≡ full_head (with_device p device) = head_only (with_device p device) no_key.0 faults threads refl refl in
+    new
+    ∙ ap (λ (ls : List TextLine). version_line ∷ disk_line p.blocks ∷ fallback_line p.fallback ∷ ls) (map-append device_line p.targets (device ∷ []))
+    ∙ sym (ap (λ (ls : List TextLine). ls ++ device_line device ∷ []) old)
+
+pub IsProgress-device : (p : Progress) (device : Target) → IsProgress p → may_follow p.last sorts.Device ≡ true → IsDevice device → device.first ≡ blocks_of p.targets → length p.targets < max_devices → IsProgress (with_device p device)
+IsProgress-device p device is follows valid first room =
+    let no_key = no_keys_yet p is follows in
+    let between = before_faults p.last no_key.1 in
+    let before = before_sections p.last between.fault in
+    let threads = before.threads p is.at in
+    let section = before.section p is.at in
+    let count = length (p.targets ++ device ∷ []) in
+    let none : p.threads ++ [] ≡ [] = append-nil p.threads ∙ threads in
+    record {
+      at = ((behind_head p.last before.ends).size p is.at, no_key.0, between.faults p is.at, threads, section, omega (arith, length-append p.targets (device ∷ [])));
+      devices = follow_push p.targets device is.devices valid first room;
+      keys = is.keys;
+      faults = is.faults;
+      threads = subst (λ (t : List (List Op)). AllByRecursion (IsSection count (bare_keys p.keys)) t) (sym threads) tt;
+      section = subst (λ (t : List Op). AllByRecursion (IsOp count (bare_keys p.keys)) t) (sym section) tt;
+      plugs = is.plugs;
+      few_threads = subst (λ (t : List (List Op)). length t ≤ max_threads) (sym none) (omega arith);
+      few_ops = subst (λ (t : List (List Op)). sum_by length t ≤ max_ops) (sym none) (omega arith);
+      few_units = subst (λ (t : List (List Op)). sum_by unit_count_of_section t ≤ max_units) (sym none) (omega arith);
+    }
 
 -- ---- keys
 
@@ -281,16 +372,16 @@ lines_read-key p named is follows =
     let sections = no_sections_yet p is before in
     let threads : p.threads ++ [] ≡ [] = append-nil p.threads ∙ before.threads p is.at in
     let keys = p.keys ++ named ∷ [] in
-    let old : lines_read p ≡ full_head p.blocks ++ (map key_line p.keys ++ []) =
+    let old : lines_read p ≡ full_head p ++ (map key_line p.keys ++ []) =
     body p (behind_head p.last before.ends)
-    ∙ ap (λ (faults : List (ℕ × ℕ)). full_head p.blocks ++ (map key_line p.keys ++ (map fault_line faults ++ flat_map (section_lines p.keys) (sections_read p)))) no_fault.0
-    ∙ ap (λ (t : List (List Op)). full_head p.blocks ++ (map key_line p.keys ++ flat_map (section_lines p.keys) t)) sections in
-    let new : lines_read (with_key p named) ≡ full_head p.blocks ++ (map key_line keys ++ []) =
-    ap (λ (faults : List (ℕ × ℕ)). full_head p.blocks ++ (map key_line keys ++ (map fault_line faults ++ (flat_map (section_lines keys) (p.threads ++ []) ++ [])))) no_fault.0
-    ∙ ap (λ (t : List (List Op)). full_head p.blocks ++ (map key_line keys ++ (flat_map (section_lines keys) t ++ []))) threads in
+    ∙ ap (λ (faults : List (ℕ × ℕ)). full_head p ++ (map key_line p.keys ++ (map fault_line faults ++ flat_map (section_lines p.keys) (sections_read p)))) no_fault.0
+    ∙ ap (λ (t : List (List Op)). full_head p ++ (map key_line p.keys ++ flat_map (section_lines p.keys) t)) sections in
+    let new : lines_read (with_key p named) ≡ full_head p ++ (map key_line keys ++ []) =
+    ap (λ (faults : List (ℕ × ℕ)). full_head p ++ (map key_line keys ++ (map fault_line faults ++ (flat_map (section_lines keys) (p.threads ++ []) ++ [])))) no_fault.0
+    ∙ ap (λ (t : List (List Op)). full_head p ++ (map key_line keys ++ (flat_map (section_lines keys) t ++ []))) threads in
     new
-    ∙ ap (λ (ls : List TextLine). full_head p.blocks ++ ls) (append-nil (map key_line keys) ∙ map-append key_line p.keys (named ∷ []))
-    ∙ sym (ap (λ (ls : List TextLine). ls ++ key_line named ∷ []) old ∙ one_more (full_head p.blocks) (map key_line p.keys) [] (key_line named))
+    ∙ ap (λ (ls : List TextLine). full_head p ++ ls) (append-nil (map key_line keys) ∙ map-append key_line p.keys (named ∷ []))
+    ∙ sym (ap (λ (ls : List TextLine). ls ++ key_line named ∷ []) old ∙ one_more (full_head p) (map key_line p.keys) [] (key_line named))
 
 -- one more key, which has a name of its own
 names_push : (keys : List NamedKey) (named : NamedKey) → AllPairs (λ (first second : NamedKey). first.name ≢ second.name) keys → AllByRecursion (λ (key : NamedKey). key.name ≢ named.name) keys
@@ -316,8 +407,8 @@ AreKeys-push keys named are valid fresh room = record {
   names = names_push keys named are.names fresh;
 }
 
-pub IsProgress-key : (p : Progress) (named : NamedKey) → IsProgress p → may_follow p.last sorts.Key ≡ true → IsNamedKey named → AllByRecursion (λ (key : NamedKey). key.name ≢ named.name) p.keys → length p.keys < max_keys → IsProgress (with_key p named)
-IsProgress-key p named is follows valid fresh room =
+pub IsProgress-key : (p : Progress) (named : NamedKey) → IsProgress p → may_follow p.last sorts.Key ≡ true → CoverAll p.blocks p.targets → IsNamedKey named → AllByRecursion (λ (key : NamedKey). key.name ≢ named.name) p.keys → length p.keys < max_keys → IsProgress (with_key p named)
+IsProgress-key p named is follows whole valid fresh room =
     let no_fault = no_faults_yet p is follows in
     let before = before_sections p.last no_fault.1 in
     let threads = before.threads p is.at in
@@ -325,11 +416,12 @@ IsProgress-key p named is follows valid fresh room =
     let keys = p.keys ++ named ∷ [] in
     let none : p.threads ++ [] ≡ [] = append-nil p.threads ∙ threads in
     record {
-      at = ((behind_head p.last before.ends).size p is.at, omega (arith, length-append p.keys (named ∷ [])), no_fault.0, threads, section);
+      at = ((behind_head p.last before.ends).size p is.at, omega (arith, length-append p.keys (named ∷ [])), no_fault.0, threads, section, whole);
+      devices = is.devices;
       keys = AreKeys-push p.keys named is.keys valid fresh room;
       faults = is.faults;
-      threads = subst (λ (t : List (List Op)). AllByRecursion (IsSection (bare_keys keys)) t) (sym threads) tt;
-      section = subst (λ (t : List Op). AllByRecursion (IsOp (bare_keys keys)) t) (sym section) tt;
+      threads = subst (λ (t : List (List Op)). AllByRecursion (IsSection (length p.targets) (bare_keys keys)) t) (sym threads) tt;
+      section = subst (λ (t : List Op). AllByRecursion (IsOp (length p.targets) (bare_keys keys)) t) (sym section) tt;
       plugs = is.plugs;
       few_threads = subst (λ (t : List (List Op)). length t ≤ max_threads) (sym none) (omega arith);
       few_ops = subst (λ (t : List (List Op)). sum_by length t ≤ max_ops) (sym none) (omega arith);
@@ -344,23 +436,24 @@ lines_read-fault p fault is follows =
     let keys = map key_line p.keys in
     let faults = p.faults ++ fault ∷ [] in
     let threads : p.threads ++ [] ≡ [] = append-nil p.threads ∙ before.threads p is.at in
-    let old : lines_read p ≡ full_head p.blocks ++ (keys ++ (map fault_line p.faults ++ [])) =
+    let old : lines_read p ≡ full_head p ++ (keys ++ (map fault_line p.faults ++ [])) =
     body p (behind_head p.last before.ends)
-    ∙ ap (λ (t : List (List Op)). full_head p.blocks ++ (keys ++ (map fault_line p.faults ++ flat_map (section_lines p.keys) t))) (no_sections_yet p is before) in
-    let new : lines_read (with_fault p fault) ≡ full_head p.blocks ++ (keys ++ (map fault_line faults ++ [])) =
-    ap (λ (t : List (List Op)). full_head p.blocks ++ (keys ++ (map fault_line faults ++ (flat_map (section_lines p.keys) t ++ [])))) threads in
+    ∙ ap (λ (t : List (List Op)). full_head p ++ (keys ++ (map fault_line p.faults ++ flat_map (section_lines p.keys) t))) (no_sections_yet p is before) in
+    let new : lines_read (with_fault p fault) ≡ full_head p ++ (keys ++ (map fault_line faults ++ [])) =
+    ap (λ (t : List (List Op)). full_head p ++ (keys ++ (map fault_line faults ++ (flat_map (section_lines p.keys) t ++ [])))) threads in
     new
-    ∙ ap (λ (ls : List TextLine). full_head p.blocks ++ (keys ++ ls)) (append-nil (map fault_line faults) ∙ map-append fault_line p.faults (fault ∷ []))
-    ∙ sym (ap (λ (ls : List TextLine). ls ++ fault_line fault ∷ []) old ∙ one_more_behind (full_head p.blocks) keys (map fault_line p.faults) [] (fault_line fault))
+    ∙ ap (λ (ls : List TextLine). full_head p ++ (keys ++ ls)) (append-nil (map fault_line faults) ∙ map-append fault_line p.faults (fault ∷ []))
+    ∙ sym (ap (λ (ls : List TextLine). ls ++ fault_line fault ∷ []) old ∙ one_more_behind (full_head p) keys (map fault_line p.faults) [] (fault_line fault))
 
-pub IsProgress-fault : (p : Progress) (fault : ℕ × ℕ) → IsProgress p → may_follow p.last sorts.Fault ≡ true → IsFault fault → is_after p.faults fault ≡ true → length p.faults < max_faults → IsProgress (with_fault p fault)
-IsProgress-fault p fault is follows valid after room =
+pub IsProgress-fault : (p : Progress) (fault : ℕ × ℕ) → IsProgress p → may_follow p.last sorts.Fault ≡ true → CoverAll p.blocks p.targets → IsFault fault → is_after p.faults fault ≡ true → length p.faults < max_faults → IsProgress (with_fault p fault)
+IsProgress-fault p fault is follows whole valid after room =
     let before = before_sections p.last follows in
     let threads = before.threads p is.at in
     let section = before.section p is.at in
     let none : p.threads ++ [] ≡ [] = append-nil p.threads ∙ threads in
     record {
-      at = ((behind_head p.last before.ends).size p is.at, omega (arith, length-append p.faults (fault ∷ [])), threads, section);
+      at = ((behind_head p.last before.ends).size p is.at, omega (arith, length-append p.faults (fault ∷ [])), threads, section, whole);
+      devices = is.devices;
       keys = is.keys;
       faults = AreFaults-push p.faults fault is.faults valid after room;
       threads = is.threads;
@@ -378,15 +471,15 @@ lines_read-thread p is follows =
     let lines = section_lines p.keys in
     let sections = flat_map lines (sections_read p) in
     let new : flat_map lines (sections_read p ++ [] ∷ []) ++ [] ≡ sections ++ thread_line ∷ [] = append-nil (flat_map lines (sections_read p ++ [] ∷ [])) ∙ flat_map-append lines (sections_read p) ([] ∷ []) in
-    ap (λ (ls : List TextLine). full_head p.blocks ++ (map key_line p.keys ++ (map fault_line p.faults ++ ls))) new
-    ∙ sym (ap (λ (ls : List TextLine). ls ++ thread_line ∷ []) (body p (behind_head p.last (sym (thread_or_end p.last) ∙ follows))) ∙ one_more_behind (full_head p.blocks) (map key_line p.keys) (map fault_line p.faults) sections thread_line)
+    ap (λ (ls : List TextLine). full_head p ++ (map key_line p.keys ++ (map fault_line p.faults ++ ls))) new
+    ∙ sym (ap (λ (ls : List TextLine). ls ++ thread_line ∷ []) (body p (behind_head p.last (sym (thread_or_end p.last) ∙ follows))) ∙ one_more_behind (full_head p) (map key_line p.keys) (map fault_line p.faults) sections thread_line)
 
 pub lines_read-end : (p : Progress) → IsProgress p → may_follow p.last sorts.End ≡ true → lines_read (with_section_ended p sorts.End) ≡ lines_read p ++ end_line ∷ []
 lines_read-end p is follows =
     let lines = section_lines p.keys in
     let sections = flat_map lines (sections_read p) in
-    ap (λ (t : List (List Op)). full_head p.blocks ++ (map key_line p.keys ++ (map fault_line p.faults ++ (flat_map lines t ++ end_line ∷ [])))) (append-nil (sections_read p))
-    ∙ sym (ap (λ (ls : List TextLine). ls ++ end_line ∷ []) (body p (behind_head p.last follows)) ∙ one_more_behind (full_head p.blocks) (map key_line p.keys) (map fault_line p.faults) sections end_line)
+    ap (λ (t : List (List Op)). full_head p ++ (map key_line p.keys ++ (map fault_line p.faults ++ (flat_map lines t ++ end_line ∷ [])))) (append-nil (sections_read p))
+    ∙ sym (ap (λ (ls : List TextLine). ls ++ end_line ∷ []) (body p (behind_head p.last follows)) ∙ one_more_behind (full_head p) (map key_line p.keys) (map fault_line p.faults) sections end_line)
 
 pub lines_read-op : (p : Progress) (op : Op) → IsProgress p → may_follow p.last sorts.Operation ≡ true → lines_read (with_op p op) ≡ lines_read p ++ op_line p.keys op ∷ []
 lines_read-op p op is follows =
@@ -401,26 +494,27 @@ lines_read-op p op is follows =
     ∙ ap (λ (ls : List TextLine). threads ++ thread_line ∷ ls) (map-append (op_line p.keys) p.section (op ∷ []))
     ∙ sym (append_assoc threads (lines p.section) (op_line p.keys op ∷ []))
     ∙ ap (λ (ls : List TextLine). ls ++ op_line p.keys op ∷ []) (sym old) in
-    ap (λ (ls : List TextLine). full_head p.blocks ++ (map key_line p.keys ++ (map fault_line p.faults ++ ls))) new
+    ap (λ (ls : List TextLine). full_head p ++ (map key_line p.keys ++ (map fault_line p.faults ++ ls))) new
     ∙ sym (ap (λ (ls : List TextLine). ls ++ op_line p.keys op ∷ []) (body p (behind_head p.last inside.ends))
-    ∙ one_more_behind (full_head p.blocks) (map key_line p.keys) (map fault_line p.faults) (flat_map lines (sections_read p)) (op_line p.keys op))
+    ∙ one_more_behind (full_head p) (map key_line p.keys) (map fault_line p.faults) (flat_map lines (sections_read p)) (op_line p.keys op))
 
 -- each section that has been read is valid, where the last of them is closed
-sections_valid : (p : Progress) → IsProgress p → open_after false p.section ≡ Some false → AllByRecursion (IsSection (bare_keys p.keys)) (sections_read p)
-sections_valid p is closed = AllByRecursion-append (IsSection (bare_keys p.keys)) p.threads (with_section (is_in_section p.last) p.section) is.threads (last (is_in_section p.last))
+sections_valid : (p : Progress) → IsProgress p → open_after false p.section ≡ Some false → AllByRecursion (IsSection (length p.targets) (bare_keys p.keys)) (sections_read p)
+sections_valid p is closed = AllByRecursion-append (IsSection (length p.targets) (bare_keys p.keys)) p.threads (with_section (is_in_section p.last) p.section) is.threads (last (is_in_section p.last))
   where
-    last : (inside : Bool) → AllByRecursion (IsSection (bare_keys p.keys)) (with_section inside p.section)
+    last : (inside : Bool) → AllByRecursion (IsSection (length p.targets) (bare_keys p.keys)) (with_section inside p.section)
     last true = (record { each = is.section; plugs = closed }, tt)
     last false = tt
 
-pub IsProgress-thread : (p : Progress) → IsProgress p → may_follow p.last sorts.Thread ≡ true → open_after false p.section ≡ Some false → length (sections_read p) < max_threads → IsProgress (with_section_ended p sorts.Thread)
-IsProgress-thread p is follows closed room =
+pub IsProgress-thread : (p : Progress) → IsProgress p → may_follow p.last sorts.Thread ≡ true → CoverAll p.blocks p.targets → open_after false p.section ≡ Some false → length (sections_read p) < max_threads → IsProgress (with_section_ended p sorts.Thread)
+IsProgress-thread p is follows whole closed room =
     let ops = sum_by-append length (sections_read p) ([] ∷ []) in
     let units = sum_by-append unit_count_of_section (sections_read p) ([] ∷ []) in
     let few_ops = is.few_ops in
     let few_units = is.few_units in
     record {
-      at = ((behind_head p.last (sym (thread_or_end p.last) ∙ follows)).size p is.at, refl);
+      at = ((behind_head p.last (sym (thread_or_end p.last) ∙ follows)).size p is.at, refl, whole);
+      devices = is.devices;
       keys = is.keys;
       faults = is.faults;
       threads = sections_valid p is closed;
@@ -431,11 +525,12 @@ IsProgress-thread p is follows closed room =
       few_units = omega arith;
     }
 
-pub IsProgress-end : (p : Progress) → IsProgress p → may_follow p.last sorts.End ≡ true → open_after false p.section ≡ Some false → IsProgress (with_section_ended p sorts.End)
-IsProgress-end p is follows closed =
+pub IsProgress-end : (p : Progress) → IsProgress p → may_follow p.last sorts.End ≡ true → CoverAll p.blocks p.targets → open_after false p.section ≡ Some false → IsProgress (with_section_ended p sorts.End)
+IsProgress-end p is follows whole closed =
     let same = append-nil (sections_read p) in
     record {
-      at = ((behind_head p.last follows).size p is.at, refl);
+      at = ((behind_head p.last follows).size p is.at, refl, whole);
+      devices = is.devices;
       keys = is.keys;
       faults = is.faults;
       threads = sections_valid p is closed;
@@ -466,17 +561,18 @@ counts-op p op follows =
       omega arith ∙ sym (ap (λ (t : List (List Op)). sum_by unit_count_of_section t + unit_count op) old),
     )
 
-pub IsProgress-op : (p : Progress) (op : Op) → IsProgress p → may_follow p.last sorts.Operation ≡ true → IsOp (bare_keys p.keys) op → IsSome (open_after false (p.section ++ op ∷ []))
+pub IsProgress-op : (p : Progress) (op : Op) → IsProgress p → may_follow p.last sorts.Operation ≡ true → IsOp (length p.targets) (bare_keys p.keys) op → IsSome (open_after false (p.section ++ op ∷ []))
     → sum_by length (sections_read p) < max_ops → sum_by unit_count_of_section (sections_read p) + unit_count op ≤ max_units → IsProgress (with_op p op)
 IsProgress-op p op is follows valid plugs room units =
     let counts = counts-op p op follows in
     let few = is.few_threads in
     record {
-      at = ((behind_head p.last (inside_section p.last follows).ends).size p is.at, omega (arith, length-append p.section (op ∷ [])));
+      at = ((behind_head p.last (inside_section p.last follows).ends).size p is.at, omega (arith, length-append p.section (op ∷ [])), whole_inside p is follows);
+      devices = is.devices;
       keys = is.keys;
       faults = is.faults;
       threads = is.threads;
-      section = AllByRecursion-append (IsOp (bare_keys p.keys)) p.section (op ∷ []) is.section (valid, tt);
+      section = AllByRecursion-append (IsOp (length p.targets) (bare_keys p.keys)) p.section (op ∷ []) is.section (valid, tt);
       plugs = plugs;
       few_threads = omega (arith, counts.0);
       few_ops = omega (arith, counts.1);

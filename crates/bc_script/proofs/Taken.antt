@@ -19,7 +19,9 @@ use Rattle.bc_key.specs.KeyData.{key_size, HasHalves}
 use Rattle.bc_key.specs.KeyRefusal.{key_refusal, has_equal_halves}
 use Rattle.bc_bio.specs.declared.context.Context.{Context}
 use Rattle.bc_bio.specs.Extent.{unit_sectors}
+use Rattle.bc_stack.specs.declared.target.Target.{Target}
 use Rattle.bc_script.specs.declared.named_key.NamedKey.{NamedKey}
+use Rattle.bc_stack.specs.Targets.{CoverAll}
 use Rattle.bc_script.specs.declared.op.Op.{Op}
 use Rattle.bc_script.specs.declared.op.Op.TheVariants as ops
 use Rattle.bc_script.specs.declared.op.Text.{Text}
@@ -29,19 +31,21 @@ use Rattle.bc_script.specs.declared.sort.Sort.TheVariants as sorts
 use Rattle.bc_script.specs.declared.script_error.ScriptWhy.{ScriptWhy}
 use Rattle.bc_script.specs.declared.script_error.ScriptWhy.TheVariants as why
 use Rattle.bc_script.specs.Name.{is_name}
-use Rattle.bc_script.specs.Script.{IsNamedKey, IsFault, IsContext, IsBio, IsText, IsOp, bare_keys, open_after, unit_count, unit_count_of_section, max_keys, max_faults, last_shard, last_access, max_threads, max_ops, max_units, max_bio_units, max_bio_sectors}
-use Rattle.bc_script.specs.ScriptText.{dash, name_of, key_field, number_field, key_line, fault_line, op_line}
-use Rattle.bc_script.specs.Forms.{Form, KeyForm, FaultForm, BioForm, TextForm, Fill, Hex, Version, Disk, Fallback, Key, Fault, Thread, Write, Read, Evict, Reset, Plug, Unplug, End, form_of, sort_of, dashes_agree}
-use Rattle.bc_script.specs.Order.{may_follow, is_unbuilt}
-use Rattle.bc_script.specs.ScriptErrors.{Why, first_of, is_number, is_number_text, number_in, bytes_in, is_hex_text, number_test, key_refused, key_test, is_declared, sectors_under, is_open, fault_in, ascends, is_key, is_fault, is_thread, is_operation, units_in, op_limit, bio_limits, bio_tests, is_text, size_of, last_sort, is_end, tests_of, error_of_form, error_at}
-use Rattle.bc_script.specs.Progress.{Progress, IsProgress, lines_read, forms_read, sections_read}
+use Rattle.bc_script.specs.Script.{IsDevice, IsNamedKey, IsFault, IsContext, IsBio, IsText, IsOp, bare_keys, open_after, unit_count, unit_count_of_section, max_blocks, last_block, max_devices, max_slots, max_unit_mask, max_device_dun_bytes, max_keys, max_faults, last_shard, last_access, max_threads, max_ops, max_units, max_bio_units, max_bio_sectors}
+use Rattle.bc_script.specs.ScriptText.{dash, name_of, key_field, number_field, device_line, key_line, fault_line, op_line}
+use Rattle.bc_script.specs.Forms.{Form, DeviceForm, KeyForm, FaultForm, BioForm, TextForm, Fill, Hex, Version, Disk, Fallback, Device, Key, Fault, Thread, Write, Read, Evict, Reset, Plug, Unplug, End, form_of, sort_of, dashes_agree}
+use Rattle.bc_script.specs.Order.{may_follow}
+use Rattle.bc_script.specs.ScriptErrors.{Why, first_of, is_number, is_number_below, is_device, device_blocks_above, are_whole, device_test, device_fields, is_number_text, number_in, bytes_in, is_hex_text, number_test, key_refused, key_test, is_declared, sectors_under, is_open, fault_in, ascends, is_key, is_fault, is_thread, is_operation, units_in, op_limit, bio_limits, bio_tests, is_text, size_of, last_sort, is_end, tests_of, error_of_form, error_at}
+use Rattle.bc_script.specs.Progress.{Progress, IsProgress, blocks_of, lines_read, forms_read, sections_read}
 use Rattle.bc_script.proofs.ByteLists.{All-IsBytes}
 use Rattle.bc_script.proofs.Fields.{number_in-decimal, decimal-number_in, number_text-is_number_text, IsBytes-bytes_in, encode_lower-bytes_in}
 use Rattle.bc_script.specs.Statements.{form_line, DashesAgree, is_after}
+use Rattle.bc_script.specs.DeviceFields.{device_form}
+use Rattle.bc_script.proofs.Devices.{covers}
 use Rattle.bc_script.proofs.FormLines.{IsLineOf-form_of}
-use Rattle.bc_script.proofs.Above.{op_form, bio_form, text_form_of, last_sort-read, keys-read, faults-read, threads-read, operations-read, units-read, is_open-read, ascends-read, is_declared-read, is_declared-none, sectors_under-read}
+use Rattle.bc_script.proofs.Above.{op_form, bio_form, text_form_of, last_sort-read, devices-read, device_blocks-read, are_whole-read, keys-read, faults-read, threads-read, operations-read, units-read, is_open-read, ascends-read, is_declared-read, is_declared-none, sectors_under-read}
 use Rattle.bc_script.proofs.Passes.{some_plugged, open_after-append}
-use Rattle.bc_script.proofs.Steps.{with_version, with_disk, with_fallback, with_key, with_fault, with_op, with_section_ended, IsProgress-version, IsProgress-disk, IsProgress-fallback, IsProgress-key, IsProgress-fault, IsProgress-thread, IsProgress-op, IsProgress-end, lines_read-version, lines_read-disk, lines_read-fallback, lines_read-key, lines_read-fault, lines_read-thread, lines_read-op, lines_read-end}
+use Rattle.bc_script.proofs.Steps.{with_version, with_disk, with_fallback, with_device, with_key, with_fault, with_op, with_section_ended, IsProgress-version, IsProgress-disk, IsProgress-fallback, IsProgress-device, IsProgress-key, IsProgress-fault, IsProgress-thread, IsProgress-op, IsProgress-end, lines_read-version, lines_read-disk, lines_read-fallback, lines_read-device, lines_read-key, lines_read-fault, lines_read-thread, lines_read-op, lines_read-end}
 use Rattle.std.proofs.lemmas.List.{length-map}
 
 -- what has been read with one more line
@@ -66,6 +70,67 @@ number_said least most field next e =
     let parts = both_passed (is_number least most field) why.Number next e in
     let said = decimal-number_in least most field parts.0 in
     (said.0, said.1, said.2, parts.1)
+
+-- ---- devices
+
+-- what the fields of a device say
+record SaysFields (device : DeviceForm) (next : Why) : Type 0 where
+  target : Target
+  fields : device ≡ device_form target
+  first_is : target.first ≡ number_in device.first
+  valid : IsDevice target
+  passes : next ≡ None
+
+fields_said : (device : DeviceForm) (next : Why) → device_fields device next ≡ None → SaysFields device next
+fields_said device next e =
+    let first = number_said 0 last_block device.first _ e in
+    let blocks = number_said 1 max_blocks device.blocks _ first.3 in
+    let slots = number_said 1 max_slots device.slots _ blocks.3 in
+    let xts = number_said 0 max_unit_mask device.xts _ slots.3 in
+    let essiv = number_said 0 max_unit_mask device.essiv _ xts.3 in
+    let dun_bytes = number_said 1 max_device_dun_bytes device.dun_bytes next essiv.3 in
+    record {
+      target = record {
+        first = number_in device.first;
+        blocks = number_in device.blocks;
+        slots = number_in device.slots;
+        caps = record { xts = number_in device.xts; essiv = number_in device.essiv; max_dun_bytes = number_in device.dun_bytes };
+      };
+      fields = λ i. record { first = first.0 i; blocks = blocks.0 i; slots = slots.0 i; xts = xts.0 i; essiv = essiv.0 i; dun_bytes = dun_bytes.0 i };
+      first_is = refl;
+      valid = record {
+        first = first.2;
+        some_blocks = blocks.1;
+        few_blocks = blocks.2;
+        slots = record { least = slots.1; most = slots.2 };
+        xts = xts.2;
+        essiv = essiv.2;
+        some_dun_bytes = dun_bytes.1;
+        few_dun_bytes = dun_bytes.2;
+      };
+      passes = dun_bytes.3;
+    }
+
+device_taken : (p : Progress) (device : DeviceForm) → IsProgress p → may_follow p.last sorts.Device ≡ true → tests_of (forms_read p) (Device device) ≡ None → Took p (form_line (Device device))
+device_taken p device is follows e =
+    let above = forms_read p in
+    let said = fields_said device _ e in
+    let a = both_passed (nat_eq (number_in device.first) (device_blocks_above above)) why.Device _ said.passes in
+    let b = both_passed (nat_lt (count_by is_device above) max_devices) why.Limit None a.1 in
+    let first : said.target.first ≡ blocks_of p.targets = said.first_is ∙ eqb-true (number_in device.first) (device_blocks_above above) a.0 ∙ device_blocks-read p is in
+    let room : length p.targets < max_devices = subst (λ (n : ℕ). n < max_devices) (devices-read p is) (ltb-true (count_by is_device above) max_devices b.0) in
+    let line : device_line said.target ≡ form_line (Device device) = ap (λ (d : DeviceForm). form_line (Device d)) (sym said.fields) in
+    record {
+      after = with_device p said.target;
+      rules = IsProgress-device p said.target is follows said.valid first room;
+      lines = lines_read-device p said.target is follows ∙ ap (λ (l : TextLine). lines_read p ++ l ∷ []) line;
+    }
+
+-- devices that pass at a line behind them cover the disk
+whole_said : (p : Progress) (next : Why) → IsProgress p → device_test (forms_read p) next ≡ None → CoverAll p.blocks p.targets × (next ≡ None)
+whole_said p next is e =
+    let a = both_passed (are_whole (forms_read p)) why.Device next e in
+    (covers p.targets p.blocks is.devices (sym (are_whole-read p is) ∙ a.0), a.1)
 
 -- ---- names
 
@@ -171,7 +236,8 @@ key_taken p key is follows e =
     let digits = encode_lower-bytes_in 1 128 key.digits b.0 in
     let c = none_of_key (key_refused key) _ b.1 in
     let made = key_of key.mode (bytes_in key.digits) (number_in key.unit) (number_in key.dun_bytes) (not_refused _ c.0) in
-    let limit = both_passed (nat_lt (count_by is_key above) max_keys) why.Limit None c.1 in
+    let whole = whole_said p _ is c.1 in
+    let limit = both_passed (nat_lt (count_by is_key above) max_keys) why.Limit None whole.1 in
     let room : length p.keys < max_keys = subst (λ (n : ℕ). n < max_keys) (keys-read p is) (ltb-true (count_by is_key above) max_keys limit.0) in
     let fresh = undeclared_is p key.name is (not-true _ name.1) in
     let named : NamedKey = record { name = key.name; key = record { config = record { mode = key.mode; unit = made.unit; dun_bytes = number_in key.dun_bytes }; raw = bytes_in key.digits } } in
@@ -181,7 +247,7 @@ key_taken p key is follows e =
     } in
     let unit_is : key.unit ≡ decimal (bytes_of made.unit) = unit.0 ∙ ap decimal (sym made.unit_is) in
     let line : key_line named ≡ form_line (Key key) = λ i. form_line (Key (record { name = key.name; mode = key.mode; unit = sym unit_is i; dun_bytes = sym dun.0 i; digits = sym digits.0 i })) in
-    record { after = with_key p named; rules = IsProgress-key p named is follows valid fresh room; lines = lines_read-key p named is follows ∙ ap (λ (l : TextLine). lines_read p ++ l ∷ []) line }
+    record { after = with_key p named; rules = IsProgress-key p named is follows whole.0 valid fresh room; lines = lines_read-key p named is follows ∙ ap (λ (l : TextLine). lines_read p ++ l ∷ []) line }
 
 -- ---- planned faults
 
@@ -191,12 +257,13 @@ fault_taken p fault is follows e =
     let shard = number_said 0 last_shard fault.shard _ e in
     let access = number_said 0 last_access fault.access _ shard.3 in
     let a = both_passed (ascends above fault) why.Order _ access.3 in
-    let b = both_passed (nat_lt (count_by is_fault above) max_faults) why.Limit None a.1 in
+    let whole = whole_said p _ is a.1 in
+    let b = both_passed (nat_lt (count_by is_fault above) max_faults) why.Limit None whole.1 in
     let room : length p.faults < max_faults = subst (λ (n : ℕ). n < max_faults) (faults-read p is) (ltb-true (count_by is_fault above) max_faults b.0) in
     let after : is_after p.faults (fault_in fault) ≡ true = sym (ascends-read p fault is) ∙ a.0 in
     let valid : IsFault (fault_in fault) = record { shard = shard.2; access = access.2 } in
     let line : fault_line (fault_in fault) ≡ form_line (Fault fault) = λ i. form_line (Fault (record { shard = sym shard.0 i; access = sym access.0 i })) in
-    record { after = with_fault p (fault_in fault); rules = IsProgress-fault p (fault_in fault) is follows valid after room; lines = lines_read-fault p (fault_in fault) is follows ∙ ap (λ (l : TextLine). lines_read p ++ l ∷ []) line }
+    record { after = with_fault p (fault_in fault); rules = IsProgress-fault p (fault_in fault) is follows whole.0 valid after room; lines = lines_read-fault p (fault_in fault) is follows ∙ ap (λ (l : TextLine). lines_read p ++ l ∷ []) line }
 
 -- ---- plugs
 
@@ -212,14 +279,16 @@ closed_is p is e = plugged_is p false is (not-true _ e)
 thread_taken : (p : Progress) → IsProgress p → may_follow p.last sorts.Thread ≡ true → tests_of (forms_read p) Thread ≡ None → Took p (form_line Thread)
 thread_taken p is follows e =
     let a = both_passed (not (is_open (forms_read p))) why.Order _ e in
-    let b = both_passed (nat_lt (count_by is_thread (forms_read p)) max_threads) why.Limit None a.1 in
+    let whole = whole_said p _ is a.1 in
+    let b = both_passed (nat_lt (count_by is_thread (forms_read p)) max_threads) why.Limit None whole.1 in
     let room : length (sections_read p) < max_threads = subst (λ (n : ℕ). n < max_threads) (threads-read p is) (ltb-true (count_by is_thread (forms_read p)) max_threads b.0) in
-    record { after = with_section_ended p sorts.Thread; rules = IsProgress-thread p is follows (closed_is p is a.0) room; lines = lines_read-thread p is follows }
+    record { after = with_section_ended p sorts.Thread; rules = IsProgress-thread p is follows whole.0 (closed_is p is a.0) room; lines = lines_read-thread p is follows }
 
 end_taken : (p : Progress) → IsProgress p → may_follow p.last sorts.End ≡ true → tests_of (forms_read p) End ≡ None → Took p (form_line End)
 end_taken p is follows e =
-    let a = both_passed (not (is_open (forms_read p))) why.Order None e in
-    record { after = with_section_ended p sorts.End; rules = IsProgress-end p is follows (closed_is p is a.0); lines = lines_read-end p is follows }
+    let a = both_passed (not (is_open (forms_read p))) why.Order _ e in
+    let whole = whole_said p None is a.1 in
+    record { after = with_section_ended p sorts.End; rules = IsProgress-end p is follows whole.0 (closed_is p is a.0); lines = lines_read-end p is follows }
 
 -- ---- operations
 
@@ -232,7 +301,7 @@ form_line-op_form keys (ops.Reset device) = refl
 form_line-op_form keys ops.Plug = refl
 form_line-op_form keys ops.Unplug = refl
 
-op_taken : (p : Progress) (op : Op) → IsProgress p → may_follow p.last sorts.Operation ≡ true → IsOp (bare_keys p.keys) op → IsSome (open_after false (p.section ++ op ∷ []))
+op_taken : (p : Progress) (op : Op) → IsProgress p → may_follow p.last sorts.Operation ≡ true → IsOp (length p.targets) (bare_keys p.keys) op → IsSome (open_after false (p.section ++ op ∷ []))
     → sum_by length (sections_read p) < max_ops → sum_by unit_count_of_section (sections_read p) + unit_count op ≤ max_units → Took p (form_line (op_form p.keys op))
 op_taken p op is follows valid plugs room fits =
     record { after = with_op p op; rules = IsProgress-op p op is follows valid plugs room fits; lines = lines_read-op p op is follows ∙ ap (λ (l : TextLine). lines_read p ++ l ∷ []) (form_line-op_form p.keys op) }
@@ -268,6 +337,17 @@ evict_taken p name is follows e =
     let now = some_plugged (open_after false p.section) is.plugs in
     subst (λ (n : List ℕ). Took p (form_line (Evict n))) (sym key.2)
     (op_taken p (ops.Evict key.0) is follows (bare_too p.keys key.0.0 key.1) (plugs_behind p now.0 (ops.Evict key.0) now.1 refl) (room_is p is a.1) (fits_none p is))
+
+reset_taken : (p : Progress) (device : List ℕ) → IsProgress p → may_follow p.last sorts.Operation ≡ true → tests_of (forms_read p) (Reset device) ≡ None → Took p (form_line (Reset device))
+reset_taken p device is follows e =
+    let a = both_passed (is_number_below (count_by is_device (forms_read p)) device) why.Number _ e in
+    let said = and_parts _ _ a.0 in
+    let text : decimal (number_in device) ≡ device = (bytes_eq-Decides (decimal (number_in device)) device).0 said.0 in
+    let below : number_in device < length p.targets = subst (λ (n : ℕ). number_in device < n) (devices-read p is) (ltb-true (number_in device) (count_by is_device (forms_read p)) said.1) in
+    let op = ops.Reset (number_in device) in
+    let now = some_plugged (open_after false p.section) is.plugs in
+    subst (λ (field : List ℕ). Took p (form_line (Reset field))) text
+    (op_taken p op is follows below (plugs_behind p now.0 op now.1 refl) (room_is p is a.1) (fits_none p is))
 
 -- ---- bios
 
@@ -414,14 +494,15 @@ form_taken p (Disk blocks) is follows agrees e =
     let n = number_in blocks in
     subst (λ (field : List ℕ). Took p (form_line (Disk field))) (sym said.0)
     (record { after = with_disk p n; rules = IsProgress-disk p n is follows (said.1, said.2); lines = lines_read-disk p n is follows })
-form_taken p Fallback is follows agrees e = record { after = with_fallback p; rules = IsProgress-fallback p is follows; lines = lines_read-fallback p is follows }
+form_taken p (Fallback on) is follows agrees e = record { after = with_fallback p on; rules = IsProgress-fallback p on is follows; lines = lines_read-fallback p on is follows }
+form_taken p (Device device) is follows agrees e = device_taken p device is follows e
 form_taken p (Key key) is follows agrees e = key_taken p key is follows e
 form_taken p (Fault fault) is follows agrees e = fault_taken p fault is follows e
 form_taken p Thread is follows agrees e = thread_taken p is follows e
 form_taken p (Write bio text) is follows agrees e = write_taken p bio text is follows agrees e
 form_taken p (Read bio) is follows agrees e = read_taken p bio is follows agrees e
 form_taken p (Evict name) is follows agrees e = evict_taken p name is follows e
-form_taken p (Reset device) is follows agrees e = absurd cc
+form_taken p (Reset device) is follows agrees e = reset_taken p device is follows e
 form_taken p Plug is follows agrees e = plug_taken p is follows e
 form_taken p Unplug is follows agrees e = unplug_taken p is follows e
 form_taken p End is follows agrees e = end_taken p is follows e
@@ -436,8 +517,7 @@ pub line_taken : (p : Progress) (line : TextLine) → IsProgress p → error_at 
 line_taken p line is e =
     let above = forms_read p in
     let a = both_passed (not (is_end (last_sort above))) why.End _ e in
-    let b = both_passed (not (is_unbuilt (last_sort above) line)) why.NotBuilt (error_of_form above (form_of line)) a.1 in
-    by_form (form_of line) refl b.1
+    by_form (form_of line) refl a.1
   where
     by_form : (o : Option Form) → form_of line ≡ o → error_of_form (forms_read p) o ≡ None → PassesAs p line
     by_form None is_form e = absurd cc

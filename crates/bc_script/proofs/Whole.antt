@@ -12,7 +12,7 @@ use Rattle.bc_script.specs.declared.script_error.ScriptWhy.{ScriptWhy}
 use Rattle.bc_script.specs.declared.script_error.ScriptWhy.TheVariants as why
 use Rattle.bc_script.specs.declared.op.Op.{Op}
 use Rattle.bc_script.specs.Script.{Script, IsScript, max_threads, max_ops, max_units, unit_count_of_section}
-use Rattle.bc_script.specs.ScriptText.{Says, script_lines, version_line, disk_line, fallback_line, key_line, fault_line, section_lines, end_line}
+use Rattle.bc_script.specs.ScriptText.{Says, script_lines, version_line, disk_line, fallback_line, device_line, key_line, fault_line, section_lines, end_line}
 use Rattle.bc_script.specs.Forms.{Form, form_of}
 use Rattle.bc_script.specs.ScriptErrors.{Why, first_of, with_form, error_at, error_at_end, first_error, error_of, or_below, last_sort, is_end}
 use Rattle.bc_text.specs.Lines.{is_nothing}
@@ -21,6 +21,7 @@ use Rattle.bc_script.proofs.Above.{is_at_end, last_sort-read, forms_read-step}
 use Rattle.bc_script.proofs.Steps.{nothing_read, IsProgress-nothing_read}
 use Rattle.bc_script.proofs.Taken.{line_taken}
 use Rattle.bc_script.proofs.NoError.{Pass, no_error}
+use Rattle.bc_script.proofs.Devices.{are_devices}
 
 -- ---- the lines of a text in which none fails
 
@@ -79,18 +80,17 @@ all_taken p (line ∷ lines) is pass =
 
 -- the script whose last line has been read
 abbrev pub script_read : Progress → Script
-script_read p = record { blocks = p.blocks; fallback = true; targets = []; keys = p.keys; faults = p.faults; threads = p.threads }
+script_read p = record { blocks = p.blocks; fallback = p.fallback; targets = p.targets; keys = p.keys; faults = p.faults; threads = p.threads }
 
 at_the_end : (p : Progress) → IsProgress p → p.last ≡ Some sorts.End → (IsScript (script_read p)) × (script_lines (script_read p) ≡ lines_read p)
 at_the_end p is last =
     let q : Progress = record p { last = Some sorts.End } in
-    let same : p ≡ q = λ i. record { last = last i; blocks = p.blocks; keys = p.keys; faults = p.faults; threads = p.threads; section = p.section } in
+    let same : p ≡ q = λ i. record { last = last i; blocks = p.blocks; fallback = p.fallback; targets = p.targets; keys = p.keys; faults = p.faults; threads = p.threads; section = p.section } in
     let ended : IsProgress q = subst IsProgress same is in
     let none = append-nil p.threads in
     let valid : IsScript (script_read p) = record {
       blocks = ended.at.0;
-      fallback = refl;
-      targets = refl;
+      devices = are_devices p.targets p.blocks is.devices ended.at.2;
       keys = is.keys;
       faults = is.faults;
       threads = record {
@@ -101,7 +101,7 @@ at_the_end p is last =
       };
     } in (
       valid,
-      ap (λ (t : List (List Op)). (version_line ∷ disk_line p.blocks ∷ fallback_line true ∷ []) ++ (map key_line p.keys ++ (map fault_line p.faults ++ (flat_map (section_lines p.keys) t ++ end_line ∷ [])))) (sym none) ∙ sym (ap lines_read same),
+      ap (λ (t : List (List Op)). (version_line ∷ disk_line p.blocks ∷ fallback_line p.fallback ∷ map device_line p.targets) ++ (map key_line p.keys ++ (map fault_line p.faults ++ (flat_map (section_lines p.keys) t ++ end_line ∷ [])))) (sym none) ∙ sym (ap lines_read same),
     )
 
 passed_test : (test : Bool) (kind : ScriptWhy) → first_of test kind None ≡ None → test ≡ true

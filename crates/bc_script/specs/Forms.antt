@@ -1,6 +1,6 @@
 -- The forms of lines: what sort of line it is, by its first word, the number of its fields and its fixed words; the other
 -- fields stand as they are written.
-use Rattle.std.specs.Prelude.{ℕ, Bool, not, if◌then◌else◌, List, [], ◌∷◌, codes, Option, Some, None}
+use Rattle.std.specs.Prelude.{ℕ, Bool, true, false, not, if◌then◌else◌, List, [], ◌∷◌, codes, Option, Some, None}
 use Rattle.std.specs.Str.{bytes_eq}
 use Rattle.bc_text.specs.Lines.{TextLine}
 use Rattle.bc_key.specs.declared.config.Mode.{Mode}
@@ -8,6 +8,15 @@ use Rattle.bc_key.specs.declared.config.Mode.TheVariants.{Aes256Xts, Aes128CbcEs
 use Rattle.bc_script.specs.ScriptText.{dash}
 use Rattle.bc_script.specs.declared.sort.Sort.{Sort}
 use Rattle.bc_script.specs.declared.sort.Sort.TheVariants as sorts
+
+-- the fields of a device's line
+pub record DeviceForm : Type 0 where
+  pub first : List ℕ
+  pub blocks : List ℕ
+  pub slots : List ℕ
+  pub xts : List ℕ
+  pub essiv : List ℕ
+  pub dun_bytes : List ℕ
 
 -- the fields of a key's line; the mode is a fixed word
 pub record KeyForm : Type 0 where
@@ -38,7 +47,8 @@ pub data TextForm : Type 0 where
 pub data Form : Type 0 where
   Version : Form
   Disk : List ℕ → Form
-  Fallback : Form
+  Fallback : Bool → Form
+  Device : DeviceForm → Form
   Key : KeyForm → Form
   Fault : FaultForm → Form
   Thread : Form
@@ -66,6 +76,33 @@ with_one form (field ∷ fields) = alone (form field) fields
 abbrev pub with_word : List ℕ → Form → TextLine → Option Form
 with_word word form [] = None
 with_word word form (field ∷ fields) = if bytes_eq field word then alone form fields else None
+
+-- `on` or `off`
+abbrev pub switch_of : List ℕ → Option Bool
+switch_of word =
+    if bytes_eq word (codes "on") then Some true else (if bytes_eq word (codes "off") then Some false else None)
+
+-- a fallback's line, where its field is a switch
+abbrev pub fallback_form : Option Bool → Option Form
+fallback_form None = None
+fallback_form (Some on) = Some (Fallback on)
+
+-- `on` or `off`, and no more
+abbrev pub with_switch : TextLine → Option Form
+with_switch (word ∷ []) = fallback_form (switch_of word)
+with_switch _ = None
+
+-- FIRST BLOCKS SLOTS XTS ESSIV DUN
+abbrev pub with_device : TextLine → Option Form
+with_device (first ∷ blocks ∷ slots ∷ xts ∷ essiv ∷ dun_bytes ∷ []) = Some (Device (record {
+  first = first;
+  blocks = blocks;
+  slots = slots;
+  xts = xts;
+  essiv = essiv;
+  dun_bytes = dun_bytes;
+}))
+with_device _ = None
 
 -- the mode with this word
 abbrev pub mode_of : List ℕ → Option Mode
@@ -134,9 +171,10 @@ form_of_word word fields =
     else (if bytes_eq word (codes "fault") then with_fault fields
     else (if bytes_eq word (codes "blkcrypt") then with_word (codes "1") Version fields
     else (if bytes_eq word (codes "disk") then with_one Disk fields
-    else (if bytes_eq word (codes "fallback") then with_word (codes "on") Fallback fields
+    else (if bytes_eq word (codes "fallback") then with_switch fields
+    else (if bytes_eq word (codes "device") then with_device fields
     else (if bytes_eq word (codes "end") then alone End fields
-    else None))))))))))))
+    else None)))))))))))))
 
 -- the form of a line, if it has one
 abbrev pub form_of : TextLine → Option Form
@@ -147,7 +185,8 @@ form_of (word ∷ fields) = form_of_word word fields
 abbrev pub sort_of : Form → Sort
 sort_of Version = sorts.Version
 sort_of (Disk blocks) = sorts.Disk
-sort_of Fallback = sorts.Fallback
+sort_of (Fallback on) = sorts.Fallback
+sort_of (Device device) = sorts.Device
 sort_of (Key key) = sorts.Key
 sort_of (Fault fault) = sorts.Fault
 sort_of Thread = sorts.Thread

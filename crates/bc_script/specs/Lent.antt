@@ -1,6 +1,7 @@
 -- The form of a line whose fields are lent: the same form with the fields themselves. The contracts of private functions
 -- speak of these; no public one does.
-use Rattle.bc_script.specs.Forms.{Form, Version, Disk, Fallback, Key, Fault, Thread, Write, Read, Evict, Reset, Plug, Unplug, End, KeyForm, FaultForm, BioForm, TextForm, Fill, Hex}
+use Rattle.bc_script.specs.Forms.{Form, Version, Disk, Fallback, Device, Key, Fault, Thread, Write, Read, Evict, Reset, Plug, Unplug, End, DeviceForm, KeyForm, FaultForm, BioForm, TextForm, Fill, Hex}
+use Rattle.bc_script.specs.declared.form.DeviceForm as device_forms
 use Rattle.bc_script.specs.declared.form.KeyForm as key_forms
 use Rattle.bc_script.specs.declared.form.FaultForm as fault_forms
 use Rattle.bc_script.specs.declared.form.BioForm as bio_forms
@@ -8,6 +9,17 @@ use Rattle.bc_script.specs.declared.form.TextForm as text_forms
 use Rattle.bc_script.specs.declared.form.TextForm.TheVariants as lent_texts
 use Rattle.bc_script.specs.declared.form.Form as lent_forms
 use Rattle.bc_script.specs.declared.form.Form.TheVariants as lent
+
+-- of a device's line
+abbrev pub device_lent : device_forms.DeviceForm → DeviceForm
+device_lent device = record {
+  first = device.first.now;
+  blocks = device.blocks.now;
+  slots = device.slots.now;
+  xts = device.xts.now;
+  essiv = device.essiv.now;
+  dun_bytes = device.dun_bytes.now;
+}
 
 -- of a key's line
 abbrev pub key_lent : key_forms.KeyForm → KeyForm
@@ -36,7 +48,8 @@ text_lent (lent_texts.Hex digits) = Hex digits.now
 abbrev pub form_lent : lent_forms.Form → Form
 form_lent lent.Version = Version
 form_lent (lent.Disk blocks) = Disk blocks.now
-form_lent lent.Fallback = Fallback
+form_lent (lent.Fallback on) = Fallback on
+form_lent (lent.Device device) = Device (device_lent device)
 form_lent (lent.Key key) = Key (key_lent key)
 form_lent (lent.Fault fault) = Fault (fault_lent fault)
 form_lent lent.Thread = Thread

@@ -15,4 +15,5 @@ pub mod Says
 pub mod Lent
 pub mod NamedKeys
 pub mod BioFields
+pub mod DeviceFields
 pub mod Reading

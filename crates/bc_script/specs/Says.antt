@@ -5,7 +5,7 @@ use Rattle.std.specs.Str.Parse.{digits_value}
 use Rattle.std.specs.Fmt.{decimal}
 use Rattle.hex.specs.Hex.{encode_lower, IsBytes}
 use Rattle.bc_key.specs.NumberText.{number_text}
-use Rattle.bc_script.specs.ScriptErrors.{number_in, is_number, is_number_text, bytes_in, is_hex_text}
+use Rattle.bc_script.specs.ScriptErrors.{number_in, is_number, is_number_below, is_number_text, bytes_in, is_hex_text}
 
 -- the field says this number in decimal digits, and the number lies in the range
 pub record SaysNumber (least most : ℕ) (field : List ℕ) (n : ℕ) : Type 0 where
@@ -14,6 +14,12 @@ pub record SaysNumber (least most : ℕ) (field : List ℕ) (n : ℕ) : Type 0 w
   pub text : field ≡ decimal n
   pub low : least ≤ n
   pub high : n ≤ most
+
+-- the field says this number in decimal digits, and the number lies below the other
+pub record SaysNumberBelow (end : ℕ) (field : List ℕ) (n : ℕ) : Type 0 where
+  pub passes : is_number_below end field ≡ true
+  pub text : field ≡ decimal n
+  pub below : n < end
 
 -- the field says this data unit number
 pub record SaysDataUnitNumber (field : List ℕ) (n : ℕ) : Type 0 where

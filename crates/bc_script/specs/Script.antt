@@ -7,6 +7,7 @@ use Rattle.bc_key.specs.KeyData.{KeyData, IsValid}
 use Rattle.bc_bio.specs.declared.context.Context.{Context}
 use Rattle.bc_bio.specs.Extent.{unit_sectors}
 use Rattle.bc_stack.specs.declared.target.Target.{Target}
+use Rattle.bc_stack.specs.Targets.{HasSlots, IsStack}
 use Rattle.bc_script.specs.declared.limits.TheConstants as limits
 use Rattle.bc_script.specs.declared.named_key.NamedKey.{NamedKey}
 use Rattle.bc_script.specs.declared.op.Op.{Op}
@@ -59,6 +60,26 @@ unit_count_of_section section = sum_by unit_count section
 abbrev pub max_blocks : ℕ
 max_blocks = limits.MAX_BLOCKS
 
+-- the last block that a disk may have
+abbrev pub last_block : ℕ
+last_block = limits.LAST_BLOCK
+
+-- the most devices
+abbrev pub max_devices : ℕ
+max_devices = limits.MAX_DEVICES
+
+-- the most keyslots of a device
+abbrev pub max_slots : ℕ
+max_slots = limits.MAX_SLOTS
+
+-- the greatest mask of data unit sizes
+abbrev pub max_unit_mask : ℕ
+max_unit_mask = limits.MAX_UNIT_MASK
+
+-- the most bytes that a device takes of a data unit's number
+abbrev pub max_device_dun_bytes : ℕ
+max_device_dun_bytes = limits.MAX_DEVICE_DUN_BYTES
+
 -- the most keys
 abbrev pub max_keys : ℕ
 max_keys = limits.MAX_KEYS
@@ -95,15 +116,27 @@ max_bio_units = limits.MAX_BIO_UNITS
 abbrev pub max_bio_sectors : ℕ
 max_bio_sectors = limits.MAX_BIO_SECTORS
 
--- how many devices a script has: none, as long as device lines aren't built
-abbrev pub device_count : ℕ
-device_count = 0
-
 -- ---- the rules
 
 -- a disk has one block at least
 abbrev pub IsDiskSize : ℕ → Type 0
 IsDiskSize n = (1 ≤ n) × (n ≤ max_blocks)
+
+-- a device's first block, blocks, keyslots, mask of data unit sizes for each mode, and number bytes are in their ranges
+pub record IsDevice (device : Target) : Type 0 where
+  pub first : device.first ≤ last_block
+  pub some_blocks : 1 ≤ device.blocks
+  pub few_blocks : device.blocks ≤ max_blocks
+  pub slots : HasSlots device
+  pub xts : device.caps.xts ≤ max_unit_mask
+  pub essiv : device.caps.essiv ≤ max_unit_mask
+  pub some_dun_bytes : 1 ≤ device.caps.max_dun_bytes
+  pub few_dun_bytes : device.caps.max_dun_bytes ≤ max_device_dun_bytes
+
+-- devices that make a stack over the blocks of a disk
+pub record AreDevices (devices : List Target) (blocks : ℕ) : Type 0 where
+  pub stack : IsStack devices blocks
+  pub each : AllByRecursion IsDevice devices
 
 -- a name, and a valid key
 pub record IsNamedKey (named : NamedKey) : Type 0 where
@@ -149,14 +182,15 @@ IsText keys context units (Fill byte) = byte < 256
 IsText keys context units (Bytes bytes) =
     IsBytes bytes × (1 ≤ units) × (length bytes ≡ units * (512 * unit_sectors keys context))
 
--- an operation whose bio, key or device the script has; there is a device of each number below the count
-abbrev pub IsOp : List KeyData → Op → Type 0
-IsOp keys (Write context sector units text) = IsBio keys context sector units × IsText keys context units text
-IsOp keys (Read context sector units) = IsBio keys context sector units
-IsOp keys (Evict key) = key.0 < length keys
-IsOp keys (Reset device) = device < device_count
-IsOp keys Plug = ⊤
-IsOp keys Unplug = ⊤
+-- an operation whose bio, key or device a script has that has so many devices
+abbrev pub IsOp : ℕ → List KeyData → Op → Type 0
+IsOp devices keys (Write context sector units text) =
+    IsBio keys context sector units × IsText keys context units text
+IsOp devices keys (Read context sector units) = IsBio keys context sector units
+IsOp devices keys (Evict key) = key.0 < length keys
+IsOp devices keys (Reset device) = device < devices
+IsOp devices keys Plug = ⊤
+IsOp devices keys Unplug = ⊤
 
 -- whether a plug is open after these operations; none where one is opened twice, or closed without being open
 abbrev pub open_after : Bool → List Op → Option Bool
@@ -166,23 +200,32 @@ open_after plugged (Unplug ∷ ops) = if plugged then open_after false ops else 
 open_after plugged (op ∷ ops) = open_after plugged ops
 
 -- valid operations, of which each plug is closed again
-pub record IsSection (keys : List KeyData) (section : List Op) : Type 0 where
-  pub each : AllByRecursion (IsOp keys) section
+pub record IsSection (devices : ℕ) (keys : List KeyData) (section : List Op) : Type 0 where
+  pub each : AllByRecursion (IsOp devices keys) section
   pub plugs : open_after false section ≡ Some false
 
 -- few enough sections, with few enough operations and data units together
-pub record AreSections (keys : List KeyData) (threads : List (List Op)) : Type 0 where
+pub record AreSections (devices : ℕ) (keys : List KeyData) (threads : List (List Op)) : Type 0 where
   pub count : length threads ≤ max_threads
-  pub each : AllByRecursion (IsSection keys) threads
+  pub each : AllByRecursion (IsSection devices keys) threads
   pub few_ops : sum_by length threads ≤ max_ops
   pub few_units : sum_by unit_count_of_section threads ≤ max_units
 
--- What holds of every script. Software does what no device can, and there are no devices, as long as the other lines aren't
--- built.
+-- how many devices a script has
+abbrev pub device_count : Script → ℕ
+device_count script = length script.targets
+
+-- an operation, and a section, of a script
+abbrev pub IsScriptOp : Script → Op → Type 0
+IsScriptOp script op = IsOp (device_count script) (keys_of script) op
+
+abbrev pub IsScriptSection : Script → List Op → Type 0
+IsScriptSection script section = IsSection (device_count script) (keys_of script) section
+
+-- what holds of every script
 pub record IsScript (script : Script) : Type 0 where
   pub blocks : IsDiskSize script.blocks
-  pub fallback : script.fallback ≡ true
-  pub targets : script.targets ≡ []
+  pub devices : AreDevices script.targets script.blocks
   pub keys : AreKeys script.keys
   pub faults : AreFaults script.faults
-  pub threads : AreSections (keys_of script) script.threads
+  pub threads : AreSections (device_count script) (keys_of script) script.threads

@@ -1,8 +1,8 @@
 -- The first line of a text that fails a test, and the first test that it fails.
 --
--- A test speaks of its line and of the lines above: how many keys, faults, operations or data units those have is a count or a sum
--- over their forms, which stand here with the nearest line first.
-use Rattle.std.specs.Prelude.{ℕ, ◌+◌, ◌*◌, ◌/◌, ◌^◌, ◌&&◌, ◌||◌, not, nat_lt, nat_le, Bool, true, false, if◌then◌else◌, List, [], ◌∷◌, length, Option, Some, None, is_some, sum_by, count_by, unwrap_or}
+-- A test speaks of its line and of the lines above: how many devices, keys, faults, operations or data units those have is a count
+-- or a sum over their forms, which stand here with the nearest line first.
+use Rattle.std.specs.Prelude.{ℕ, ◌+◌, ◌*◌, ◌/◌, ◌^◌, ◌&&◌, ◌||◌, not, nat_lt, nat_le, nat_eq, Bool, true, false, if◌then◌else◌, List, [], ◌∷◌, length, Option, Some, None, is_some, sum_by, count_by, unwrap_or}
 use Rattle.std.specs.Option.{option_map, option_map_or}
 use Rattle.std.specs.Result.{result_ok}
 use Rattle.std.specs.Str.{bytes_eq}
@@ -18,10 +18,10 @@ use Rattle.bc_script.specs.declared.script_error.ScriptWhy.{ScriptWhy}
 use Rattle.bc_script.specs.declared.script_error.ScriptWhy.TheVariants as why
 use Rattle.bc_script.specs.declared.script_error.ScriptError.{ScriptError}
 use Rattle.bc_script.specs.Name.{is_name}
-use Rattle.bc_script.specs.Script.{is_before, max_blocks, max_keys, max_faults, last_shard, last_access, max_threads, max_ops, max_units, max_bio_units, max_bio_sectors}
+use Rattle.bc_script.specs.Script.{is_before, max_blocks, last_block, max_devices, max_slots, max_unit_mask, max_device_dun_bytes, max_keys, max_faults, last_shard, last_access, max_threads, max_ops, max_units, max_bio_units, max_bio_sectors}
 use Rattle.bc_script.specs.ScriptText.{dash}
-use Rattle.bc_script.specs.Forms.{Form, Disk, Key, Fault, Thread, Write, Read, Evict, Reset, Plug, Unplug, End, KeyForm, FaultForm, BioForm, TextForm, Fill, Hex, form_of, sort_of}
-use Rattle.bc_script.specs.Order.{may_follow, is_unbuilt}
+use Rattle.bc_script.specs.Forms.{Form, Disk, Device, Key, Fault, Thread, Write, Read, Evict, Reset, Plug, Unplug, End, DeviceForm, KeyForm, FaultForm, BioForm, TextForm, Fill, Hex, form_of, sort_of}
+use Rattle.bc_script.specs.Order.{may_follow}
 
 -- ---- what fields say: a field is malformed where it isn't the text of its value
 
@@ -34,6 +34,10 @@ abbrev pub is_number : ℕ → ℕ → List ℕ → Bool
 is_number least most field =
     bytes_eq (decimal (number_in field)) field
     && (nat_le least (number_in field) && nat_le (number_in field) most)
+
+-- the decimal text of a number below another
+abbrev pub is_number_below : ℕ → List ℕ → Bool
+is_number_below end field = bytes_eq (decimal (number_in field)) field && nat_lt (number_in field) end
 
 -- the text of a data unit number
 abbrev pub is_number_text : List ℕ → Bool
@@ -55,6 +59,30 @@ is_hex_text least most field =
 abbrev pub last_sort : List Form → Option Sort
 last_sort [] = None
 last_sort (form ∷ above) = Some (sort_of form)
+
+-- how many blocks the disk has, by its line
+abbrev pub disk_blocks_in : Form → ℕ
+disk_blocks_in (Disk blocks) = number_in blocks
+disk_blocks_in _ = 0
+
+-- whether a line has a device
+abbrev pub is_device : Form → Bool
+is_device (Device device) = true
+is_device _ = false
+
+-- how many blocks a device has, by its line
+abbrev pub device_blocks_in : Form → ℕ
+device_blocks_in (Device device) = number_in device.blocks
+device_blocks_in _ = 0
+
+-- how many blocks the devices have together
+abbrev pub device_blocks_above : List Form → ℕ
+device_blocks_above above = sum_by device_blocks_in above
+
+-- there are no devices, or they have as many blocks together as the disk
+abbrev pub are_whole : List Form → Bool
+are_whole above =
+    nat_eq (count_by is_device above) 0 || nat_eq (device_blocks_above above) (sum_by disk_blocks_in above)
 
 -- whether a line declares a key
 abbrev pub is_key : Form → Bool
@@ -118,7 +146,7 @@ is_open (Plug ∷ above) = true
 is_open (Unplug ∷ above) = false
 is_open (form ∷ above) = is_open above
 
--- ---- the tests of each form, in their order: its fields from left to right, then the key, the order and the limits
+-- ---- the tests of each form, in their order: its fields from left to right, then the key, the order, the devices and the limits
 
 -- the test that a line fails, if it fails one
 abbrev pub Why : Type 0
@@ -143,7 +171,30 @@ abbrev pub key_test : Why → Why → Why
 key_test None next = next
 key_test (Some kind) next = Some kind
 
--- a new name; a mode, a unit and number bytes; some digits; a valid key; and room for one more key
+-- The devices, if there are any, have the disk's blocks together. The line at which this fails, if one does, is the first
+-- after the devices.
+abbrev pub device_test : List Form → Why → Why
+device_test above next = first_of (are_whole above) why.Device next
+
+-- a first block, blocks, keyslots, two masks, and number bytes
+abbrev pub device_fields : DeviceForm → Why → Why
+device_fields device next =
+    number_test 0 last_block device.first
+    (number_test 1 max_blocks device.blocks
+    (number_test 1 max_slots device.slots
+    (number_test 0 max_unit_mask device.xts
+    (number_test 0 max_unit_mask device.essiv
+    (number_test 1 max_device_dun_bytes device.dun_bytes next)))))
+
+-- its fields; the first block is the first after the devices above; and room for one more device
+abbrev pub device_tests : List Form → DeviceForm → Why
+device_tests above device =
+    device_fields device
+    (first_of (nat_eq (number_in device.first) (device_blocks_above above)) why.Device
+    (first_of (nat_lt (count_by is_device above) max_devices) why.Limit
+    None))
+
+-- a new name; a mode, a unit and number bytes; some digits; a valid key; whole devices; and room for one more key
 abbrev pub key_tests : List Form → KeyForm → Why
 key_tests above key =
     first_of (is_name key.name && not (is_declared key.name above)) why.Name
@@ -151,17 +202,19 @@ key_tests above key =
     (number_test 0 255 key.dun_bytes
     (first_of (is_hex_text 1 128 key.digits) why.Hex
     (key_test (key_refused key)
+    (device_test above
     (first_of (nat_lt (count_by is_key above) max_keys) why.Limit
-    None)))))
+    None))))))
 
--- a shard and a place in its order; after the fault before it; and room for one more fault
+-- a shard and a place in its order; after the fault before it; whole devices; and room for one more fault
 abbrev pub fault_tests : List Form → FaultForm → Why
 fault_tests above fault =
     number_test 0 last_shard fault.shard
     (number_test 0 last_access fault.access
     (first_of (ascends above fault) why.Order
+    (device_test above
     (first_of (nat_lt (count_by is_fault above) max_faults) why.Limit
-    None)))
+    None))))
 
 -- a section has room for one more operation
 abbrev pub op_limit : List Form → Why
@@ -195,21 +248,23 @@ size_of above bio = number_in bio.units * (512 * sectors_under bio.key above)
 -- the first test of its own that a line of this form fails
 abbrev pub tests_of : List Form → Form → Why
 tests_of above (Disk blocks) = number_test 1 max_blocks blocks None
+tests_of above (Device device) = device_tests above device
 tests_of above (Key key) = key_tests above key
 tests_of above (Fault fault) = fault_tests above fault
 tests_of above Thread =
     first_of (not (is_open above)) why.Order
-    (first_of (nat_lt (count_by is_thread above) max_threads) why.Limit None)
+    (device_test above
+    (first_of (nat_lt (count_by is_thread above) max_threads) why.Limit None))
 tests_of above (Write bio text) =
     bio_tests above bio
     (first_of (is_text (size_of above bio) text) why.Hex (bio_limits above bio))
 tests_of above (Read bio) = bio_tests above bio (bio_limits above bio)
 tests_of above (Evict name) = first_of (is_declared name above) why.Name (op_limit above)
--- there is no device that could be named
-tests_of above (Reset device) = Some why.Number
+tests_of above (Reset device) =
+    first_of (is_number_below (count_by is_device above) device) why.Number (op_limit above)
 tests_of above Plug = first_of (not (is_open above)) why.Order (op_limit above)
 tests_of above Unplug = first_of (is_open above) why.Order (op_limit above)
-tests_of above End = first_of (not (is_open above)) why.Order None
+tests_of above End = first_of (not (is_open above)) why.Order (device_test above None)
 tests_of above _ = None
 
 -- ---- the first line that fails
@@ -227,9 +282,7 @@ error_of_form above (Some form) = first_of (may_follow (last_sort above) (sort_o
 -- the test that a line fails
 abbrev pub error_at : List Form → TextLine → Why
 error_at above line =
-    first_of (not (is_end (last_sort above))) why.End
-    (first_of (not (is_unbuilt (last_sort above) line)) why.NotBuilt
-    (error_of_form above (form_of line)))
+    first_of (not (is_end (last_sort above))) why.End (error_of_form above (form_of line))
 
 -- the text ends here: after the `end` line, and with a line feed; or too early
 abbrev pub error_at_end : List Form → TextLine → Why

@@ -11,6 +11,7 @@ use Rattle.bc_key.specs.declared.keys.KeyNo.{KeyNo}
 use Rattle.bc_key.specs.DataUnits.{bytes_of}
 use Rattle.bc_key.specs.NumberText.{number_text}
 use Rattle.bc_bio.specs.declared.context.Context.{Context}
+use Rattle.bc_stack.specs.declared.target.Target.{Target}
 use Rattle.bc_script.specs.declared.named_key.NamedKey.{NamedKey}
 use Rattle.bc_script.specs.declared.op.Op.{Op}
 use Rattle.bc_script.specs.declared.op.Op.TheVariants.{Write, Read, Evict, Reset, Plug, Unplug}
@@ -18,7 +19,7 @@ use Rattle.bc_script.specs.declared.op.Text.{Text}
 use Rattle.bc_script.specs.declared.op.Text.TheVariants.{Fill, Bytes}
 use Rattle.bc_script.specs.Script.{Script, IsScript}
 
--- ---- the first three lines
+-- ---- the first three lines, and a line for each device
 
 -- the name of the language, and its version
 abbrev pub version_line : TextLine
@@ -37,9 +38,16 @@ on_off false = codes "off"
 abbrev pub fallback_line : Bool → TextLine
 fallback_line fallback = codes "fallback" ∷ on_off fallback ∷ []
 
--- the first three lines
+-- the first block, the blocks, the keyslots, the masks of data unit sizes of both modes, and the number bytes
+abbrev pub device_line : Target → TextLine
+device_line device =
+    codes "device" ∷ decimal device.first ∷ decimal device.blocks ∷ decimal device.slots ∷ decimal device.caps.xts
+    ∷ decimal device.caps.essiv ∷ decimal device.caps.max_dun_bytes ∷ []
+
+-- the first three lines, and a line for each device
 abbrev pub head_lines : Script → List TextLine
-head_lines s = version_line ∷ disk_line s.blocks ∷ fallback_line s.fallback ∷ []
+head_lines s =
+    version_line ∷ disk_line s.blocks ∷ fallback_line s.fallback ∷ map device_line s.targets
 
 -- ---- a line for each key
 
@@ -115,7 +123,7 @@ section_lines keys section = thread_line ∷ map (op_line keys) section
 abbrev pub end_line : TextLine
 end_line = codes "end" ∷ []
 
--- the lines of a script: the first three, then keys, faults and sections, then the last
+-- the lines of a script: the first three, then devices, keys, faults and sections, then the last
 abbrev pub script_lines : Script → List TextLine
 script_lines s =
     head_lines s

@@ -3,6 +3,8 @@
 use Rattle.std.specs.Prelude.{◌≡◌, ℕ, ◌+◌, ◌-◌, ◌<◌, ◌≤◌, Bool, true, false, List, [], ◌∷◌, ◌++◌, codes, length, slice_get, sum_by, Some, IsSome, Result, MatchResult, ⊤}
 use Rattle.std.specs.Option.{option_map_or}
 use Rattle.bc_text.specs.Lines.{TextLine}
+use Rattle.bc_stack.specs.declared.target.Target.{Target}
+use Rattle.bc_stack.specs.Targets.{CoverAll}
 use Rattle.bc_script.specs.declared.op.Op.{Op}
 use Rattle.bc_script.specs.declared.sort.Sort.{Sort}
 use Rattle.bc_script.specs.declared.sort.Sort.TheVariants as sorts
@@ -12,13 +14,13 @@ use Rattle.bc_script.specs.declared.statement.Statement.TheVariants as statement
 use Rattle.bc_script.specs.declared.statement.Unread.{Unread}
 use Rattle.bc_script.specs.declared.statement.Unread.TheVariants as unread
 use Rattle.bc_script.specs.declared.named_key.NamedKey.{NamedKey}
-use Rattle.bc_script.specs.Script.{IsDiskSize, IsNamedKey, IsFault, IsOp, is_before, bare_keys, open_after, unit_count, unit_count_of_section, max_keys, max_faults, max_threads, max_ops, max_units}
-use Rattle.bc_script.specs.ScriptText.{version_line, disk_line, fallback_line, key_line, fault_line, thread_line, op_line, end_line, mode_text}
-use Rattle.bc_script.specs.Forms.{Form, Version, Disk, Fallback, Key, Fault, Thread, Write, Read, Evict, Reset, Plug, Unplug, End, TextForm, Fill, Hex, sort_of, dashes_agree}
+use Rattle.bc_script.specs.Script.{IsDiskSize, IsDevice, IsNamedKey, IsFault, IsOp, is_before, bare_keys, open_after, unit_count, unit_count_of_section, max_devices, max_keys, max_faults, max_threads, max_ops, max_units}
+use Rattle.bc_script.specs.ScriptText.{version_line, disk_line, on_off, fallback_line, device_line, key_line, fault_line, thread_line, op_line, end_line, mode_text}
+use Rattle.bc_script.specs.Forms.{Form, Version, Disk, Fallback, Device, Key, Fault, Thread, Write, Read, Evict, Reset, Plug, Unplug, End, TextForm, Fill, Hex, sort_of, dashes_agree}
 use Rattle.bc_script.specs.Order.{may_follow}
 use Rattle.bc_script.specs.ScriptErrors.{Why, tests_of}
 use Rattle.bc_script.specs.NamedKeys.{IsNoName}
-use Rattle.bc_script.specs.Progress.{Progress, IsProgress, forms_read, sections_read}
+use Rattle.bc_script.specs.Progress.{Progress, IsProgress, blocks_of, forms_read, sections_read}
 
 -- ---- lines by their forms
 
@@ -31,7 +33,9 @@ text_line (Hex digits) = codes "hex" ∷ digits ∷ []
 abbrev pub form_line : Form → TextLine
 form_line Version = codes "blkcrypt" ∷ codes "1" ∷ []
 form_line (Disk blocks) = codes "disk" ∷ blocks ∷ []
-form_line Fallback = codes "fallback" ∷ codes "on" ∷ []
+form_line (Fallback on) = codes "fallback" ∷ on_off on ∷ []
+form_line (Device device) =
+    codes "device" ∷ device.first ∷ device.blocks ∷ device.slots ∷ device.xts ∷ device.essiv ∷ device.dun_bytes ∷ []
 form_line (Key key) = codes "key" ∷ key.name ∷ mode_text key.mode ∷ key.unit ∷ key.dun_bytes ∷ key.digits ∷ []
 form_line (Fault fault) = codes "fault" ∷ fault.shard ∷ fault.access ∷ []
 form_line Thread = codes "thread" ∷ []
@@ -49,7 +53,8 @@ form_line End = codes "end" ∷ []
 abbrev pub line_of : List NamedKey → Statement → TextLine
 line_of keys statements.Version = version_line
 line_of keys (statements.Disk blocks) = disk_line blocks
-line_of keys statements.Fallback = fallback_line true
+line_of keys (statements.Fallback on) = fallback_line on
+line_of keys (statements.Device device) = device_line device
 line_of keys (statements.Key named) = key_line named
 line_of keys (statements.Fault fault) = fault_line fault
 line_of keys statements.Thread = thread_line
@@ -60,15 +65,27 @@ line_of keys statements.End = end_line
 abbrev pub sort_of_statement : Statement → Sort
 sort_of_statement statements.Version = sorts.Version
 sort_of_statement (statements.Disk blocks) = sorts.Disk
-sort_of_statement statements.Fallback = sorts.Fallback
+sort_of_statement (statements.Fallback on) = sorts.Fallback
+sort_of_statement (statements.Device device) = sorts.Device
 sort_of_statement (statements.Key named) = sorts.Key
 sort_of_statement (statements.Fault fault) = sorts.Fault
 sort_of_statement statements.Thread = sorts.Thread
 sort_of_statement (statements.Operation op) = sorts.Operation
 sort_of_statement statements.End = sorts.End
 
+-- a valid device after the blocks of those that have been read, and for which there is room
+pub record FitsDevice (p : Progress) (device : Target) : Type 0 where
+  pub valid : IsDevice device
+  pub first : device.first ≡ blocks_of p.targets
+  pub room : length p.targets < max_devices
+
+-- the devices that have been read, if there are any, cover the disk
+abbrev pub AreWhole : Progress → Type 0
+AreWhole p = CoverAll p.blocks p.targets
+
 -- a valid key with a new name, of which there is room for one more
 pub record FitsKey (p : Progress) (named : NamedKey) : Type 0 where
+  pub whole : AreWhole p
   pub valid : IsNamedKey named
   pub fresh : IsNoName p.keys named.name
   pub room : length p.keys < max_keys
@@ -80,13 +97,14 @@ is_after faults fault =
 
 -- a valid fault, which comes after those that have been read, and for which there is room
 pub record FitsFault (p : Progress) (fault : ℕ × ℕ) : Type 0 where
+  pub whole : AreWhole p
   pub valid : IsFault fault
   pub ascends : is_after p.faults fault ≡ true
   pub room : length p.faults < max_faults
 
 -- a valid operation, which opens no plug twice and closes none that isn't open, and for which there is room
 pub record FitsOp (p : Progress) (op : Op) : Type 0 where
-  pub valid : IsOp (bare_keys p.keys) op
+  pub valid : IsOp (length p.targets) (bare_keys p.keys) op
   pub plugs : IsSome (open_after false (p.section ++ op ∷ []))
   pub room : sum_by length (sections_read p) < max_ops
   pub units : sum_by unit_count_of_section (sections_read p) + unit_count op ≤ max_units
@@ -110,18 +128,21 @@ HasRoomFor p _ = ⊤
 abbrev pub Fits : Progress → Statement → Type 0
 Fits p statements.Version = ⊤
 Fits p (statements.Disk blocks) = IsDiskSize blocks
-Fits p statements.Fallback = ⊤
+Fits p (statements.Fallback on) = ⊤
+Fits p (statements.Device device) = FitsDevice p device
 Fits p (statements.Key named) = FitsKey p named
 Fits p (statements.Fault fault) = FitsFault p fault
-Fits p statements.Thread = IsClosed p × (length (sections_read p) < max_threads)
+Fits p statements.Thread = IsClosed p × (length (sections_read p) < max_threads) × AreWhole p
 Fits p (statements.Operation op) = FitsOp p op
-Fits p statements.End = IsClosed p
+Fits p statements.End = IsClosed p × AreWhole p
 
 -- the section that is being read has ended, with a line of this sort
 abbrev pub with_section_ended : Progress → Sort → Progress
 with_section_ended p sort = record {
   last = Some sort;
   blocks = p.blocks;
+  fallback = p.fallback;
+  targets = p.targets;
   keys = p.keys;
   faults = p.faults;
   threads = sections_read p;
@@ -132,7 +153,9 @@ with_section_ended p sort = record {
 abbrev pub with_statement : Progress → Statement → Progress
 with_statement p statements.Version = record p { last = Some sorts.Version }
 with_statement p (statements.Disk blocks) = record p { last = Some sorts.Disk; blocks = blocks }
-with_statement p statements.Fallback = record p { last = Some sorts.Fallback }
+with_statement p (statements.Fallback on) = record p { last = Some sorts.Fallback; fallback = on }
+with_statement p (statements.Device device) =
+    record p { last = Some sorts.Device; targets = p.targets ++ device ∷ [] }
 with_statement p (statements.Key named) = record p { last = Some sorts.Key; keys = p.keys ++ named ∷ [] }
 with_statement p (statements.Fault fault) = record p { last = Some sorts.Fault; faults = p.faults ++ fault ∷ [] }
 with_statement p statements.Thread = with_section_ended p sorts.Thread

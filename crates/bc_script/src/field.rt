@@ -4,9 +4,9 @@ ghost use Rattle.std.specs.Prelude.{◌≡◌, ◌≢◌, ◌/◌, ◌||◌, fal
 ghost use Rattle.std.specs.Str.{bytes_eq};
 ghost use Rattle.bc_script.specs.declared.script_error.ScriptWhy.TheVariants as why;
 ghost use Rattle.bc_script.specs.ScriptText.{dash};
-ghost use Rattle.bc_script.specs.ScriptErrors.{is_number, is_number_text, is_hex_text, is_text};
+ghost use Rattle.bc_script.specs.ScriptErrors.{is_number, is_number_below, is_number_text, is_hex_text, is_text};
 ghost use Rattle.bc_script.specs.Lent.{text_lent};
-ghost use Rattle.bc_script.specs.Says.{SaysNumber, SaysDataUnitNumber, SaysBytes};
+ghost use Rattle.bc_script.specs.Says.{SaysNumber, SaysNumberBelow, SaysDataUnitNumber, SaysBytes};
 ghost use Rattle.bc_script.specs.Statements.{Refuses};
 ghost use Rattle.bc_script.specs.BioFields.{SaysNumberField, SaysText};
 
@@ -30,6 +30,18 @@ pub(crate) fn number(field: &[u8], least: u32, most: u32) -> Result<u32, Unread>
         Some(number) => Ok(number),
         None => Err(Unread::Bad(ScriptWhy::Number)),
     }
+}
+
+/// The number that a field says, if it is below this one.
+pub(crate) fn number_below(field: &[u8], end: u32) -> Result<u32, Unread>
+    ensures { MatchResult result
+        (SaysNumberBelow end field.now)
+        (Refuses (is_number_below end field.now) why.Number) }
+{
+    if end == 0 {
+        return Err(Unread::Bad(ScriptWhy::Number));
+    }
+    number(field, 0, end - 1)
 }
 
 /// The number of a bio's first data unit, of which it has none where the field is `-`.

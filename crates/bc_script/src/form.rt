@@ -10,6 +10,17 @@ use crate::sort::Sort;
 use bc_key::Mode;
 use bc_text::Parts;
 
+/// The fields of a device's line.
+#[derive(Clone, Copy)]
+pub(crate) struct DeviceForm<'a> {
+    pub(crate) first: &'a [u8],
+    pub(crate) blocks: &'a [u8],
+    pub(crate) slots: &'a [u8],
+    pub(crate) xts: &'a [u8],
+    pub(crate) essiv: &'a [u8],
+    pub(crate) dun_bytes: &'a [u8],
+}
+
 /// The fields of a key's line.
 #[derive(Clone, Copy)]
 pub(crate) struct KeyForm<'a> {
@@ -50,7 +61,8 @@ pub(crate) enum TextForm<'a> {
 pub(crate) enum Form<'a> {
     Version,
     Disk(&'a [u8]),
-    Fallback,
+    Fallback(bool),
+    Device(DeviceForm<'a>),
     Key(KeyForm<'a>),
     Fault(FaultForm<'a>),
     Thread,
@@ -74,7 +86,8 @@ impl<'a> Form<'a> {
         match self {
             Form::Version => Sort::Version,
             Form::Disk(_) => Sort::Disk,
-            Form::Fallback => Sort::Fallback,
+            Form::Fallback(_) => Sort::Fallback,
+            Form::Device(_) => Sort::Device,
             Form::Key(_) => Sort::Key,
             Form::Fault(_) => Sort::Fault,
             Form::Thread => Sort::Thread,
@@ -119,7 +132,9 @@ fn form_of_word<'a>(word: &[u8], fields: Parts<'a>) -> Option<Form<'a>>
     } else if is(word, b"disk") {
         Some(Form::Disk(one(fields)?))
     } else if is(word, b"fallback") {
-        with_word(b"on", Form::Fallback, fields)
+        with_switch(fields)
+    } else if is(word, b"device") {
+        with_device(fields)
     } else if is(word, b"end") {
         alone(Form::End, fields)
     } else {
@@ -128,7 +143,7 @@ fn form_of_word<'a>(word: &[u8], fields: Parts<'a>) -> Option<Form<'a>>
 }
 
 /// Whether the field is this word.
-pub(crate) fn is(field: &[u8], word: &[u8]) -> bool
+fn is(field: &[u8], word: &[u8]) -> bool
     ensures { result ≡ bytes_eq field.now word.now }
 {
     field == word
@@ -151,13 +166,45 @@ fn with_word<'a>(word: &[u8], form: Form<'a>, mut fields: Parts<'a>) -> Option<F
 }
 
 /// The one field that is left.
-pub(crate) fn one<'a>(mut fields: Parts<'a>) -> Option<&'a [u8]>
+fn one<'a>(mut fields: Parts<'a>) -> Option<&'a [u8]>
     ensures { MatchOption result
         ((field : List ℕ) → fields.entry ≡ field ∷ [] → ⊥)
         (λ field. fields.entry ≡ field.now ∷ []) }
 {
     let field = fields.next()?;
     if fields.is_empty() { Some(field) } else { None }
+}
+
+fn with_switch(fields: Parts) -> Option<Form>
+    ensures { option_map form_lent result ≡ specs.with_switch fields.entry }
+{
+    let word = one(fields)?;
+    if is(word, b"on") {
+        Some(Form::Fallback(true))
+    } else if is(word, b"off") {
+        Some(Form::Fallback(false))
+    } else {
+        None
+    }
+}
+
+fn with_device(mut fields: Parts) -> Option<Form>
+    ensures { option_map form_lent result ≡ specs.with_device fields.entry }
+{
+    let first = fields.next()?;
+    let blocks = fields.next()?;
+    let slots = fields.next()?;
+    let xts = fields.next()?;
+    let essiv = fields.next()?;
+    let dun_bytes = one(fields)?;
+    Some(Form::Device(DeviceForm {
+        first,
+        blocks,
+        slots,
+        xts,
+        essiv,
+        dun_bytes,
+    }))
 }
 
 fn mode(word: &[u8]) -> Option<Mode>

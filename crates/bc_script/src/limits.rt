@@ -6,11 +6,20 @@ pub const MAX_TEXT: u64 = 16777216;
 /// The most blocks of a disk, which has one at least.
 pub const MAX_BLOCKS: u32 = 16384;
 
+/// The last block that a disk may have, from 0.
+pub const LAST_BLOCK: u32 = MAX_BLOCKS - 1;
+
 /// The most devices of a script.
 pub const MAX_DEVICES: usize = 8;
 
 /// The most keyslots of a device.
 pub const MAX_SLOTS: usize = 32;
+
+/// The greatest mask of data unit sizes, which has a bit for each of 512, 1024, 2048 and 4096 bytes.
+pub const MAX_UNIT_MASK: u32 = 15;
+
+/// The most bytes that a device takes of a data unit's number.
+pub const MAX_DEVICE_DUN_BYTES: u32 = 8;
 
 /// The most keys of a script.
 pub const MAX_KEYS: usize = 4096;

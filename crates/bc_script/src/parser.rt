@@ -31,5 +31,5 @@ pub fn parse(alloc: Global, text: &[u8]) -> Result<Script, ParseError>
         reader.take(alloc, line)?;
         line = next;
     }
-    reader.finish(alloc, line)
+    reader.finish(line)
 }

@@ -6,7 +6,7 @@ ghost use Rattle.hex.specs.Hex.{encode_lower};
 ghost use Rattle.bc_key.specs.DataUnits.{bytes_of};
 ghost use Rattle.bc_key.specs.NumberText.{number_text};
 ghost use Rattle.bc_text.specs.Lines.{fields_text, line_text, lines_text};
-ghost use Rattle.bc_script.specs.ScriptText.{head_lines, disk_line, on_off, fallback_line, mode_text, key_line, fault_line, name_of, key_field, number_field, bio_fields, text_fields, op_line, section_lines, script_text};
+ghost use Rattle.bc_script.specs.ScriptText.{head_lines, version_line, disk_line, on_off, fallback_line, device_line, mode_text, key_line, fault_line, name_of, key_field, number_field, bio_fields, text_fields, op_line, section_lines, script_text};
 
 use crate::named_key::NamedKey;
 use crate::op::{Op, Text};
@@ -14,17 +14,17 @@ use crate::script::Script;
 use arrayvec::ArrayVec;
 use bc_base::Items;
 use bc_bio::Context;
-use bc_key::{Config, KeyNo, Mode};
+use bc_key::{Caps, Config, KeyNo, Mode};
+use bc_stack::Target;
 use bc_text::{put_hex, put_number};
 use std::alloc::{AllocError, Global};
 
-/// The one text of the script: its first three lines, a line for each key, for each fault that is planned and for each
-/// thread's section and its operations, and the `end` line.
+/// The one text of the script: its first three lines, a line for each device, for each key, for each fault that is planned
+/// and for each thread's section and its operations, and the `end` line.
 ///
 /// # Errors
 ///
 /// `AllocError` where there is no memory for the text.
-#[tactic(auto, using(crate::proofs::Printed::all_parts))]
 pub fn print(alloc: Global, script: &Script) -> Result<Vec<u8>, AllocError>
     ensures text { IfOk result (λ text. text.items ≡ script_text script.now) }
 {
@@ -37,15 +37,24 @@ pub fn print(alloc: Global, script: &Script) -> Result<Vec<u8>, AllocError>
     Ok(text)
 }
 
-// ---- the first three lines
+// ---- the first three lines, and devices
 
-#[tactic(auto, using(crate::proofs::Printed::three_lines))]
+#[tactic(auto, using(crate::proofs::Printed::with_devices))]
 fn put_head(text: &mut Vec<u8>, script: &Script) -> Result<(), AllocError>
     ensures { OnOk result (text.new.items ≡ text.old.items ++ lines_text (head_lines script.now)) }
 {
+    put_first_lines(text, script.blocks(), script.fallback())?;
+    put_devices(text, script.targets())
+}
+
+#[tactic(auto, using(crate::proofs::Printed::three_lines))]
+fn put_first_lines(text: &mut Vec<u8>, blocks: u32, fallback: bool) -> Result<(), AllocError>
+    ensures { OnOk result (text.new.items ≡ text.old.items
+        ++ lines_text (version_line ∷ disk_line blocks ∷ fallback_line fallback ∷ [])) }
+{
     text.extend_from_slice(b"blkcrypt 1\n")?;
-    put_disk(text, script.blocks())?;
-    put_fallback(text, script.fallback())
+    put_disk(text, blocks)?;
+    put_fallback(text, fallback)
 }
 
 fn put_disk(text: &mut Vec<u8>, blocks: u32) -> Result<(), AllocError>
@@ -70,6 +79,52 @@ fn on_off(is_on: bool) -> &'static [u8]
     ensures { result.now ≡ on_off is_on }
 {
     if is_on { b"on" } else { b"off" }
+}
+
+#[tactic(auto, using(crate::proofs::Printed::lines_text_more))]
+fn put_devices(text: &mut Vec<u8>, devices: &[Target]) -> Result<(), AllocError>
+    ensures { OnOk result (text.new.items ≡ text.old.items ++ lines_text (map device_line devices.now)) }
+{
+    for device in devices {
+        put_device(text, device)?;
+    }
+    Ok(())
+}
+
+#[tactic(auto, using(crate::proofs::Printed::device_parts))]
+fn put_device(text: &mut Vec<u8>, device: &Target) -> Result<(), AllocError>
+    ensures { OnOk result (text.new.items ≡ text.old.items ++ line_text (device_line device.now)) }
+{
+    text.extend_from_slice(b"device ")?;
+    put_blocks(text, device)?;
+    put_caps(text, &device.caps)?;
+    text.push(b'\n')?;
+    Ok(())
+}
+
+/// The first block, the blocks and the keyslots of a device.
+fn put_blocks(text: &mut Vec<u8>, device: &Target) -> Result<(), AllocError>
+    ensures { OnOk result (text.new.items ≡ text.old.items ++ fields_text
+        (decimal device.now.first ∷ decimal device.now.blocks ∷ decimal device.now.slots ∷ [])) }
+{
+    put_number(text, u64::from(device.first))?;
+    text.push(b' ')?;
+    put_number(text, u64::from(device.blocks))?;
+    text.push(b' ')?;
+    put_number(text, u64::from(device.slots))
+}
+
+/// The masks of data unit sizes and the number bytes, each with a space before it.
+fn put_caps(text: &mut Vec<u8>, caps: &Caps) -> Result<(), AllocError>
+    ensures { OnOk result (text.new.items ≡ text.old.items ++ (codes " " ++ fields_text
+        (decimal caps.now.xts ∷ decimal caps.now.essiv ∷ decimal caps.now.max_dun_bytes ∷ []))) }
+{
+    text.push(b' ')?;
+    put_number(text, u64::from(caps.xts))?;
+    text.push(b' ')?;
+    put_number(text, u64::from(caps.essiv))?;
+    text.push(b' ')?;
+    put_number(text, u64::from(caps.max_dun_bytes))
 }
 
 // ---- keys

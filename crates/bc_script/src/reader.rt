@@ -9,7 +9,7 @@ ghost use Rattle.bc_script.specs.Order.{may_follow};
 ghost use Rattle.bc_script.specs.ScriptErrors.{error_at, error_at_end, is_end};
 ghost use Rattle.bc_text.specs.Lines.{is_nothing};
 ghost use Rattle.bc_script.specs.Progress.{IsProgress, lines_read, forms_read, is_in_section, with_section};
-ghost use Rattle.bc_script.specs.Statements.{Fits, FitsKey, FitsFault, FitsOp, IsClosed, EndsSection, HasRoomFor, sort_of_statement, with_statement, with_section_ended};
+ghost use Rattle.bc_script.specs.Statements.{Fits, FitsDevice, FitsKey, FitsFault, FitsOp, AreWhole, IsClosed, EndsSection, HasRoomFor, sort_of_statement, with_statement, with_section_ended};
 ghost use Rattle.bc_script.specs.Reading.{Took, IsWhole, ReportsNext, left_section};
 
 mod line;
@@ -22,6 +22,7 @@ use crate::script_error::{ParseError, ScriptError, ScriptWhy};
 use crate::sort::Sort;
 use crate::statement::{Statement, Unread};
 use bc_base::Items;
+use bc_stack::Target;
 use bc_text::Parts;
 use std::alloc::{AllocError, Global};
 use std::marker::Model;
@@ -33,6 +34,8 @@ pub(crate) struct Reader {
     lines: u32,
     last: Option<Sort>,
     blocks: u32,
+    fallback: bool,
+    targets: Vec<Target>,
     keys: NamedKeys,
     faults: Vec<(u16, u32)>,
     /// The sections that have ended.
@@ -54,6 +57,8 @@ impl Model for Reader {
     ghost view = { λ r. record {
       last = r.last;
       blocks = r.blocks;
+      fallback = r.fallback;
+      targets = r.targets.items;
       keys = r.keys;
       faults = r.faults.items;
       threads = r.threads.items;
@@ -63,6 +68,8 @@ impl Model for Reader {
     ghost invariant = { λ r. IsReading (record {
       last = r.last;
       blocks = r.blocks;
+      fallback = r.fallback;
+      targets = r.targets.items;
       keys = r.keys;
       faults = r.faults.items;
       threads = r.threads.items;
@@ -79,6 +86,8 @@ impl Reader {
             lines: 0,
             last: None,
             blocks: 0,
+            fallback: true,
+            targets: Vec::new(alloc),
             keys: NamedKeys::new(alloc),
             faults: Vec::new(alloc),
             threads: Vec::new(alloc),
@@ -137,10 +146,11 @@ impl Reader {
                 self.add_disk(blocks);
                 Ok(())
             }
-            Statement::Fallback => {
-                self.add_fallback();
+            Statement::Fallback(on) => {
+                self.add_fallback(on);
                 Ok(())
             }
+            Statement::Device(device) => self.add_device(device),
             Statement::Key(named) => self.add_key(alloc, named),
             Statement::Fault(fault) => self.add_fault(fault),
             Statement::Thread => self.end_section(alloc, Sort::Thread),
@@ -167,12 +177,24 @@ impl Reader {
         self.lines += 1;
     }
 
-    fn add_fallback(&mut self)
+    fn add_fallback(&mut self, on: bool)
         requires { may_follow self.old.last sorts.Fallback ≡ true }
-        ensures { self.new ≡ with_statement self.old statements.Fallback }
+        ensures { self.new ≡ with_statement self.old (statements.Fallback on) }
     {
         self.last = Some(Sort::Fallback);
+        self.fallback = on;
         self.lines += 1;
+    }
+
+    fn add_device(&mut self, device: Target) -> Result<(), AllocError>
+        requires follows { may_follow self.old.last sorts.Device ≡ true }
+        requires fits { FitsDevice self.old device }
+        ensures { OnOk result (self.new ≡ with_statement self.old (statements.Device device)) }
+    {
+        self.targets.push(device)?;
+        self.last = Some(Sort::Device);
+        self.lines += 1;
+        Ok(())
     }
 
     fn add_key(&mut self, alloc: Global, named: NamedKey) -> Result<(), AllocError>
@@ -218,6 +240,7 @@ impl Reader {
         requires sort { EndsSection sort }
         requires follows { may_follow self.old.last sort ≡ true }
         requires closed { IsClosed self.old }
+        requires whole { AreWhole self.old }
         requires room { HasRoomFor self.old sort }
         ensures { OnOk result (self.new ≡ with_section_ended self.old sort) }
     {
@@ -229,7 +252,7 @@ impl Reader {
     }
 
     /// The script, whose last line has been read, and which has nothing after it but this.
-    pub(crate) fn finish(self, alloc: Global, rest: Parts) -> Result<Script, ParseError>
+    pub(crate) fn finish(self, rest: Parts) -> Result<Script, ParseError>
         ensures ok { IfOk result (IsWhole self rest.entry) }
         ensures bad { IfErr result (ReportsNext self (error_at_end (forms_read self) rest.entry)) }
     {
@@ -239,17 +262,19 @@ impl Reader {
                 why: ScriptWhy::End,
             }));
         }
-        Ok(self.into_script(alloc))
+        Ok(self.into_script())
     }
 
     /// The script whose last line has been read.
-    fn into_script(self, alloc: Global) -> Script
+    fn into_script(self) -> Script
         requires { self.last ≡ Some sorts.End }
         ensures valid { IsScript result }
         ensures lines { script_lines result ≡ lines_read self }
     {
         let Reader {
             blocks,
+            fallback,
+            targets,
             keys,
             faults,
             threads,
@@ -257,7 +282,8 @@ impl Reader {
         } = self;
         Script::new(
             blocks,
-            Items::new(alloc),
+            fallback,
+            Items::from_vec(targets),
             keys.into_items(),
             Items::from_vec(faults),
             Items::from_vec(threads),

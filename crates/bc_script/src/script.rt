@@ -8,7 +8,7 @@ use bc_base::Items;
 use bc_stack::Target;
 use std::marker::Model;
 
-/// A script: a disk, its keys, the faults that are planned, and for each thread the section of its operations. It keeps
+/// A script: a disk, its devices, its keys, the faults that are planned, and for each thread the section of its operations. It keeps
 /// the rules of the script language by its type, so each script has a text.
 #[derive(Drop)]
 pub struct Script {
@@ -38,19 +38,32 @@ impl Script {
     /// A script that keeps the rules.
     pub(crate) fn new(
         blocks: u32,
+        fallback: bool,
         targets: Items<Target>,
         keys: Items<NamedKey>,
         faults: Items<(u16, u32)>,
         threads: Items<Items<Op>>,
     ) -> Script
-        requires { specs.IsScript
-            (record { blocks = blocks; fallback = true; targets = targets; keys = keys; faults = faults; threads = threads }) }
-        ensures { result
-            ≡ record { blocks = blocks; fallback = true; targets = targets; keys = keys; faults = faults; threads = threads } }
+        requires { specs.IsScript (record {
+          blocks = blocks;
+          fallback = fallback;
+          targets = targets;
+          keys = keys;
+          faults = faults;
+          threads = threads;
+        }) }
+        ensures { result ≡ record {
+          blocks = blocks;
+          fallback = fallback;
+          targets = targets;
+          keys = keys;
+          faults = faults;
+          threads = threads;
+        } }
     {
         Script {
             blocks,
-            fallback: true,
+            fallback,
             targets,
             keys,
             faults,
@@ -66,7 +79,8 @@ impl Script {
         self.blocks
     }
 
-    /// Whether software enciphers what no device can. It is so in each script for now.
+    /// Whether software enciphers what no device can. Where it doesn't, a bio whose key isn't supported by each device is
+    /// refused.
     pub fn fallback(&self) -> bool
         ensures value { result ≡ self.now.fallback }
         ensures rules { specs.IsScript self.now }
@@ -74,7 +88,8 @@ impl Script {
         self.fallback
     }
 
-    /// The devices, in the order of their blocks. There are none as long as their lines aren't built.
+    /// The devices, in the order of their blocks, at most 8: each with its first block and its number of blocks (of 4096
+    /// bytes), its 1 to 32 keyslots, and what it supports. Where there are some, they cover the disk.
     pub fn targets(&self) -> &[Target]
         ensures value { result.now ≡ self.now.targets }
         ensures rules { specs.IsScript self.now }

@@ -9,6 +9,8 @@ pub(crate) enum Sort {
     Disk,
     /// Whether software does what no device can.
     Fallback,
+    /// A device.
+    Device,
     /// A key.
     Key,
     /// A planned fault.

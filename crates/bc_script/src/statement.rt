@@ -3,6 +3,7 @@
 use crate::named_key::NamedKey;
 use crate::op::Op;
 use crate::script_error::ScriptWhy;
+use bc_stack::Target;
 use std::alloc::{AllocError, AllocFailed};
 use thiserror::Error;
 
@@ -12,7 +13,9 @@ pub(crate) enum Statement {
     Version,
     /// How many blocks the disk has.
     Disk(u32),
-    Fallback,
+    /// Whether software does what no device can.
+    Fallback(bool),
+    Device(Target),
     Key(NamedKey),
     /// A shard, and a place in its order.
     Fault((u16, u32)),

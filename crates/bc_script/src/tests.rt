@@ -1,13 +1,17 @@
 //! Texts and what is wrong with them, by the rules of the language.
 
 use super::*;
-use bc_key::KeyNo;
+use bc_key::{Caps, KeyError, KeyNo};
+use bc_stack::Target;
 use std::alloc::Global;
 use std::process::Abort;
 use std::test::Fail;
 
 /// The first three lines.
 const HEAD: &str = "blkcrypt 1\ndisk 1\nfallback on\n";
+
+/// The first three lines, of a disk of three blocks.
+const THREE_BLOCKS: &str = "blkcrypt 1\ndisk 3\nfallback on\n";
 
 /// The bytes 00 to 3f.
 const DIGITS: &str =
@@ -95,6 +99,10 @@ fn the_first_lines(rt: HostRuntime) -> Result<(), Fail> {
             "blkcrypt 1\ndisk 1\ndisk 1\n",
             "blkcrypt 1\ndisk 1\nfallback off x\n",
             "blkcrypt 1\ndisk 1\nfallback yes\n",
+            "blkcrypt 1\ndisk 1\nfallback\n",
+            "blkcrypt 1\ndisk 1\nfallback \n",
+            "blkcrypt 1\ndisk 1\nfallback on off\n",
+            "blkcrypt 1\ndisk 1\ndevice 0 1 1 1 0 8\n",
             "blkcrypt 1\ndisk 1\nend\n",
         ],
     )?;
@@ -102,15 +110,18 @@ fn the_first_lines(rt: HostRuntime) -> Result<(), Fail> {
         &rt,
         rt.alloc(),
         "",
-        bad(3, ScriptWhy::NotBuilt),
-        &["blkcrypt 1\ndisk 1\nfallback off\n"],
+        bad(3, ScriptWhy::End),
+        &[
+            "blkcrypt 1\ndisk 1\nfallback on",
+            "blkcrypt 1\ndisk 1\nfallback off",
+        ],
     )?;
     fail_after(
         &rt,
         rt.alloc(),
         "",
-        bad(3, ScriptWhy::End),
-        &["blkcrypt 1\ndisk 1\nfallback on"],
+        bad(4, ScriptWhy::End),
+        &["blkcrypt 1\ndisk 1\nfallback off\n"],
     )
 }
 
@@ -195,41 +206,302 @@ fn the_end(rt: HostRuntime) -> Result<(), Fail> {
     )
 }
 
+/// Line 4, directly after the first three ones, of a disk of one block.
 #[test]
-fn lines_that_are_not_built(rt: HostRuntime) -> Result<(), Fail> {
+fn the_fields_of_devices(rt: HostRuntime) -> Result<(), Fail> {
     fail_after(
         &rt,
         rt.alloc(),
         HEAD,
-        bad(4, ScriptWhy::NotBuilt),
-        &["device 0 1 1 1 0 8\n", "device\n"],
-    )?;
-    fail_after(
-        &rt,
-        rt.alloc(),
-        HEAD,
-        bad(5, ScriptWhy::Word),
+        bad(4, ScriptWhy::Word),
         &[
-            "thread\ndevice 0 1 1 1 0 8\n",
-            "fault 0 1\ndevice 0 1 1 1 0 8\n",
+            "device\n",
+            "device 0 1 1 1 0\n",
+            "device 0 1 1 1 0 8 \n",
+            "device 0 1 1 1 0 8 0\n",
+            "devices 0 1 1 1 0 8\n",
+            "mmc 0 1 1 1 0 4\n",
+            "fallback off\n",
         ],
     )?;
     fail_after(
         &rt,
         rt.alloc(),
         HEAD,
-        bad(4, ScriptWhy::Word),
-        &["fallback off\n"],
+        bad(4, ScriptWhy::Number),
+        &[
+            "device 16384 1 1 1 0 8\n",
+            "device 00 1 1 1 0 8\n",
+            "device  1 1 1 0 8\n",
+            "device 0 0 1 1 0 8\n",
+            "device 0 16385 1 1 0 8\n",
+            "device 0 x 1 1 0 8\n",
+            "device 0 1 0 1 0 8\n",
+            "device 0 1 33 1 0 8\n",
+            "device 0 1 1 16 0 8\n",
+            "device 0 1 1 01 0 8\n",
+            "device 0 1 1 1 16 8\n",
+            "device 0 1 1 1 256 8\n",
+            "device 0 1 1 1 0 0\n",
+            "device 0 1 1 1 0 9\n",
+            "device 0 1 1 1 0 4294967304\n",
+        ],
     )?;
-    let alloc = rt.alloc();
-    let prefix = format!(in alloc; "{HEAD}key a aes-256-xts 512 8 {DIGITS}\n")?;
+    pass_after(
+        &rt,
+        rt.alloc(),
+        HEAD,
+        &["device 0 1 1 0 0 1\nend\n", "device 0 1 32 15 15 8\nend\n"],
+    )
+}
+
+/// Line 4, of a disk of one block. A field is looked at before the first block is compared.
+#[test]
+fn a_device_begins_at_the_end_of_the_one_before_it(rt: HostRuntime) -> Result<(), Fail> {
     fail_after(
         &rt,
         rt.alloc(),
-        &prefix,
-        bad(5, ScriptWhy::Word),
-        &["device 0 1 1 1 0 8\n"],
+        HEAD,
+        bad(4, ScriptWhy::Device),
+        &["device 1 1 1 1 0 8\n", "device 16383 1 1 1 0 8\n"],
+    )?;
+    fail_after(
+        &rt,
+        rt.alloc(),
+        HEAD,
+        bad(4, ScriptWhy::Number),
+        &["device 1 1 1 16 0 8\n", "device 1 1 1 1 0 9\n"],
+    )?;
+    fail_after(
+        &rt,
+        rt.alloc(),
+        THREE_BLOCKS,
+        bad(5, ScriptWhy::Device),
+        &[
+            "device 0 2 1 1 0 8\ndevice 1 1 1 1 0 8\n",
+            "device 0 2 1 1 0 8\ndevice 3 1 1 1 0 8\n",
+            "device 0 2 1 1 0 8\ndevice 0 1 1 1 0 8\n",
+            "device 0 3 1 1 0 8\ndevice 0 3 1 1 0 8\n",
+        ],
+    )?;
+    pass_after(
+        &rt,
+        rt.alloc(),
+        THREE_BLOCKS,
+        &[
+            "device 0 2 1 1 0 8\ndevice 2 1 1 1 0 8\nend\n",
+            "device 0 1 1 1 0 8\ndevice 1 1 1 1 0 8\ndevice 2 1 1 1 0 8\nend\n",
+        ],
     )
+}
+
+/// Devices that have fewer blocks than the disk, or more, are found at the first line after them, whatever it is, behind
+/// its other tests.
+#[test]
+fn devices_have_the_blocks_of_the_disk(rt: HostRuntime) -> Result<(), Fail> {
+    let alloc = rt.alloc();
+    let key = format!(in alloc; "key a aes-256-xts 512 8 {DIGITS}\n")?;
+    let twice = format!(in alloc;
+        "key a aes-256-xts 512 8 {DIGITS}\nkey a aes-256-xts 512 8 {DIGITS}\n"
+    )?;
+    let size = format!(in alloc; "key a aes-128-cbc-essiv 512 8 {DIGITS}\n")?;
+    let digits = format!(in alloc; "key a aes-256-xts 512 8 {DIGITS}0\n")?;
+    let unit = format!(in alloc; "key a aes-256-xts 0512 8 {DIGITS}\n")?;
+    let name = format!(in alloc; "key A aes-256-xts 512 8 {DIGITS}\n")?;
+    let mode = format!(in alloc; "key a aes-256-xtr 512 8 {DIGITS}\n")?;
+    for devices in [
+        "device 0 2 1 1 0 8\n",
+        "device 0 4 1 1 0 8\n",
+        "device 0 16384 1 1 0 8\n",
+    ] {
+        let prefix = format!(in alloc; "{THREE_BLOCKS}{devices}")?;
+        fail_after(
+            &rt,
+            alloc,
+            &prefix,
+            bad(5, ScriptWhy::Device),
+            &["end\n", "thread\nplug\nend\n", "fault 0 0\n", &key, &twice],
+        )?;
+        fail_after(
+            &rt,
+            alloc,
+            &prefix,
+            bad(5, ScriptWhy::End),
+            &["", "end", "thread"],
+        )?;
+        fail_after(
+            &rt,
+            alloc,
+            &prefix,
+            bad(5, ScriptWhy::Word),
+            &["plug\n", "end 0\n", "fault 0\n", "fallback on\n", &mode],
+        )?;
+        fail_after(
+            &rt,
+            alloc,
+            &prefix,
+            bad(5, ScriptWhy::Number),
+            &["fault 64 0\n", &unit],
+        )?;
+        fail_after(&rt, alloc, &prefix, bad(5, ScriptWhy::Name), &[&name])?;
+        fail_after(&rt, alloc, &prefix, bad(5, ScriptWhy::Hex), &[&digits])?;
+        fail_after(
+            &rt,
+            alloc,
+            &prefix,
+            bad(5, ScriptWhy::Key(KeyError::Size { want: 16, got: 64 })),
+            &[&size],
+        )?;
+    }
+    let prefix = format!(in alloc; "{THREE_BLOCKS}device 0 3 1 1 0 8\n")?;
+    fail_after(&rt, alloc, &prefix, bad(6, ScriptWhy::Name), &[&twice])
+}
+
+/// Devices stand behind the first three lines and before all others.
+#[test]
+fn devices_stand_before_keys(rt: HostRuntime) -> Result<(), Fail> {
+    let alloc = rt.alloc();
+    let key = format!(in alloc;
+        "device 0 1 1 1 0 8\nkey a aes-256-xts 512 8 {DIGITS}\ndevice 1 1 1 1 0 8\n"
+    )?;
+    fail_after(
+        &rt,
+        alloc,
+        HEAD,
+        bad(6, ScriptWhy::Word),
+        &[
+            "device 0 1 1 1 0 8\nthread\ndevice 1 1 1 1 0 8\n",
+            "device 0 1 1 1 0 8\nfault 0 1\ndevice 1 1 1 1 0 8\n",
+            &key,
+        ],
+    )?;
+    fail_after(
+        &rt,
+        alloc,
+        HEAD,
+        bad(5, ScriptWhy::Word),
+        &["thread\ndevice x\n", "fault 0 1\ndevice 0 1 1 1 0 8\n"],
+    )
+}
+
+/// Eight devices are read, each in its place, and printed as they were written. A ninth is one too many, but its first
+/// block is compared before.
+#[test]
+fn as_many_devices_as_there_may_be(rt: HostRuntime) -> Result<(), Fail> {
+    let alloc = rt.alloc();
+    let mut text = format!(in alloc; "blkcrypt 1\ndisk 36\nfallback off\n")?;
+    let mut first = 0u32;
+    for n in 1u32..9 {
+        let line = format!(in alloc; "device {first} {n} 3{n} 1{n} {n} {n}\n")?;
+        if n < 3 {
+            text.push_str(&line)?;
+        } else {
+            let line = format!(in alloc; "device {first} {n} {n} {n} 1 {n}\n")?;
+            text.push_str(&line)?;
+        }
+        first += n;
+    }
+    fail_after(
+        &rt,
+        alloc,
+        &text,
+        bad(12, ScriptWhy::Limit),
+        &["device 36 1 1 1 0 8\n", "device 36 16384 1 1 0 8\n"],
+    )?;
+    fail_after(
+        &rt,
+        alloc,
+        &text,
+        bad(12, ScriptWhy::Device),
+        &["device 35 1 1 1 0 8\n", "device 0 1 1 1 0 8\n"],
+    )?;
+    fail_after(
+        &rt,
+        alloc,
+        &text,
+        bad(12, ScriptWhy::Number),
+        &["device 36 0 1 1 0 8\n"],
+    )?;
+    text.push_str("end\n")?;
+    let script = parse(alloc, text.as_bytes())?;
+    assert_eq!(rt; script.fallback(), false);
+    assert_eq!(rt; script.targets().len(), 8);
+    let wanted = Target {
+        first: 1,
+        blocks: 2,
+        slots: 32,
+        caps: Caps {
+            xts: 12,
+            essiv: 2,
+            max_dun_bytes: 2,
+        },
+    };
+    assert_eq!(rt; script.targets().get(1).copied(), Some(wanted));
+    let printed = print(alloc, &script)?;
+    assert_eq!(rt; printed.as_slice(), text.as_bytes());
+    Ok(())
+}
+
+/// Line 7, in the section of a script with two devices.
+#[test]
+fn a_reset_names_a_device(rt: HostRuntime) -> Result<(), Fail> {
+    let alloc = rt.alloc();
+    let prefix = format!(in alloc;
+        "{THREE_BLOCKS}device 0 2 1 1 0 8\ndevice 2 1 1 1 0 8\nthread\n"
+    )?;
+    fail_after(
+        &rt,
+        alloc,
+        &prefix,
+        bad(7, ScriptWhy::Number),
+        &[
+            "reset 2\n",
+            "reset 01\n",
+            "reset \n",
+            "reset -\n",
+            "reset 256\n",
+            "reset 4294967296\n",
+        ],
+    )?;
+    fail_after(
+        &rt,
+        alloc,
+        &prefix,
+        bad(7, ScriptWhy::Word),
+        &["reset\n", "reset 0 1\n"],
+    )?;
+    pass_after(
+        &rt,
+        alloc,
+        &prefix,
+        &["reset 0\nreset 1\nend\n", "plug\nreset 1\nunplug\nend\n"],
+    )
+}
+
+/// Software may do nothing, with devices and without them, and a script says so again when it is printed.
+#[test]
+fn the_fallback_may_be_off(rt: HostRuntime) -> Result<(), Fail> {
+    let alloc = rt.alloc();
+    for (text, fallback, devices) in [
+        ("blkcrypt 1\ndisk 1\nfallback off\nend\n", false, 0),
+        (
+            "blkcrypt 1\ndisk 1\nfallback off\ndevice 0 1 1 1 0 8\nend\n",
+            false,
+            1,
+        ),
+        (
+            "blkcrypt 1\ndisk 1\nfallback on\ndevice 0 1 1 1 0 8\nend\n",
+            true,
+            1,
+        ),
+    ] {
+        let script = parse(alloc, text.as_bytes())?;
+        assert_eq!(rt; script.fallback(), fallback);
+        assert_eq!(rt; script.targets().len(), devices);
+        let printed = print(alloc, &script)?;
+        assert_eq!(rt; printed.as_slice(), text.as_bytes());
+    }
+    Ok(())
 }
 
 /// Line 4, directly after the first three ones.

@@ -103,6 +103,37 @@ fn sections_follow_one_another(rt: HostRuntime) -> Result<(), Fail> {
 }
 
 #[test]
+fn a_device_has_its_line(rt: HostRuntime) -> Result<(), Fail> {
+    let first = Target {
+        first: 0,
+        blocks: 16384,
+        slots: 32,
+        caps: Caps {
+            xts: 15,
+            essiv: 0,
+            max_dun_bytes: 8,
+        },
+    };
+    let second = Target {
+        first: 4294967295,
+        blocks: 7,
+        slots: 65535,
+        caps: Caps {
+            xts: 0,
+            essiv: 255,
+            max_dun_bytes: 16,
+        },
+    };
+    let mut text = Vec::new(rt.alloc());
+    put_devices(&mut text, &[first, second])?;
+    assert_eq!(rt;
+        text.as_slice(),
+        b"device 0 16384 32 15 0 8\ndevice 4294967295 7 65535 0 255 16\n".as_slice()
+    );
+    Ok(())
+}
+
+#[test]
 fn a_planned_fault_has_its_line(rt: HostRuntime) -> Result<(), Fail> {
     let mut text = Vec::new(rt.alloc());
     put_faults(&mut text, &[(3, 17), (65535, 4294967295)])?;
@@ -118,6 +149,7 @@ fn a_script_without_a_key_is_printed(rt: HostRuntime) -> Result<(), Fail> {
     let alloc = rt.alloc();
     let script = Script::new(
         16384,
+        true,
         Items::new(alloc),
         Items::new(alloc),
         Items::new(alloc),

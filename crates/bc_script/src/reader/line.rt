@@ -10,17 +10,19 @@ ghost use Rattle.bc_script.specs.Script.{IsContext, bare_keys, is_before, unit_c
 ghost use Rattle.bc_script.specs.ScriptText.{dash};
 ghost use Rattle.bc_script.specs.Forms as forms;
 ghost use Rattle.bc_script.specs.ScriptErrors.{error_at, is_declared, is_number};
-ghost use Rattle.bc_script.specs.Progress.{IsProgress, forms_read, sections_read};
+ghost use Rattle.bc_script.specs.Progress.{IsProgress, blocks_of, is_whole, forms_read, sections_read};
 ghost use Rattle.bc_script.specs.Says.{SaysNumber};
-ghost use Rattle.bc_script.specs.Lent.{key_lent, fault_lent, bio_lent, text_lent, form_lent};
+ghost use Rattle.bc_script.specs.Lent.{device_lent, key_lent, fault_lent, bio_lent, text_lent, form_lent};
 ghost use Rattle.bc_script.specs.Statements.{IsNext, DashesAgree, ReadsForm, Reports, Refuses, is_after};
+ghost use Rattle.bc_script.specs.DeviceFields.{SaysDevice, RefusesDevice};
 ghost use Rattle.bc_script.specs.BioFields.{IsNewName, IsDeclared, SaysKey, SaysBio, RefusesBio, context_with};
 
 use super::{Reader, is_end, is_in_section};
-use crate::form::{self, BioForm, FaultForm, Form, KeyForm, TextForm};
+use crate::form::{self, BioForm, DeviceForm, FaultForm, Form, KeyForm, TextForm};
 use crate::limits::{
-    LAST_ACCESS, LAST_SHARD, MAX_BIO_SECTORS, MAX_BIO_UNITS, MAX_BLOCKS, MAX_FAULTS, MAX_KEYS,
-    MAX_OPS, MAX_THREADS, MAX_UNITS,
+    LAST_ACCESS, LAST_BLOCK, LAST_SHARD, MAX_BIO_SECTORS, MAX_BIO_UNITS, MAX_BLOCKS,
+    MAX_DEVICE_DUN_BYTES, MAX_DEVICES, MAX_FAULTS, MAX_KEYS, MAX_OPS, MAX_SLOTS, MAX_THREADS,
+    MAX_UNIT_MASK, MAX_UNITS,
 };
 use crate::name::Name;
 use crate::named_key::NamedKey;
@@ -31,7 +33,8 @@ use crate::statement::{Statement, Unread};
 use crate::{field, order};
 use bc_base::SECTOR_BYTES;
 use bc_bio::Context;
-use bc_key::{Dun, Key, KeyNo};
+use bc_key::{Caps, Dun, Key, KeyNo};
+use bc_stack::Target;
 use bc_text::Parts;
 use std::alloc::Global;
 
@@ -53,9 +56,6 @@ impl Reader {
         if is_end(last) {
             return Err(Unread::Bad(ScriptWhy::End));
         }
-        if order::is_unbuilt(last, &line) {
-            return Err(Unread::Bad(ScriptWhy::NotBuilt));
-        }
         let Some(form) = form::form_of(line) else {
             return Err(Unread::Bad(ScriptWhy::Word));
         };
@@ -73,18 +73,51 @@ impl Reader {
         match form {
             Form::Version => Ok(Statement::Version),
             Form::Disk(blocks) => disk(blocks),
-            Form::Fallback => Ok(Statement::Fallback),
+            Form::Fallback(on) => Ok(Statement::Fallback(on)),
+            Form::Device(device) => self.device(device),
             Form::Key(key) => self.key(key),
             Form::Fault(fault) => self.fault(fault),
             Form::Thread => self.thread(),
             Form::Write(bio, text) => self.write(alloc, bio, text),
             Form::Read(bio) => self.read(bio),
             Form::Evict(name) => self.evict(name),
-            Form::Reset(_) => Err(Unread::Bad(ScriptWhy::Number)),
+            Form::Reset(device) => self.reset(device),
             Form::Plug => self.plug(),
             Form::Unplug => self.unplug(),
             Form::End => self.end(),
         }
+    }
+
+    fn device(&self, form: DeviceForm) -> Result<Statement, Unread>
+        ensures { ReadsForm self.now (forms.Device (device_lent form.entry)) result }
+    {
+        let device = device_of(form)?;
+        if device.first != self.end_of_devices() {
+            return Err(Unread::Bad(ScriptWhy::Device));
+        }
+        if self.targets.len() >= MAX_DEVICES {
+            return Err(Unread::Bad(ScriptWhy::Limit));
+        }
+        Ok(Statement::Device(device))
+    }
+
+    /// The first block after the devices.
+    fn end_of_devices(&self) -> u32
+        ensures end { result ≡ blocks_of self.now.targets }
+        ensures rules { IsProgress self.now }
+    {
+        match self.targets.last() {
+            Some(last) => last.first + last.blocks,
+            None => 0,
+        }
+    }
+
+    /// Whether the devices, if there are any, have the disk's blocks together.
+    fn are_whole(&self) -> bool
+        ensures test { result ≡ is_whole self.now }
+        ensures rules { IsProgress self.now }
+    {
+        self.targets.is_empty() || self.end_of_devices() == self.blocks
     }
 
     fn key(&self, form: KeyForm) -> Result<Statement, Unread>
@@ -100,6 +133,9 @@ impl Reader {
             Ok(key) => key,
             Err(error) => return Err(Unread::Bad(ScriptWhy::Key(error))),
         };
+        if !self.are_whole() {
+            return Err(Unread::Bad(ScriptWhy::Device));
+        }
         if self.keys.len() >= MAX_KEYS {
             return Err(Unread::Bad(ScriptWhy::Limit));
         }
@@ -130,6 +166,9 @@ impl Reader {
         if !is_after(self.faults.as_slice(), fault) {
             return Err(Unread::Bad(ScriptWhy::Order));
         }
+        if !self.are_whole() {
+            return Err(Unread::Bad(ScriptWhy::Device));
+        }
         if self.faults.len() >= MAX_FAULTS {
             return Err(Unread::Bad(ScriptWhy::Limit));
         }
@@ -141,6 +180,9 @@ impl Reader {
     {
         if self.plugged {
             return Err(Unread::Bad(ScriptWhy::Order));
+        }
+        if !self.are_whole() {
+            return Err(Unread::Bad(ScriptWhy::Device));
         }
         if self.section_count() >= MAX_THREADS {
             return Err(Unread::Bad(ScriptWhy::Limit));
@@ -283,6 +325,16 @@ impl Reader {
         Ok(Statement::Operation(Op::Evict(key)))
     }
 
+    fn reset(&self, device: &[u8]) -> Result<Statement, Unread>
+        ensures { ReadsForm self.now (forms.Reset device.now) result }
+    {
+        let device = field::number_below(device, self.targets.len() as u32)?;
+        if !self.has_room() {
+            return Err(Unread::Bad(ScriptWhy::Limit));
+        }
+        Ok(Statement::Operation(Op::Reset(device as u8)))
+    }
+
     fn plug(&self) -> Result<Statement, Unread>
         ensures { ReadsForm self.now forms.Plug result }
     {
@@ -313,6 +365,9 @@ impl Reader {
         if self.plugged {
             return Err(Unread::Bad(ScriptWhy::Order));
         }
+        if !self.are_whole() {
+            return Err(Unread::Bad(ScriptWhy::Device));
+        }
         Ok(Statement::End)
     }
 }
@@ -323,6 +378,29 @@ fn disk(blocks: &[u8]) -> Result<Statement, Unread>
         (Refuses (is_number 1 max_blocks blocks.now) why.Number) }
 {
     Ok(Statement::Disk(field::number(blocks, 1, MAX_BLOCKS)?))
+}
+
+/// The device that the fields of a line say.
+fn device_of(form: DeviceForm) -> Result<Target, Unread>
+    ensures { MatchResult result (SaysDevice (device_lent form.entry)) (RefusesDevice (device_lent form.entry)) }
+{
+    let first = field::number(form.first, 0, LAST_BLOCK)?;
+    let blocks = field::number(form.blocks, 1, MAX_BLOCKS)?;
+    let slots = field::number(form.slots, 1, MAX_SLOTS as u32)?;
+    let xts = field::number(form.xts, 0, MAX_UNIT_MASK)?;
+    let essiv = field::number(form.essiv, 0, MAX_UNIT_MASK)?;
+    let dun_bytes = field::number(form.dun_bytes, 1, MAX_DEVICE_DUN_BYTES)?;
+    let caps = Caps {
+        xts: xts as u8,
+        essiv: essiv as u8,
+        max_dun_bytes: dun_bytes as u8,
+    };
+    Ok(Target {
+        first,
+        blocks,
+        slots: slots as u16,
+        caps,
+    })
 }
 
 /// Whether a fault comes after the last of these, if there is one.

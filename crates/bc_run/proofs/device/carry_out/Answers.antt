@@ -1,7 +1,7 @@
 use Rattle.std.proofs.Common.{sym, subst, ap, ◌≡◌, ◌∙◌, ◌+◌, ◌++◌, ◌∷◌, List, [], refl, arith, length, take, rules}
 use Rattle.std.proofs.lemmas.List.{take_all}
 use Rattle.std.specs.List.{enumerate_from}
-use Rattle.bc_script.specs.Script.{Script, keys_of, IsOp}
+use Rattle.bc_script.specs.Script.{Script, IsScriptOp}
 use Rattle.bc_report.specs.declared.answer.Answer.{Answer}
 use Rattle.bc_run.specs.Sections.{Carries}
 use Rattle.bc_run.proofs.Lists.{all_read}
@@ -31,9 +31,9 @@ loop-op-preserved g c =
 pub carry_out_one-requires-clause-rules : goal.carry_out_one-requires-clause-rules
 carry_out_one-requires-clause-rules g c =
     let d = g.D.Device.facts in
-    subst (λ (s : Script). IsOp (keys_of s) c.index-section-op.result)
+    subst (λ (s : Script). IsScriptOp s c.index-section-op.result)
     (sym (same_script (d c.args.device.now) (d c.loop-op.device) (enumerate_from 0 (take c.loop-op.op c.args.section.now)) c.loop-op.answers.items c.loop-op.invariant.carried))
-    (all_read (IsOp (keys_of (d c.args.device.now).script)) c.args.section.now c.loop-op.op c.index-section-op.result c.requires.rules c.loop-op-test.true c.index-section-op.is)
+    (all_read (IsScriptOp (d c.args.device.now).script) c.args.section.now c.loop-op.op c.index-section-op.result c.requires.rules c.loop-op-test.true c.index-section-op.is)
 
 pub carry_out_one-requires-clause-spare : goal.carry_out_one-requires-clause-spare
 carry_out_one-requires-clause-spare g c =
