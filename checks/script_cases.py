@@ -584,7 +584,7 @@ def agrees(wanted, found):
 
 def wrong(modelled):
     """The names of the cases that a model answers otherwise, and what it answers."""
-    if len({kind for *_, kind in documented()}) != 9:
+    if len({kind for *_, kind in documented()}) != 10:
         yield "the examples of errors of docs/SCRIPT.md, of which there is one at least of each kind", ()
     for name, text, line, kind in REFUSED:
         if modelled(text) != (2, b"", f"blkcrypt: script line {line}: {kind}\n".encode()):
