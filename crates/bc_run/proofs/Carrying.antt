@@ -1,13 +1,13 @@
 -- Operations that are carried out one after the other.
-use Rattle.std.proofs.Common.{◌≡◌, ℕ, zero, suc, ◌⊎◌, take, get_or, ◌+◌, ◌<◌, ◌≤◌, ◌^◌, Bool, true, false, List, [], ◌∷◌, ◌++◌, length, map, append-nil, refl, sym, ap, subst, ◌∙◌, arith, Option, Some, None}
-use Rattle.std.specs.Prelude.{flat_map, MatchOption, IsTrue, ◌==◌, ◌&&◌, nat_lt, sum_by}
-use Rattle.std.specs.List.{AllZip, AllByRecursion, enumerate_from, range_with_len}
+use Rattle.std.proofs.Common.{◌≡◌, ℕ, zero, suc, take, get_or, ◌+◌, ◌<◌, ◌≤◌, false, List, [], ◌∷◌, ◌++◌, length, map, append-nil, refl, sym, ap, subst, ◌∙◌, arith, Option, Some, None}
+use Rattle.std.specs.Prelude.{flat_map, MatchOption, ◌==◌, ◌&&◌, nat_lt}
+use Rattle.std.specs.List.{enumerate_from, range_with_len}
 use Rattle.std.proofs.Math.Logic.{⊎_elim}
 use Rattle.std.proofs.lemmas.Bool.{ne_eqb, and_left, and_right}
 use Rattle.std.proofs.lemmas.List.Sums.{sum_by-append, sum_by-cons}
 use Rattle.std.proofs.lemmas.List.{length-take}
 use Rattle.std.proofs.lemmas.Grind.{flat_map-append}
-use Rattle.std.proofs.lemmas.Option.{none-some, same_Some}
+use Rattle.std.proofs.lemmas.Option.{none-some}
 use Rattle.bc_base.specs.Lists.{list_at}
 use Rattle.bc_base.specs.Story.{StartsWith}
 use Rattle.bc_key.specs.KeyData.{KeyData}
@@ -31,9 +31,9 @@ use Rattle.bc_report.specs.declared.answer.Answer.{Answer}
 use Rattle.bc_report.specs.declared.answer.Answer.TheVariants as answers
 use Rattle.bc_report.specs.Answers.{answer_of_outcome, IsOwnWord}
 use Rattle.bc_report.specs.Report.{IsAnswer}
-use Rattle.bc_compose.specs.SectionDone.{SaysItsWay, IsBioAnswer, IsReply, SectionDone}
+use Rattle.bc_compose.specs.SectionDone.{SaysItsWay, IsBioAnswer, IsReply}
 use Rattle.bc_run.specs.Sections.{DeviceData, IsEvicted, Carries, CarriesOne, units_in}
-use Rattle.bc_run.proofs.Lists.{In, in_of_flat_map, in_of_map, in_append_cases, all_of, all_append, all_at, zip_append, zip_more, take_next, enumerate_push}
+use Rattle.bc_run.proofs.Lists.{In, in_of_flat_map, in_of_map, all_of, all_append, zip_append, zip_more, take_next, enumerate_push}
 use Rattle.bc_run.proofs.Growing.{grows_none, grows_append, goes_none, goes_append, attempts_append, attempts_fresh, failed_are}
 
 -- ---- the units of an operation have its number

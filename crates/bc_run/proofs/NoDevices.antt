@@ -1,18 +1,16 @@
 -- What holds as no script has devices: no key is inline, no entry names a slot, and no journal has an event.
-use Rattle.std.proofs.Common.{◌≡◌, ℕ, zero, suc, ◌+◌, ◌<◌, ◌≤◌, Bool, true, false, cond, List, [], ◌∷◌, ◌++◌, length, refl, sym, ap, subst, ◌∙◌, arith, Option, Some, None}
+use Rattle.std.proofs.Common.{◌≡◌, ℕ, ◌+◌, ◌≤◌, Bool, true, false, cond, List, [], ◌∷◌, refl, sym, ap, subst, ◌∙◌, arith, Option, Some, None}
 use Rattle.std.specs.Prelude.{◌==◌, ◌&&◌, ◌||◌, zip, filter_map, count_by, IsTrue, AllPairs, option_and_then, unwrap_or}
 use Rattle.std.specs.List.{AllZip, AllByRecursion, enumerate_from, cons_option}
 use Rattle.std.specs.Option.{option_map_or}
 use Rattle.std.proofs.lemmas.Bool.{true≢false}
 use Rattle.std.proofs.lemmas.List.Sums.{sum_by-cons}
-use Rattle.bc_base.specs.Lists.{Each}
 use Rattle.bc_key.specs.KeyData.{KeyData}
 use Rattle.bc_key.specs.KeyList.{key_at}
 use Rattle.bc_key.specs.declared.keys.KeyNo.{KeyNo}
 use Rattle.bc_bio.specs.declared.context.Context.{Context}
 use Rattle.bc_bio.specs.declared.extent.Extent.{Extent}
 use Rattle.bc_bio.specs.declared.refusal.BioError.{BioError}
-use Rattle.bc_bio.specs.declared.refusal.Refusal.{Refusal}
 use Rattle.bc_bio.specs.declared.refusal.Refusal.TheVariants as refusals
 use Rattle.bc_bio.specs.Check.{check_of}
 use Rattle.bc_stack.specs.declared.target.Target.{Target}
@@ -24,12 +22,12 @@ use Rattle.bc_medium.specs.declared.via.Via.TheVariants as vias
 use Rattle.bc_script.specs.declared.op.Op.{Op}
 use Rattle.bc_script.specs.declared.op.Op.TheVariants as ops
 use Rattle.bc_script.specs.Script.{Script, IsScript, IsOp, keys_of, sectors_in}
-use Rattle.bc_script.specs.Bios.{is_inline, is_supported, unsupported_of, refusal_of}
-use Rattle.bc_script.specs.Way.{Way, plain, soft, inline, way_of}
+use Rattle.bc_script.specs.Bios.{is_inline, unsupported_of, refusal_of}
+use Rattle.bc_script.specs.Way.{Way, soft, inline, way_of}
 use Rattle.bc_report.specs.declared.answer.Answer.{Answer}
 use Rattle.bc_report.specs.declared.answer.Answer.TheVariants as answers
 use Rattle.bc_report.specs.Counts.{is_reset_of, touches_under, touches_any}
-use Rattle.bc_report.specs.Evictions.{Eviction, eviction_in, evictions_in, names_busy, names_device, names_before, count_answered, IsEvictionAnswer}
+use Rattle.bc_report.specs.Evictions.{Eviction, eviction_in, names_busy, names_device, names_before, count_answered, IsEvictionAnswer}
 use Rattle.bc_report.specs.Programmings.{InlineEntry, entry_by}
 use Rattle.bc_report.specs.SerialRun.{NamesHoldUnder}
 use Rattle.bc_report.specs.Ways.{way_in}

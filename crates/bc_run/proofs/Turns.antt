@@ -1,7 +1,7 @@
 -- Sections that follow one another.
-use Rattle.std.proofs.Common.{◌≡◌, ℕ, zero, suc, ◌+◌, ◌<◌, ◌≤◌, ◌⊎◌, inl, inr, Bool, true, false, List, [], ◌∷◌, ◌++◌, length, take, get_or, append-nil, append_assoc, refl, sym, ap, subst, ◌∙◌, arith, length-append}
+use Rattle.std.proofs.Common.{◌≡◌, ℕ, zero, suc, ◌+◌, ◌<◌, ◌≤◌, List, [], ◌∷◌, ◌++◌, length, take, get_or, append-nil, refl, sym, ap, subst, ◌∙◌, arith, length-append}
 use Rattle.std.specs.Prelude.{◌==◌, filter, flat_map, IsTrue, sum_by}
-use Rattle.std.specs.List.{AllByRecursion, enumerate_from}
+use Rattle.std.specs.List.{AllByRecursion}
 use Rattle.std.proofs.Math.Logic.{⊎_elim}
 use Rattle.std.proofs.lemmas.Bool.{eq-eqb, ne_eqb, cases_lt}
 use Rattle.std.proofs.lemmas.List.{length-take}
@@ -15,16 +15,16 @@ use Rattle.bc_medium.specs.Entries.{caller_of}
 use Rattle.bc_medium.specs.Growth.{lies_in}
 use Rattle.bc_script.specs.declared.op.Op.{Op}
 use Rattle.bc_profile.specs.declared.noted.Noted.{Noted}
-use Rattle.bc_script.specs.Script.{Script, IsScript, IsOp, keys_of, unit_count_of_section}
+use Rattle.bc_script.specs.Script.{IsScript, IsOp, keys_of, unit_count_of_section}
 use Rattle.bc_script.specs.Plan.{units_of_section}
 use Rattle.bc_report.specs.declared.answer.Answer.{Answer}
 use Rattle.bc_report.specs.Evictions.{Eviction, evictions_in, IsEvictionAnswer}
 use Rattle.bc_report.specs.Programmings.{InOrder}
 use Rattle.bc_report.specs.Report.{IsAnswer}
 use Rattle.bc_compose.specs.SectionDone.{SectionDone}
-use Rattle.bc_run.specs.Sections.{DeviceData, Carries, CarriesSection, SectionsDone, units_in}
+use Rattle.bc_run.specs.Sections.{DeviceData, CarriesSection, SectionsDone}
 use Rattle.bc_run.proofs.Lists.{In, in_of_filter, in_of_flat_map, all_at, all_from_in, all_append, from_append, filter_none, filter_all, list_at_left, list_at_last, take_next}
-use Rattle.bc_run.proofs.Growing.{begins_itself, begins_trans, grows_alone, made_by}
+use Rattle.bc_run.proofs.Growing.{begins_itself, begins_trans, made_by}
 use Rattle.bc_run.proofs.Carrying.{units_at}
 use Rattle.bc_run.proofs.NoDevices.{own_key, in_order, evictions_valid, bounds}
 

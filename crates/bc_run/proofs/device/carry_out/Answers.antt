@@ -1,5 +1,4 @@
-use Rattle.std.proofs.Common.{sym, subst, ap, ◌≡◌, ◌∙◌, ◌+◌, ◌++◌, ◌∷◌, List, [], refl, arith, length, take, rules}
-use Rattle.std.proofs.lemmas.List.{take_all}
+use Rattle.std.proofs.Common.{sym, subst, ap, List, [], length, take, rules}
 use Rattle.std.specs.List.{enumerate_from}
 use Rattle.bc_script.specs.Script.{Script, keys_of, IsOp}
 use Rattle.bc_report.specs.declared.answer.Answer.{Answer}

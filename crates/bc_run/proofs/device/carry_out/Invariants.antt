@@ -1,4 +1,4 @@
-use Rattle.std.proofs.Common.{◌≡◌, ◌≤◌, ◌+◌, length, take, vec_capacity}
+use Rattle.std.proofs.Common.{◌≡◌, ◌≤◌, length, take}
 use Rattle.std.specs.List.{enumerate_from}
 use Rattle.bc_run.specs.Sections.{Carries}
 use Rattle.bc_run.proofs.device.carry_out.Given as goal

@@ -1,4 +1,4 @@
-use Rattle.std.proofs.Common.{◌≡◌, ◌∙◌, List, refl, sym, ap, subst, rules}
+use Rattle.std.proofs.Common.{◌≡◌, ◌∙◌, ap, subst, rules}
 use Rattle.std.specs.Prelude.{replicate}
 use Rattle.bc_medium.specs.Shards.{opened_with}
 use Rattle.bc_script.specs.Script.{max_units, bare_keys}

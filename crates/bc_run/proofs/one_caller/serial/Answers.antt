@@ -1,6 +1,6 @@
-use Rattle.std.proofs.Common.{◌≡◌, ◌∙◌, ℕ, ◌*◌, ◌<◌, ◌^◌, List, [], length, map, Vec, Global, sym, ap, subst, refl}
+use Rattle.std.proofs.Common.{◌≡◌, ◌∙◌, ℕ, ◌*◌, ◌<◌, ◌^◌, List, [], length, map, Vec, Global, sym, ap, subst}
 use Rattle.bc_base.specs.Lists.{AllAt, Each}
-use Rattle.bc_base.specs.RamStores.{HaveAllSectors, RamData, contents}
+use Rattle.bc_base.specs.RamStores.{HaveAllSectors, contents}
 use Rattle.bc_medium.specs.declared.entry.Entry.{Entry}
 use Rattle.bc_medium.specs.Places.{shard_of}
 use Rattle.bc_medium.specs.KeyedDisk.{image_sectors}

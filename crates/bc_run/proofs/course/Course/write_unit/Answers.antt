@@ -1,13 +1,12 @@
-use Rattle.std.proofs.Common.{◌≡◌, ◌∙◌, ◌*◌, ◌-◌, ◌+◌, ◌≤◌, length, List, sym, ap, subst, refl, arith, rules}
+use Rattle.std.proofs.Common.{◌≡◌, ◌∙◌, ◌*◌, ◌-◌, ◌≤◌, length, List, sym, ap, subst, arith}
 use Rattle.bc_key.specs.KeyData.{KeyData}
-use Rattle.bc_bio.specs.declared.extent.Extent.{Extent}
 use Rattle.bc_bio.specs.Extent.{unit_sectors}
 use Rattle.bc_medium.specs.declared.unit_at.UnitAt.{UnitAt}
 use Rattle.bc_medium.specs.Growth.{IsEntryOf}
 use Rattle.bc_script.specs.declared.op.Op.TheVariants as ops
-use Rattle.bc_script.specs.Script.{Script, keys_of, IsText}
+use Rattle.bc_script.specs.Script.{keys_of}
 use Rattle.bc_script.specs.Plan.{unit_at, text_at}
-use Rattle.bc_run.specs.Standing.{CourseData, IsPerformable, AttemptsUnit, Attempted, HasUnit, device_of, at_of, entry_of_write, answer_of_write}
+use Rattle.bc_run.specs.Standing.{CourseData, IsPerformable, AttemptsUnit, HasUnit, device_of, at_of, entry_of_write, answer_of_write}
 use Rattle.bc_run.proofs.Ready.{has_key, have_keys, size, own, spare, course_more, attempts, has_unit, text_length}
 use Rattle.bc_run.proofs.Placing.{write_says_its_way, write_failed, write_is_its}
 use Rattle.bc_run.proofs.Lists.{take_within}
