@@ -36,7 +36,7 @@ use Rattle.bc_run.specs.Sections.{DeviceData, CarriesOne, GoOnBy}
 use Rattle.bc_run.specs.Standing.{first_units, AttemptsUnit}
 use Rattle.bc_run.proofs.Lists.{In, in_of_map, all_append, all_at, zip_append, filter_all, filter_none, range_push}
 use Rattle.bc_run.proofs.Growing.{goes_none, goes_append, grows_alone, made_by, named, failed_append}
-use Rattle.bc_run.proofs.Carrying.{bio_answer_more, bio_evicts_none}
+use Rattle.bc_run.proofs.Carrying.{bio_answer_more}
 
 -- ---- numbers in a row
 
@@ -300,7 +300,6 @@ carries_bio a b op operation bio outcome answer is accepted count p same range =
       attempts = subst (λ l. Attempts a.thread [] l p.made) (sym (units_flat a.script op operation bio is accepted)) attempts;
       ways = p.ways;
       replies = (reply_is a.script op operation bio is accepted a.shards a.base a.thread b.seen outcome answer p.answer same, tt);
-      evictions = (bio_evicts_none a.script op operation bio answer is, tt);
       ranges = (range, tt);
     }
 
@@ -332,7 +331,6 @@ carries_fault stays a b c op operation bio i outcome is accepted count lt small 
             (i, u, place_in_units keys op operation bio i bio.units lt, refl, q'.known) refl,
         tt,
       );
-      evictions = (bio_evicts_none a.script op operation bio (answers.Fault i) is, tt);
       ranges = (small, tt);
     })
   where

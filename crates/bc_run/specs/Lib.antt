@@ -4,3 +4,4 @@ pub mod Laws
 pub mod Stages
 pub mod Sections
 pub mod Standing
+pub mod Reached

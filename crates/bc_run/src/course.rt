@@ -6,7 +6,7 @@ ghost use Rattle.bc_bio.specs.Extent.{unit_sectors, context_after};
 ghost use Rattle.bc_bio.specs.Conditions.{HasKey, IsPlaced};
 ghost use Rattle.bc_bio.specs.BioUnits.{context_wrapped};
 ghost use Rattle.bc_script.specs.declared.op.Op.{Op};
-ghost use Rattle.bc_script.specs.Script.{keys_of, IsText, max_bio_units, max_bio_sectors};
+ghost use Rattle.bc_script.specs.Script.{keys_of, IsScript, IsText, max_bio_units, max_bio_sectors};
 ghost use Rattle.bc_script.specs.Bios.{refusal_of};
 ghost use Rattle.bc_script.specs.Plan.{unit_at};
 ghost use Rattle.bc_run.specs.Sections.{CarriesOne};
@@ -52,6 +52,13 @@ impl Course<'_> {
         ensures { self.new ≡ record self.old { thread = thread } }
     {
         self.thread = thread;
+    }
+
+    /// Does nothing, and states that its script keeps the rules.
+    pub(crate) fn rules(&self)
+        ensures { IsScript self.now.script }
+    {
+        let _ = self.script.blocks();
     }
 
     /// Why a bio is refused, if it is.

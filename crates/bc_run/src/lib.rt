@@ -22,6 +22,7 @@ mod status;
 mod course;
 mod device;
 mod direct;
+mod pending;
 mod read_answer;
 mod unit_access;
 
