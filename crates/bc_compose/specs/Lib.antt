@@ -1,3 +1,5 @@
 pub mod SectionDone
+pub mod Ordered
+pub mod Acted
 pub mod Closed
 pub mod Composed

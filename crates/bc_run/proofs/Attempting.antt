@@ -1,7 +1,7 @@
 -- The data units of a bio, attempted one after the other, until one meets a fault.
-use Rattle.std.proofs.Common.{◌≡◌, ℕ, zero, suc, ◌-◌, ◌+◌, ◌*◌, ◌<◌, ◌≤◌, ◌^◌, ◌⊎◌, inl, inr, Bool, true, false, cond, List, [], ◌∷◌, ◌++◌, length, map, append-nil, append_assoc, refl, sym, ap, subst, ◌∙◌, arith, Option, Some, None, length-append}
-use Rattle.std.specs.Prelude.{flat_map, filter, slice_get, MatchOption, IsTrue, ◌==◌, ◌&&◌, ◌||◌, not, nat_lt}
-use Rattle.std.specs.List.{AllZip, AllByRecursion, list_any, range_with_len}
+use Rattle.std.proofs.Common.{◌≡◌, ℕ, zero, suc, ◌-◌, ◌+◌, ◌<◌, ◌≤◌, ◌^◌, Bool, true, false, cond, List, [], ◌∷◌, ◌++◌, length, map, append-nil, refl, sym, ap, subst, ◌∙◌, arith, Option, Some, None, length-append}
+use Rattle.std.specs.Prelude.{flat_map, filter, MatchOption, ◌==◌, ◌&&◌, ◌||◌, not, nat_lt}
+use Rattle.std.specs.List.{AllZip, AllByRecursion, range_with_len}
 use Rattle.std.proofs.Math.Logic.{⊎_elim}
 use Rattle.std.proofs.lemmas.Bool.{ltb-true, lt-ltb, eq-eqb, false_from_ne_true}
 use Rattle.std.proofs.lemmas.List.FromFn.{length-map-range_with_len}
@@ -17,10 +17,9 @@ use Rattle.bc_bio.specs.declared.extent.Extent.{Extent}
 use Rattle.bc_bio.specs.declared.refusal.Refusal.{Refusal}
 use Rattle.bc_bio.specs.PlannedUnit.{PlannedUnit}
 use Rattle.bc_medium.specs.declared.entry.Entry.{Entry}
-use Rattle.bc_medium.specs.declared.unit_name.UnitName.{UnitName}
 use Rattle.bc_medium.specs.KeyedDisk.{UnitAnswer, Faulted, Written, Text}
 use Rattle.bc_medium.specs.Entries.{name_of_entry}
-use Rattle.bc_medium.specs.LawfulOrders.{name_of, is_attempted, is_earlier}
+use Rattle.bc_medium.specs.LawfulOrders.{name_of, is_attempted}
 use Rattle.bc_medium.specs.Laws.{KnownStays}
 use Rattle.bc_medium.specs.Growth.{lies_in, Knows, IsEntryOf, Attempts, failed_names, attempted_by}
 use Rattle.bc_medium.specs.Outcome.{BioAnswer, Wrote, Bytes, Fault}
@@ -33,11 +32,11 @@ use Rattle.bc_report.specs.declared.answer.Answer.TheVariants as answers
 use Rattle.bc_report.specs.Answers.{answer_of_outcome, IsOwnWord}
 use Rattle.bc_report.specs.Report.{IsAnswer}
 use Rattle.bc_compose.specs.SectionDone.{SaysItsWay, IsBioAnswer, IsReply}
-use Rattle.bc_run.specs.Sections.{DeviceData, Carries, CarriesOne, GoOnBy}
+use Rattle.bc_run.specs.Sections.{DeviceData, CarriesOne, GoOnBy}
 use Rattle.bc_run.specs.Standing.{first_units, AttemptsUnit}
-use Rattle.bc_run.proofs.Lists.{In, in_of_map, all_append, all_from_in, all_at, zip_append, filter_all, filter_none, range_push, in_append_cases}
-use Rattle.bc_run.proofs.Growing.{begins_itself, goes_none, goes_append, grows_alone, made_by, named, by_thread, failed_append}
-use Rattle.bc_run.proofs.Carrying.{bio_answer_more, bio_evicts_none}
+use Rattle.bc_run.proofs.Lists.{In, in_of_map, all_append, all_at, zip_append, filter_all, filter_none, range_push}
+use Rattle.bc_run.proofs.Growing.{goes_none, goes_append, grows_alone, made_by, named, failed_append}
+use Rattle.bc_run.proofs.Carrying.{bio_answer_more}
 
 -- ---- numbers in a row
 
@@ -301,7 +300,6 @@ carries_bio a b op operation bio outcome answer is accepted count p same range =
       attempts = subst (λ l. Attempts a.thread [] l p.made) (sym (units_flat a.script op operation bio is accepted)) attempts;
       ways = p.ways;
       replies = (reply_is a.script op operation bio is accepted a.shards a.base a.thread b.seen outcome answer p.answer same, tt);
-      evictions = (bio_evicts_none a.script op operation bio answer is, tt);
       ranges = (range, tt);
     }
 
@@ -333,7 +331,6 @@ carries_fault stays a b c op operation bio i outcome is accepted count lt small 
             (i, u, place_in_units keys op operation bio i bio.units lt, refl, q'.known) refl,
         tt,
       );
-      evictions = (bio_evicts_none a.script op operation bio (answers.Fault i) is, tt);
       ranges = (small, tt);
     })
   where

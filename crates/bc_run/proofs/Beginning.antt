@@ -1,10 +1,10 @@
 -- A run begins: each shard has its own sectors of the image, and nothing was attempted.
-use Rattle.std.proofs.Common.{◌≡◌, ℕ, zero, suc, ◌-◌, ◌+◌, ◌*◌, ◌/◌, ◌%◌, ◌<◌, ◌≤◌, ◌⊎◌, inl, inr, Bool, true, false, cond, List, [], ◌∷◌, ◌++◌, length, map, take, drop, refl, sym, ap, subst, ◌∙◌, arith, Option, Some, None, length-drop, length-take}
-use Rattle.std.specs.Prelude.{◌==◌, ◌&&◌, nat_lt, replicate, slice_range}
+use Rattle.std.proofs.Common.{◌≡◌, ℕ, zero, suc, ◌-◌, ◌+◌, ◌*◌, ◌/◌, ◌<◌, ◌≤◌, Bool, true, false, cond, List, [], ◌∷◌, length, drop, refl, sym, ap, subst, ◌∙◌, arith, length-drop, length-take}
+use Rattle.std.specs.Prelude.{◌==◌, ◌&&◌, nat_lt, replicate}
 use Rattle.std.proofs.Math.Logic.{⊎_elim}
 use Rattle.std.proofs.lemmas.Bool.{eq-eqb, lt-ltb, ltb-true, false_from_ne_true, cases_lt}
 use Rattle.std.proofs.lemmas.Option.{none-some, same_Some}
-use Rattle.bc_base.specs.Lists.{At, AllAt, list_at}
+use Rattle.bc_base.specs.Lists.{At, list_at}
 use Rattle.bc_base.specs.RamStores.{RamData, IsShardOf, owns, contents, sector_within}
 use Rattle.bc_key.specs.KeyData.{KeyData}
 use Rattle.bc_medium.specs.Places.{shard_of}
@@ -12,8 +12,9 @@ use Rattle.bc_medium.specs.KeyedDisk.{image_sectors}
 use Rattle.bc_medium.specs.ShardOrder.{ShardData, opened}
 use Rattle.bc_medium.specs.Shards.{opened_with, orders_of}
 use Rattle.bc_script.specs.Script.{Script, IsScript, keys_of, sectors_in, max_units}
-use Rattle.bc_run.specs.Standing.{IsOpening, AreOpenings, Stands, AllStand, IsCourse, CourseData, sectors_at, IsBegun}
-use Rattle.bc_run.proofs.Lists.{at_exists, at_one}
+use Rattle.bc_run.specs.Built.{IsBuilt}
+use Rattle.bc_run.specs.Standing.{AreOpenings, Stands, IsCourse, sectors_at, IsBegun}
+use Rattle.bc_run.proofs.Lists.{at_exists}
 
 pub opened_at : (stores : List RamData) (n q k : ℕ) (s : ShardData RamData) → length stores ≡ n → At (opened_with stores (replicate n q)) k s → (store : RamData) × At stores k store × (s ≡ opened store q)
 opened_at [] n q k s long at = absurd (none-some s at)
@@ -54,7 +55,7 @@ not_behind store blocks s is behind =
     and_false true = refl
     and_false false = refl
 
-module _ (script : Script) (rules : IsScript script) (image : List ℕ) (n : ℕ) (some : 1 ≤ n) (whole : length image ≡ 4096 * script.blocks) (stores : List RamData) (are : AreOpenings script image n stores) where
+module _ (script : Script) (rules : IsScript script) (built : IsBuilt script) (image : List ℕ) (n : ℕ) (some : 1 ≤ n) (whole : length image ≡ 4096 * script.blocks) (stores : List RamData) (are : AreOpenings script image n stores) where
   abbrev shards : List (ShardData RamData)
   shards = opened_with stores (replicate n max_units)
 
@@ -74,6 +75,7 @@ module _ (script : Script) (rules : IsScript script) (image : List ℕ) (n : ℕ
 
   pub begun_course : (keys : List KeyData) (shards' : List (ShardData RamData)) → shards' ≡ shards → keys ≡ keys_of script → IsCourse script keys shards' max_units
   begun_course keys shards' same keys_are = subst (λ l. IsCourse script keys l max_units) (sym same) (record {
+    built = built;
     rules = rules;
     keys_are = keys_are;
     some = subst (λ m. 1 ≤ m) (sym long) some;

@@ -1,13 +1,13 @@
 -- Operations that are carried out one after the other.
-use Rattle.std.proofs.Common.{◌≡◌, ℕ, zero, suc, ◌⊎◌, take, get_or, ◌+◌, ◌<◌, ◌≤◌, ◌^◌, Bool, true, false, List, [], ◌∷◌, ◌++◌, length, map, append-nil, refl, sym, ap, subst, ◌∙◌, arith, Option, Some, None}
-use Rattle.std.specs.Prelude.{flat_map, MatchOption, IsTrue, ◌==◌, ◌&&◌, nat_lt, sum_by}
-use Rattle.std.specs.List.{AllZip, AllByRecursion, enumerate_from, range_with_len}
+use Rattle.std.proofs.Common.{◌≡◌, ℕ, zero, suc, take, get_or, ◌+◌, ◌<◌, ◌≤◌, false, List, [], ◌∷◌, ◌++◌, length, map, append-nil, refl, sym, ap, subst, ◌∙◌, arith, Option, Some, None}
+use Rattle.std.specs.Prelude.{flat_map, MatchOption, ◌==◌, ◌&&◌, nat_lt}
+use Rattle.std.specs.List.{enumerate_from, range_with_len}
 use Rattle.std.proofs.Math.Logic.{⊎_elim}
 use Rattle.std.proofs.lemmas.Bool.{ne_eqb, and_left, and_right}
 use Rattle.std.proofs.lemmas.List.Sums.{sum_by-append, sum_by-cons}
 use Rattle.std.proofs.lemmas.List.{length-take}
 use Rattle.std.proofs.lemmas.Grind.{flat_map-append}
-use Rattle.std.proofs.lemmas.Option.{none-some, same_Some}
+use Rattle.std.proofs.lemmas.Option.{none-some}
 use Rattle.bc_base.specs.Lists.{list_at}
 use Rattle.bc_base.specs.Story.{StartsWith}
 use Rattle.bc_key.specs.KeyData.{KeyData}
@@ -31,9 +31,9 @@ use Rattle.bc_report.specs.declared.answer.Answer.{Answer}
 use Rattle.bc_report.specs.declared.answer.Answer.TheVariants as answers
 use Rattle.bc_report.specs.Answers.{answer_of_outcome, IsOwnWord}
 use Rattle.bc_report.specs.Report.{IsAnswer}
-use Rattle.bc_compose.specs.SectionDone.{SaysItsWay, IsBioAnswer, IsReply, SectionDone}
-use Rattle.bc_run.specs.Sections.{DeviceData, IsEvicted, Carries, CarriesOne, units_in}
-use Rattle.bc_run.proofs.Lists.{In, in_of_flat_map, in_of_map, in_append_cases, all_of, all_append, all_at, zip_append, zip_more, take_next, enumerate_push}
+use Rattle.bc_compose.specs.SectionDone.{SaysItsWay, IsBioAnswer, IsReply}
+use Rattle.bc_run.specs.Sections.{DeviceData, Carries, CarriesOne, units_in}
+use Rattle.bc_run.proofs.Lists.{In, in_of_flat_map, in_of_map, all_of, all_append, zip_append, zip_more, take_next, enumerate_push}
 use Rattle.bc_run.proofs.Growing.{grows_none, grows_append, goes_none, goes_append, attempts_append, attempts_fresh, failed_are}
 
 -- ---- the units of an operation have its number
@@ -72,7 +72,7 @@ apart script thread xs ys other u v at at' same =
     let s = in_of_flat_map (units_of script) ys v at' in
     other r.0 s.0 r.1 s.1 (sym (op_of_unit script r.0 u r.2) ∙ same ∙ op_of_unit script s.0 v s.2)
 
-not_earlier : (thread : ℕ) (u v : PlannedUnit) → (u.tag ≡ v.tag → ⊥) → is_earlier (name_of thread u) (name_of thread v) ≡ false
+pub not_earlier : (thread : ℕ) (u v : PlannedUnit) → (u.tag ≡ v.tag → ⊥) → is_earlier (name_of thread u) (name_of thread v) ≡ false
 not_earlier thread u v other =
     and_left ((thread == thread) && (u.tag == v.tag)) (nat_lt u.unit v.unit) (and_right (thread == thread) (u.tag == v.tag) (ne_eqb u.tag v.tag other))
 
@@ -118,7 +118,6 @@ carries_none d = record {
   attempts = tt;
   ways = tt;
   replies = tt;
-  evictions = tt;
   ranges = tt;
 }
 
@@ -150,7 +149,6 @@ module _ (stays : KnownStays) (a : DeviceData) (seen seen' : List (List Entry)) 
         replies = zip_append (IsReply a.script a.shards a.base a.thread seen') xs ys told told'
             (zip_more (IsReply a.script a.shards a.base a.thread seen) (IsReply a.script a.shards a.base a.thread seen') xs told
             (reply_more stays a.script a.shards a.base a.thread seen seen' q.grows.fronts) p.replies) q.replies;
-        evictions = zip_append (IsEvicted a.script) xs ys told told' p.evictions q.evictions;
         ranges = all_append IsAnswer told told' p.ranges q.ranges;
       }
 
@@ -167,8 +165,8 @@ carries_append stays a b c xs ys told told' other p q =
 
 -- an operation without units, which was answered without an access
 pub carries_quiet : (d : DeviceData) (op : ℕ) (operation : Op) (answer : Answer) → units_of d.script (op, operation) ≡ []
-    → IsReply d.script d.shards d.base d.thread d.seen (op, operation) answer → IsEvicted d.script (op, operation) answer → IsAnswer answer → CarriesOne d d (op, operation) answer
-carries_quiet d op operation answer none reply evicted range = record {
+    → IsReply d.script d.shards d.base d.thread d.seen (op, operation) answer → IsAnswer answer → CarriesOne d d (op, operation) answer
+carries_quiet d op operation answer none reply range = record {
   made = [];
   same = refl;
   spare = omega arith;
@@ -177,18 +175,8 @@ carries_quiet d op operation answer none reply evicted range = record {
   attempts = subst (λ us. Attempts d.thread [] us []) (sym (append-nil (units_of d.script (op, operation)) ∙ none)) tt;
   ways = tt;
   replies = (reply, tt);
-  evictions = (evicted, tt);
   ranges = (range, tt);
 }
-
--- a bio is no eviction
-pub bio_evicts_none : (script : Script) (op : ℕ) (operation : Op) (bio : Extent) (answer : Answer) → bio_of operation ≡ Some bio → IsEvicted script (op, operation) answer
-bio_evicts_none script op (ops.Write context sector units text) bio answer is = tt
-bio_evicts_none script op (ops.Read context sector units) bio answer is = tt
-bio_evicts_none script op (ops.Evict key) bio answer is = absurd (none-some bio is)
-bio_evicts_none script op (ops.Reset device) bio answer is = tt
-bio_evicts_none script op ops.Plug bio answer is = tt
-bio_evicts_none script op ops.Unplug bio answer is = tt
 
 -- a bio that is refused
 pub carries_refused : (d : DeviceData) (op : ℕ) (operation : Op) (bio : Extent) (refusal : Refusal) → bio_of operation ≡ Some bio
@@ -201,7 +189,7 @@ carries_refused d op operation bio refusal is refused =
     (λ r. answers.Refused refusal ≡ answers.Refused r))) (sym is)
     (subst (λ (o : Option Refusal). MatchOption o
     ((outcome : BioAnswer) × IsBioAnswer d.script d.shards d.base d.thread d.seen bio.access (units_of d.script (op, operation)) outcome × (answers.Refused refusal ≡ answer_of_outcome outcome))
-    (λ r. answers.Refused refusal ≡ answers.Refused r)) (sym refused) refl)) (bio_evicts_none d.script op operation bio (answers.Refused refusal) is) tt
+    (λ r. answers.Refused refusal ≡ answers.Refused r)) (sym refused) refl)) tt
   where
     none : units_of d.script (op, operation) ≡ units_of_bio d.script op operation bio
     none = rw is refl
@@ -238,7 +226,7 @@ pub units_at : (n : ℕ) (section : List Op) → units_in (enumerate_from n sect
 units_at n [] = refl
 units_at n (operation ∷ section) = sum_by-cons (λ (x : ℕ × Op). unit_count x.1) (n, operation) (enumerate_from (n + 1) section) ∙ ap (λ m. unit_count operation + m) (units_at (n + 1) section) ∙ sym (sum_by-cons unit_count operation section)
 
-count_take : (section : List Op) (n : ℕ) → unit_count_of_section (take n section) ≤ unit_count_of_section section
+pub count_take : (section : List Op) (n : ℕ) → unit_count_of_section (take n section) ≤ unit_count_of_section section
 count_take section zero = omega arith
 count_take [] (suc n) = omega arith
 count_take (operation ∷ section) (suc n) = let more = count_take section n in omega (arith, sum_by-cons unit_count operation (take n section), sum_by-cons unit_count operation section)

@@ -1,15 +1,14 @@
 -- A run ends: the shards are closed, and the sections make a lawful run.
-use Rattle.std.proofs.Common.{◌≡◌, ℕ, zero, suc, ◌-◌, ◌+◌, ◌*◌, ◌/◌, ◌%◌, ◌<◌, ◌≤◌, ◌^◌, ◌⊎◌, inl, inr, Bool, true, false, cond, List, [], ◌∷◌, ◌++◌, length, map, refl, sym, ap, subst, ◌∙◌, arith, Option, Some, None}
-use Rattle.std.specs.Prelude.{◌↔◌, ◌==◌, ◌&&◌, ◌||◌, filter, flat_map, Contains, IsSomeAnd, slice_get, slice_index_or, nat_lt}
-use Rattle.std.specs.List.{AllByRecursion, list_any, range_with_len, enumerate_from}
+use Rattle.std.proofs.Common.{◌≡◌, ℕ, zero, suc, ◌+◌, ◌*◌, ◌/◌, ◌<◌, ◌≤◌, ◌^◌, ◌⊎◌, inl, inr, Bool, true, false, cond, List, [], ◌∷◌, ◌++◌, length, map, refl, sym, ap, subst, ◌∙◌, arith, Some}
+use Rattle.std.specs.Prelude.{◌↔◌, ◌==◌, ◌&&◌, ◌||◌, filter, flat_map, Contains, slice_index_or, nat_lt}
+use Rattle.std.specs.List.{AllByRecursion, range_with_len, enumerate_from}
 use Rattle.std.proofs.Math.Logic.{⊎_elim}
 use Rattle.std.proofs.lemmas.Bool.{eq-eqb, ne_eqb, eqb-true, true≢false, cases_lt, and_right, ltb-true, false_from_ne_true}
-use Rattle.std.proofs.lemmas.Option.{none-some, same_Some, slice_get-get_or, get_or_from_slice_get, slice_get_within}
+use Rattle.std.proofs.lemmas.Option.{none-some, same_Some}
 use Rattle.std.proofs.lemmas.List.{length-map}
 use Rattle.std.proofs.lemmas.List.Elements.{filter-append}
 use Rattle.bc_base.specs.Lists.{At, AllAt, Each, EachFrom, list_at}
-use Rattle.bc_base.specs.Story.{own, StartsWith, IsFront}
-use Rattle.bc_base.specs.Stores.{ToldCalls}
+use Rattle.bc_base.specs.Story.{own, StartsWith}
 use Rattle.bc_base.specs.RamStores.{RamData, HaveAllSectors, owns, contents, sector_within}
 use Rattle.bc_key.specs.KeyData.{KeyData}
 use Rattle.bc_medium.specs.declared.entry.Entry.{Entry}
@@ -17,25 +16,25 @@ use Rattle.bc_medium.specs.Places.{shard_of}
 use Rattle.bc_medium.specs.KeyedDisk.{Sectors, image_sectors, meets_fault}
 use Rattle.bc_medium.specs.Entries.{caller_of, left_by}
 use Rattle.bc_medium.specs.Growth.{lies_in}
-use Rattle.bc_medium.specs.ShardOrder.{ShardData, HasKeys, IsOrder, FailAsPlanned, CallsAre, Leaves}
-use Rattle.bc_medium.specs.Shards.{orders_of, AllLeft, HaveKeys}
-use Rattle.bc_script.specs.declared.op.Op.{Op}
-use Rattle.bc_script.specs.Script.{Script, IsScript, keys_of, sectors_in, max_units, max_threads}
+use Rattle.bc_medium.specs.ShardOrder.{ShardData, HasKeys, IsOrder, FailAsPlanned, Leaves}
+use Rattle.bc_medium.specs.Shards.{AllLeft, HaveKeys}
+use Rattle.bc_script.specs.Script.{Script, IsScript, keys_of, max_threads}
 use Rattle.bc_stack.specs.declared.target.Target.{Target}
 use Rattle.bc_report.specs.LawfulRun.{HaveLawfulJournals}
 use Rattle.bc_report.specs.SerialRun.{serial_journal}
 use Rattle.bc_report.specs.declared.answer.Answer.{Answer}
 use Rattle.bc_report.specs.declared.line.Line.{Line}
-use Rattle.bc_report.specs.Report.{Report, IsReport, IsEntry, IsPart, IsAnswer}
+use Rattle.bc_report.specs.Report.{Report, IsReport, IsEntry, IsPart}
 use Rattle.bc_compose.specs.SectionDone.{SaysItsWay, SectionDone}
-use Rattle.bc_compose.specs.Closed.{ShardsClosed, StoresClosed, DevicesClosed, IsReported, line_of}
+use Rattle.bc_compose.specs.Closed.{ShardsClosed, StoresClosed, DevicesClosed, line_of}
 use Rattle.bc_compose.specs.Composed.{AreSectionsOf, FollowOneAnother, AreUses}
 use Rattle.bc_run.specs.Sections.{DeviceData, SectionsDone}
-use Rattle.bc_run.specs.Standing.{planned_on, Stands, AllStand, IsCourse, CourseData, device_of, sectors_at, IsBegun}
-use Rattle.bc_run.proofs.Lists.{In, in_of_filter, in_of_flat_map, all_at, all_from_in, all_slice, all_by_place, filter_all, filter_none, at_exists, at_one, at_map, at_of_map, list_at_map, by_places, any_in, any_from, same_tests}
-use Rattle.bc_run.proofs.NoDevices.{holds}
+use Rattle.bc_run.specs.Built.{IsBuilt}
+use Rattle.bc_run.specs.Standing.{planned_on, Stands, IsCourse, CourseData, device_of, sectors_at, IsBegun}
+use Rattle.bc_run.proofs.Lists.{In, in_of_filter, in_of_flat_map, all_at, all_from_in, all_slice, all_by_place, filter_all, filter_none, at_exists, at_map, at_of_map, list_at_map, by_places, same_tests}
+use Rattle.bc_run.proofs.NoDevices.{no_targets, holds}
 use Rattle.bc_run.proofs.Turns.{callers_below}
-use Rattle.bc_run.proofs.Beginning.{nothing_behind, not_behind}
+use Rattle.bc_run.proofs.Beginning.{nothing_behind}
 
 -- ---- planned faults
 
@@ -127,7 +126,7 @@ own_of_turns shards shard n (es ∷ made) all (suc t) lt =
 
 -- ---- the whole run
 
-module _ (script : Script) (rules : IsScript script) (image : List ℕ) (n : ℕ) (some : 1 ≤ n) (few : n ≤ 64) (whole : length image ≡ 4096 * script.blocks)
+module _ (script : Script) (rules : IsScript script) (built : IsBuilt script) (image : List ℕ) (n : ℕ) (some : 1 ≤ n) (few : n ≤ 64) (whole : length image ≡ 4096 * script.blocks)
     (v0 v1 : CourseData) (begun : IsBegun script image n v0) (answers : List (List Answer)) (done : SectionsDone (device_of v0) (device_of v1) script.threads answers)
     (keys : List KeyData) (course : IsCourse v1.script keys v1.shards v1.left) (stores : List RamData) (orders : List (List Entry))
     (stores_are : stores ≡ map (λ s. s.store) v1.shards) (orders_are : orders ≡ map (λ s. s.entries) v1.shards)
@@ -263,13 +262,13 @@ module _ (script : Script) (rules : IsScript script) (image : List ℕ) (n : ℕ
     devices_closed = record {
       fronts = λ caller device lt. record { begins = ([], refl); own_entries = refl };
       no_strangers = λ device. tt;
-      lawful = subst (λ (ts : List Target). HaveLawfulJournals ts []) (sym rules.targets) tt;
+      lawful = subst (λ (ts : List Target). HaveLawfulJournals ts []) (sym (no_targets script built)) tt;
     }
 
     pub uses : AreUses script (length script.threads) made_of []
     uses = record {
-      journals_are = subst (λ (ts : List Target). [] ≡ map (serial_journal script) (enumerate_from 0 ts)) (sym rules.targets) refl;
-      holds = λ t lt. holds script rules (made_of t) (subst (λ (s : Script). Each (SaysItsWay s) (made_of t)) begun.script_is (done.each_done t lt).ways);
+      journals_are = subst (λ (ts : List Target). [] ≡ map (serial_journal script) (enumerate_from 0 ts)) (sym (no_targets script built)) refl;
+      holds = λ t lt. holds script built (made_of t) (subst (λ (s : Script). Each (SaysItsWay s) (made_of t)) begun.script_is (done.each_done t lt).ways);
     }
 
     pub are_sections : AreSectionsOf script image n report left made_of orders []

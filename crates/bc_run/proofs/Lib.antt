@@ -5,6 +5,11 @@ pub mod Carrying
 pub mod Attempting
 pub mod Placing
 pub mod Ready
+pub mod Ordering
+pub mod Acting
+pub mod Reaching
+pub mod Stepping
+pub mod Windowing
 pub mod Turns
 pub mod Openings
 pub mod Beginning

@@ -1,12 +1,11 @@
 -- Membership, facts of each element, and places of lists.
-use Rattle.std.proofs.Common.{◌≡◌, ℕ, zero, suc, ◌+◌, ◌<◌, ◌≤◌, ◌⊎◌, inl, inr, Bool, true, false, cond, List, [], ◌∷◌, ◌++◌, length, map, take, set, get_or, append-nil, append_assoc, refl, sym, ap, subst, ◌∙◌, arith, Option, Some, None, length-append, ◌≢◌}
-use Rattle.std.specs.Prelude.{◌==◌, ◌||◌, filter, flat_map, slice_get}
-use Rattle.std.specs.List.{AllZip, AllByRecursion, list_any, enumerate_from, range_with_len}
+use Rattle.std.proofs.Common.{Option, Some, None, ◌≡◌, ℕ, zero, suc, ◌+◌, ◌<◌, ◌≤◌, ◌⊎◌, inl, inr, Bool, true, false, cond, List, [], ◌∷◌, ◌++◌, length, map, take, set, get_or, refl, sym, ap, subst, ◌∙◌, arith}
+use Rattle.std.specs.Prelude.{◌==◌, ◌||◌, filter, filter_map, flat_map, slice_get}
+use Rattle.std.specs.List.{AllZip, AllByRecursion, list_any, enumerate_from, range_with_len, cons_option}
 use Rattle.std.proofs.Math.Logic.{⊎_elim}
-use Rattle.std.proofs.lemmas.Bool.{true≢false, eq-eqb, cases_Bool}
-use Rattle.std.proofs.lemmas.Option.{none-some, same_Some, get_or_from_slice_get, slice_get_within}
+use Rattle.std.proofs.lemmas.Bool.{true≢false, eq-eqb, eqb-true, false_from_ne_true}
+use Rattle.std.proofs.lemmas.Option.{none-some, same_Some, get_or_from_slice_get}
 use Rattle.std.proofs.lemmas.List.{take_more, length-take}
-use Rattle.std.proofs.lemmas.List.Elements.{filter-append}
 use Rattle.bc_base.specs.Lists.{At, EachFrom, list_at}
 
 pub map-map : {A B C : Type 0} (f : A → B) (g : B → C) (xs : List A) → map g (map f xs) ≡ map (λ x. g (f x)) xs
@@ -282,3 +281,23 @@ take_within xs n le = omega (arith, length-take n xs)
 pub each_of_map : {A B : Type 0} (f : A → B) (P : B → Type 0) (xs : List A) → AllByRecursion P (map f xs) → AllByRecursion (λ x. P (f x)) xs
 each_of_map f P [] all = tt
 each_of_map f P (x ∷ xs) all = (all.0, each_of_map f P xs all.1)
+
+pub in_of_filter_map : {X Y : Type 0} (f : X → Option Y) (xs : List X) (y : Y) → In y (filter_map f xs) → (x : X) × In x xs × (f x ≡ Some y)
+in_of_filter_map f [] y at' = absurd at'
+in_of_filter_map f (x ∷ xs) y at' =
+    (elim (f x) as (λ (o : Option _). f x ≡ o → In y (cons_option o (filter_map f xs)) → (z : _) × In z (x ∷ xs) × (f z ≡ Some y)) [
+      | None ↦ λ is h. let r = in_of_filter_map f xs y h in (r.0, inr r.1, r.2)
+      | Some w ↦ λ is h. ⊎_elim
+          (λ (e : w ≡ y). (x, inl refl, is ∙ ap (λ v. Some v) e))
+          (λ (more : In y (filter_map f xs)). let r = in_of_filter_map f xs y more in (r.0, inr r.1, r.2)) h
+    ]) refl at'
+
+-- a number is among these
+pub is_in : (o : ℕ) (xs : List ℕ) → list_any (λ x. x == o) xs ≡ true → In o xs
+is_in o xs any = let r = any_in (λ x. x == o) xs any in subst (λ (n : ℕ). In n xs) (eqb-true r.0 o r.2) r.1
+
+pub in_is : (o : ℕ) (xs : List ℕ) → In o xs → list_any (λ x. x == o) xs ≡ true
+in_is o xs at' = any_from (λ x. x == o) xs o at' (eq-eqb o o refl)
+
+pub not_in_is : (o : ℕ) (xs : List ℕ) → (In o xs → ⊥) → list_any (λ x. x == o) xs ≡ false
+not_in_is o xs none = false_from_ne_true (list_any (λ x. x == o) xs) (λ any. none (is_in o xs any))

@@ -1,40 +1,36 @@
 -- One access of the shards: what it leaves of each shard, and what its thread knows then.
-use Rattle.std.proofs.Common.{◌≡◌, ◌≢◌, ℕ, zero, suc, ◌+◌, ◌*◌, ◌/◌, ◌%◌, ◌<◌, ◌≤◌, ◌⊎◌, inl, inr, Bool, true, false, cond, List, [], ◌∷◌, ◌++◌, length, map, set, append-nil, append_assoc, refl, sym, ap, subst, ◌∙◌, arith, Option, Some, None, length-append}
-use Rattle.std.specs.Prelude.{◌==◌, filter, slice_get, IfSome}
-use Rattle.std.specs.List.{AllByRecursion, AllZip}
+use Rattle.std.proofs.Common.{◌≡◌, ◌≢◌, ℕ, zero, suc, ◌+◌, ◌*◌, ◌≤◌, Bool, true, false, cond, List, [], ◌∷◌, ◌++◌, length, set, append-nil, refl, sym, ap, subst, ◌∙◌, arith, Option, Some, length-append}
+use Rattle.std.specs.Prelude.{filter, IfSome}
 use Rattle.std.specs.Option.{option_map_or}
 use Rattle.std.proofs.Math.Logic.{⊎_elim}
 use Rattle.std.proofs.lemmas.Bool.{eq-eqb, ne_eqb, cases_eq, true≢false}
-use Rattle.std.proofs.lemmas.Option.{none-some, same_Some}
+use Rattle.std.proofs.lemmas.Option.{same_Some}
 use Rattle.bc_base.specs.declared.place.Place.{Place}
-use Rattle.bc_base.specs.Lists.{At, AllAt, ChangesAt, Each, list_at}
-use Rattle.bc_base.specs.Stores.{IsPiece}
+use Rattle.bc_base.specs.Lists.{At, AllAt, ChangesAt, list_at}
 use Rattle.bc_base.specs.RamStores.{RamData, owns, contents}
 use Rattle.bc_key.specs.KeyData.{KeyData}
-use Rattle.bc_bio.specs.declared.access.Access.{Access}
-use Rattle.bc_bio.specs.declared.context.Context.{Context}
 use Rattle.bc_bio.specs.declared.access.Access.TheVariants.{Read, Write}
 use Rattle.bc_bio.specs.PlannedUnit.{PlannedUnit}
 use Rattle.bc_medium.specs.declared.entry.Entry.{Entry}
 use Rattle.bc_medium.specs.declared.unit_at.UnitAt.{UnitAt}
 use Rattle.bc_medium.specs.declared.unit_name.UnitName.{UnitName}
 use Rattle.bc_medium.specs.declared.via.Via.{Via}
-use Rattle.bc_medium.specs.declared.via.Via.TheVariants as vias
 use Rattle.bc_bio.specs.Extent.{unit_sectors}
 use Rattle.bc_medium.specs.Places.{shard_of}
 use Rattle.bc_medium.specs.KeyedDisk.{Sectors, UnitAnswer, Faulted, Written, Text as Answered, deciphered}
-use Rattle.bc_medium.specs.Entries.{caller_of, name_of_entry, told_by, IsTold, IsToldAt, unit_name, written_entry, read_entry, failed_entry}
-use Rattle.bc_medium.specs.Growth.{lies_in, IsEntryOf, Knows}
+use Rattle.bc_medium.specs.Entries.{name_of_entry, told_by, IsTold, unit_name, written_entry, read_entry, failed_entry}
+use Rattle.bc_medium.specs.Growth.{lies_in, IsEntryOf}
 use Rattle.bc_medium.specs.LawfulOrders.{name_of}
 use Rattle.bc_medium.specs.Outcome.{is_fault}
 use Rattle.bc_medium.specs.ShardOrder.{ShardData, Appends, AppendsNext, HasKeys, StandsNow}
-use Rattle.bc_medium.specs.Shards.{orders_of, HaveKeys, Own, HasSpare, Adds, Answers, AppendsAt, ReadsAt, AnswersText}
-use Rattle.bc_script.specs.Script.{Script, IsScript, keys_of, sectors_in, max_units}
+use Rattle.bc_medium.specs.Shards.{orders_of, HaveKeys, Adds, Answers, AppendsAt, ReadsAt, AnswersText}
+use Rattle.bc_script.specs.Script.{Script, keys_of}
 use Rattle.bc_compose.specs.SectionDone.{SaysItsWay}
-use Rattle.bc_run.specs.Sections.{DeviceData, GoOnBy}
-use Rattle.bc_run.specs.Standing.{planned_on, Stands, AllStand, sectors_at, CourseData, device_of, GoesOn, Attempted, AttemptsUnit, via_of, at_of, entry_of_write, entry_of_read, answer_of_write, answer_of_read}
+use Rattle.bc_run.specs.Sections.{GoOnBy}
+use Rattle.bc_run.specs.Built.{IsBuilt}
+use Rattle.bc_run.specs.Standing.{Stands, AllStand, sectors_at, CourseData, device_of, GoesOn, Attempted, AttemptsUnit, via_of, at_of, entry_of_write, entry_of_read, answer_of_write, answer_of_read}
 use Rattle.bc_run.proofs.NoDevices.{says_via}
-use Rattle.bc_run.proofs.Lists.{at_changed, at_set, at_one, length-set, at_map, list_at_map, all_slice, all_by_place}
+use Rattle.bc_run.proofs.Lists.{at_changed, at_set, length-set, list_at_map, all_slice}
 
 -- ---- what the calls of the shards say
 
@@ -159,13 +155,13 @@ module _ (script : Script) (thread : ℕ) (old new : List (ShardData RamData)) (
 
 -- ---- the entries of writes and reads
 
-pub write_says_its_way : (script : Script) (rules : IsScript script) (at : UnitAt) (plain : List ℕ) (went : Bool) → SaysItsWay script (entry_of_write at plain went)
-write_says_its_way script rules at plain true = says_via script rules at.context at.sector
-write_says_its_way script rules at plain false = says_via script rules at.context at.sector
+pub write_says_its_way : (script : Script) (built : IsBuilt script) (at : UnitAt) (plain : List ℕ) (went : Bool) → SaysItsWay script (entry_of_write at plain went)
+write_says_its_way script built at plain true = says_via script built at.context at.sector
+write_says_its_way script built at plain false = says_via script built at.context at.sector
 
-pub read_says_its_way : (script : Script) (rules : IsScript script) (at : UnitAt) (went : Bool) → SaysItsWay script (entry_of_read at went)
-read_says_its_way script rules at true = says_via script rules at.context at.sector
-read_says_its_way script rules at false = says_via script rules at.context at.sector
+pub read_says_its_way : (script : Script) (built : IsBuilt script) (at : UnitAt) (went : Bool) → SaysItsWay script (entry_of_read at went)
+read_says_its_way script built at true = says_via script built at.context at.sector
+read_says_its_way script built at false = says_via script built at.context at.sector
 
 pub write_failed : (at : UnitAt) (plain : List ℕ) (went : Bool) → (entry_of_write at plain went).failed ≡ is_fault (answer_of_write went)
 write_failed at plain true = refl

@@ -1,17 +1,14 @@
 -- A data unit of a bio that can be performed: what the shards ask before it is attempted, and what it leaves.
-use Rattle.std.proofs.Common.{◌≡◌, ℕ, zero, suc, ◌-◌, ◌+◌, ◌*◌, ◌/◌, ◌%◌, ◌<◌, ◌≤◌, ◌⊎◌, inl, inr, Bool, true, false, List, [], ◌∷◌, ◌++◌, length, refl, sym, ap, subst, ◌∙◌, arith, Option, Some, None}
-use Rattle.std.specs.Prelude.{replicate, IfSome}
-use Rattle.std.specs.List.{AllByRecursion}
+use Rattle.std.proofs.Common.{◌≡◌, ℕ, zero, suc, ◌-◌, ◌+◌, ◌*◌, ◌/◌, ◌%◌, ◌<◌, ◌≤◌, ◌⊎◌, List, length, refl, sym, ap, subst, ◌∙◌, arith, Option, Some, None}
+use Rattle.std.specs.Prelude.{replicate}
 use Rattle.std.proofs.Math.Logic.{⊎_elim}
-use Rattle.bc_base.specs.Lists.{At, AllAt}
-use Rattle.bc_base.specs.Stores.{IsPiece}
 use Rattle.bc_base.specs.RamStores.{RamData, owns}
 use Rattle.bc_key.specs.KeyData.{KeyData}
 use Rattle.bc_key.specs.DataUnits.{IsUnitSize}
 use Rattle.bc_bio.specs.declared.context.Context.{Context}
 use Rattle.bc_bio.specs.declared.extent.Extent.{Extent}
-use Rattle.bc_bio.specs.Extent.{unit_sectors, context_after, sector_at, end_of}
-use Rattle.bc_bio.specs.Conditions.{HasKey, IsAccepted, IsPlaced}
+use Rattle.bc_bio.specs.Extent.{unit_sectors, context_after}
+use Rattle.bc_bio.specs.Conditions.{HasKey, IsAccepted}
 use Rattle.bc_bio.specs.Laws.{UnitsHaveSizes, UnitsLieInBlocks}
 use Rattle.bc_bio.specs.PlannedUnit.{PlannedUnit}
 use Rattle.bc_medium.specs.declared.entry.Entry.{Entry}
@@ -28,7 +25,7 @@ use Rattle.bc_script.specs.declared.op.Text.TheVariants.{Fill, Bytes}
 use Rattle.bc_script.specs.Script.{Script, keys_of, sectors_in, IsText}
 use Rattle.bc_script.specs.Plan.{unit_at, text_at}
 use Rattle.bc_compose.specs.SectionDone.{SaysItsWay}
-use Rattle.bc_run.specs.Standing.{Stands, AllStand, IsCourse, IsPerformable, HasUnit, GoesOn, Attempted, AttemptsUnit, CourseData, device_of, at_of}
+use Rattle.bc_run.specs.Standing.{IsCourse, IsPerformable, HasUnit, Attempted, AttemptsUnit, device_of, at_of}
 use Rattle.bc_run.proofs.Lists.{all_by_place, length-set}
 use Rattle.bc_run.proofs.EqualParts.{part_within, length-part}
 use Rattle.bc_run.proofs.Placing.{stand_more, attempts_unit}

@@ -1,7 +1,7 @@
 -- Sections that follow one another.
-use Rattle.std.proofs.Common.{◌≡◌, ℕ, zero, suc, ◌+◌, ◌<◌, ◌≤◌, ◌⊎◌, inl, inr, Bool, true, false, List, [], ◌∷◌, ◌++◌, length, take, get_or, append-nil, append_assoc, refl, sym, ap, subst, ◌∙◌, arith, length-append}
+use Rattle.std.proofs.Common.{◌≡◌, ℕ, zero, suc, ◌+◌, ◌<◌, ◌≤◌, List, [], ◌∷◌, ◌++◌, length, take, get_or, append-nil, refl, sym, ap, subst, ◌∙◌, arith, length-append}
 use Rattle.std.specs.Prelude.{◌==◌, filter, flat_map, IsTrue, sum_by}
-use Rattle.std.specs.List.{AllByRecursion, enumerate_from}
+use Rattle.std.specs.List.{AllByRecursion}
 use Rattle.std.proofs.Math.Logic.{⊎_elim}
 use Rattle.std.proofs.lemmas.Bool.{eq-eqb, ne_eqb, cases_lt}
 use Rattle.std.proofs.lemmas.List.{length-take}
@@ -15,18 +15,18 @@ use Rattle.bc_medium.specs.Entries.{caller_of}
 use Rattle.bc_medium.specs.Growth.{lies_in}
 use Rattle.bc_script.specs.declared.op.Op.{Op}
 use Rattle.bc_profile.specs.declared.noted.Noted.{Noted}
-use Rattle.bc_script.specs.Script.{Script, IsScript, IsOp, keys_of, unit_count_of_section}
+use Rattle.bc_script.specs.Script.{IsScript, IsOp, keys_of, unit_count_of_section}
 use Rattle.bc_script.specs.Plan.{units_of_section}
 use Rattle.bc_report.specs.declared.answer.Answer.{Answer}
 use Rattle.bc_report.specs.Evictions.{Eviction, evictions_in, IsEvictionAnswer}
 use Rattle.bc_report.specs.Programmings.{InOrder}
 use Rattle.bc_report.specs.Report.{IsAnswer}
 use Rattle.bc_compose.specs.SectionDone.{SectionDone}
-use Rattle.bc_run.specs.Sections.{DeviceData, Carries, CarriesSection, SectionsDone, units_in}
+use Rattle.bc_run.specs.Sections.{DeviceData, SectionsDone}
+use Rattle.bc_run.specs.Reached.{CarriesSection}
 use Rattle.bc_run.proofs.Lists.{In, in_of_filter, in_of_flat_map, all_at, all_from_in, all_append, from_append, filter_none, filter_all, list_at_left, list_at_last, take_next}
-use Rattle.bc_run.proofs.Growing.{begins_itself, begins_trans, grows_alone, made_by}
+use Rattle.bc_run.proofs.Growing.{begins_itself, begins_trans, made_by}
 use Rattle.bc_run.proofs.Carrying.{units_at}
-use Rattle.bc_run.proofs.NoDevices.{own_key, in_order, evictions_valid, bounds}
 
 pub sections_none : (d : DeviceData) → ((shard : ℕ) → list_at d.seen shard ≡ []) → SectionsDone d d [] []
 sections_none d untouched = record {
@@ -55,7 +55,7 @@ callers_below n (fs ∷ made) all es e at at' =
     let by : caller_of e ≡ n = all_at (λ (x : Entry). caller_of x ≡ n) fs e all.0 (subst (In e) (sym same) at') in (omega arith, omega arith))
     (λ (more : In es made). let r = callers_below (n + 1) made all.1 es e more at' in let a = r.0 in let b = r.1 in (omega arith, omega arith)) at
 
-module _ (a : DeviceData) (alone : IsTrue a.alone) (rules : IsScript a.script) (no_notes : a.noted ≡ []) (thread thread' : ℕ) (seen seen' : List (List Entry)) (spare spare' : ℕ) where
+module _ (a : DeviceData) (alone : IsTrue a.alone) (thread thread' : ℕ) (seen seen' : List (List Entry)) (spare spare' : ℕ) where
   abbrev now : DeviceData
   now = record a { thread = thread; seen = seen; spare = spare }
 
@@ -65,41 +65,9 @@ module _ (a : DeviceData) (alone : IsTrue a.alone) (rules : IsScript a.script) (
   abbrev new : DeviceData
   new = record a { thread = thread'; seen = seen'; spare = spare' }
 
-  section_done : (sections : List (List Op)) (answers : List (List Answer)) (section : List Op) (told : List Answer) → thread' ≡ length sections
-      → (p : SectionsDone a now sections answers) → (q : CarriesSection begun new section told)
-      → AllByRecursion (IsOp (keys_of a.script)) section → SectionDone a.script a.shards a.base thread' section seen' a.noted told q.made
-  section_done sections answers section told turn p q valid = subst (λ (n : List (List Noted)). SectionDone a.script a.shards a.base thread' section seen' n told q.made) (sym no_notes) (record {
-    attempts = q.attempts;
-    entries = λ shard within.
-        let mine = filter (lies_in a.shards shard) q.made in
-        ap (own caller_of thread') (q.alone alone shard)
-        ∙ filter-append (λ e. caller_of e == thread') (list_at seen shard) mine
-        ∙ ap (λ l. l ++ own caller_of thread' mine) (others shard)
-        ∙ filter_all (λ e. caller_of e == thread') mine
-        (λ e at. eq-eqb (caller_of e) thread' (made_by thread' [] (units_of_section a.script section) q.made q.attempts e (in_of_filter (lies_in a.shards shard) q.made e at).0));
-    ways = q.ways;
-    answers = q.replies;
-    own_key = own_key a.script rules q.made q.ways;
-    in_order = in_order a.script rules (InOrder (evictions_in (thread', (section, told))) thread') q.made q.ways;
-    eviction_answers = evictions;
-    bounds = bounds a.script rules section (evictions_in (thread', (section, told))) valid evictions;
-  })
-    where
-      evictions : AllByRecursion (λ (e : Eviction). IsEvictionAnswer a.script e.key e.answer) (evictions_in (thread', (section, told)))
-      evictions = evictions_valid a.script rules thread' 0 section told q.evictions
-
-      others : (shard : ℕ) → own caller_of thread' (list_at seen shard) ≡ []
-      others shard =
-          filter_none (λ e. caller_of e == thread') (list_at seen shard)
-          (λ e at.
-          let r = in_of_flat_map (filter (lies_in a.shards shard)) p.made e (subst (In e) (p.orders shard) at) in
-          let b = (callers_below 0 p.made p.callers r.0 e r.1 (in_of_filter (lies_in a.shards shard) r.0 e r.2).0).1 in
-          let m = p.each_made in
-          ne_eqb (caller_of e) thread' (λ same. omega arith))
-
-  more : (sections : List (List Op)) (answers : List (List Answer)) (section : List Op) (told : List Answer) → thread' ≡ length sections → AllByRecursion (IsOp (keys_of a.script)) section
+  more : (sections : List (List Op)) (answers : List (List Answer)) (section : List Op) (told : List Answer) → thread' ≡ length sections
       → SectionsDone a now sections answers → CarriesSection begun new section told → SectionsDone a new (sections ++ section ∷ []) (answers ++ told ∷ [])
-  more sections answers section told turn valid p q = record {
+  more sections answers section told turn p q = record {
     made = p.made ++ q.made ∷ [];
     seen = p.seen ++ seen' ∷ [];
     same = refl;
@@ -119,15 +87,15 @@ module _ (a : DeviceData) (alone : IsTrue a.alone) (rules : IsScript a.script) (
         (subst (λ l. SectionDone a.script a.shards a.base t (list_at (sections ++ section ∷ []) t) (list_at (p.seen ++ seen' ∷ []) t) a.noted l q.made) (sym (list_at_last answers told t (is ∙ sym p.each_answered)))
         (subst (λ l. SectionDone a.script a.shards a.base t (list_at (sections ++ section ∷ []) t) l a.noted told q.made) (sym (list_at_last p.seen seen' t (is ∙ sym p.each_seen)))
         (subst (λ l. SectionDone a.script a.shards a.base t l seen' a.noted told q.made) (sym (list_at_last sections section t is))
-        (subst (λ n. SectionDone a.script a.shards a.base n section seen' a.noted told q.made) (turn ∙ sym is) (section_done sections answers section told turn p q valid))))))
+        (subst (λ n. SectionDone a.script a.shards a.base n section seen' a.noted told q.made) (turn ∙ sym is) q.done)))))
         (cases_lt t (length sections));
     callers = from_append (λ t es. AllByRecursion (λ e. caller_of e ≡ t) es) 0 p.made q.made p.callers
         (all_from_in (λ e. caller_of e ≡ 0 + length p.made) q.made
-        (λ e at. made_by thread' [] (units_of_section a.script section) q.made q.attempts e at ∙ turn ∙ sym p.each_made ∙ zero_first (length p.made)));
+        (λ e at. made_by thread' [] (units_of_section a.script section) q.made q.done.attempts e at ∙ turn ∙ sym p.each_made ∙ zero_first (length p.made)));
     fronts = λ t shard lt. ⊎_elim
         (λ (before : t < length sections).
         subst (λ l. StartsWith (list_at seen' shard) (list_at l shard)) (sym (list_at_left p.seen seen' t (within p.seen sections t p.each_seen before)))
-        (begins_trans (list_at (list_at p.seen t) shard) (list_at seen shard) (list_at seen' shard) (p.fronts t shard before) (q.grows.fronts shard)))
+        (begins_trans (list_at (list_at p.seen t) shard) (list_at seen shard) (list_at seen' shard) (p.fronts t shard before) (q.fronts shard)))
         (λ (last : length sections ≤ t).
         subst (λ l. StartsWith (list_at seen' shard) (list_at l shard)) (sym (list_at_last p.seen seen' t (last_one sections section t lt last ∙ sym p.each_seen)))
         (begins_itself (list_at seen' shard)))
@@ -152,20 +120,35 @@ module _ (a : DeviceData) (alone : IsTrue a.alone) (rules : IsScript a.script) (
       last_one : {X : Type 0} (xs : List X) (x : X) (t : ℕ) → t < length (xs ++ x ∷ []) → length xs ≤ t → t ≡ length xs
       last_one xs x t lt le = omega (arith, length-append xs (x ∷ []))
 
+pub length-taken : (sections : List (List Op)) (i : ℕ) → i < length sections → length (take i sections) ≡ i
+length-taken sections i lt = omega (arith, length-take i sections)
+
+-- the next thread has no entry yet
+pub new_thread : (a b : DeviceData) (sections : List (List Op)) (answers : List (List Answer)) (thread shard : ℕ) → thread ≡ length sections → SectionsDone a b sections answers
+    → own caller_of thread (list_at b.seen shard) ≡ []
+new_thread a b sections answers thread shard turn p =
+    filter_none (λ e. caller_of e == thread) (list_at b.seen shard)
+    (λ e at.
+    let r = in_of_flat_map (filter (lies_in a.shards shard)) p.made e (subst (In e) (p.orders shard) at) in
+    let below = (callers_below 0 p.made p.callers r.0 e r.1 (in_of_filter (lies_in a.shards shard) r.0 e r.2).0).1 in
+    let m = p.each_made in
+    ne_eqb (caller_of e) thread (λ same. omega arith))
+
 -- the same of devices
 pub sections_more : (a b d : DeviceData) (thread : ℕ) (sections : List (List Op)) (i : ℕ) (answers answers' : List (List Answer)) (section : List Op) (told : List Answer) → IsTrue a.alone
-    → IsScript a.script → a.noted ≡ [] → AllByRecursion (IsOp (keys_of a.script)) section → thread ≡ i → i < length sections → section ≡ get_or sections i section → answers' ≡ answers ++ told ∷ []
+    → d.noted ≡ a.noted → thread ≡ i → i < length sections → section ≡ get_or sections i section → answers' ≡ answers ++ told ∷ []
     → SectionsDone a b (take i sections) answers → CarriesSection (record b { thread = thread }) d section told → SectionsDone a d (take (i + 1) sections) answers'
-sections_more a b d thread sections i answers answers' section told alone rules no_notes valid turn lt read grown p q =
+sections_more a b d thread sections i answers answers' section told alone no_notes turn lt read grown p q =
     let long : length (take i sections) ≡ i = omega (arith, length-take i sections) in
     let same : d ≡ record a { thread = thread; seen = d.seen; spare = d.spare } =
-    q.same ∙ ap (λ (x : DeviceData). record x { thread = thread; seen = d.seen; spare = d.spare }) p.same in
-    let q1 = subst (λ (x : DeviceData). CarriesSection (record b { thread = thread }) x section told) q.same q in
-    let q2 = subst (λ (x : DeviceData). CarriesSection (record x { thread = thread }) (record x { thread = thread; seen = d.seen; spare = d.spare }) section told) p.same q1 in
+    q.same ∙ ap (λ (x : DeviceData). record x { thread = thread; seen = d.seen; noted = d.noted; spare = d.spare }) p.same
+    ∙ ap (λ (n : List (List Noted)). record a { thread = thread; seen = d.seen; noted = n; spare = d.spare }) no_notes in
+    let q1 = subst (λ (x : DeviceData). CarriesSection (record b { thread = thread }) x section told) same q in
+    let q2 = subst (λ (x : DeviceData). CarriesSection (record x { thread = thread }) (record a { thread = thread; seen = d.seen; spare = d.spare }) section told) p.same q1 in
     subst (λ (x : DeviceData). SectionsDone a x (take (i + 1) sections) answers') (sym same)
     (subst (λ l. SectionsDone a (record a { thread = thread; seen = d.seen; spare = d.spare }) l answers') (sym (take_next sections i section lt read))
     (subst (λ l. SectionsDone a (record a { thread = thread; seen = d.seen; spare = d.spare }) (take i sections ++ section ∷ []) l) (sym grown)
-    (more a alone rules no_notes b.thread thread b.seen d.seen b.spare d.spare (take i sections) answers section told (turn ∙ sym long) valid
+    (more a alone b.thread thread b.seen d.seen b.spare d.spare (take i sections) answers section told (turn ∙ sym long)
     (subst (λ (x : DeviceData). SectionsDone a x (take i sections) answers) p.same p) q2)))
 
 -- how many units are left
@@ -174,7 +157,7 @@ pub left_more : (b d : DeviceData) (thread : ℕ) (sections : List (List Op)) (i
     → first ≤ d.spare + sum_by unit_count_of_section (take (i + 1) sections)
 left_more b d thread sections i section told first lt read before q =
     let here = q.spare in
-    omega (arith, units_at 0 section, ap (sum_by unit_count_of_section) (take_next sections i section lt read), sum_by-append unit_count_of_section (take i sections) (section ∷ []), sum_by-cons unit_count_of_section section [])
+    omega (arith, ap (sum_by unit_count_of_section) (take_next sections i section lt read), sum_by-append unit_count_of_section (take i sections) (section ∷ []), sum_by-cons unit_count_of_section section [])
 
 sum_take : (sections : List (List Op)) (n : ℕ) → sum_by unit_count_of_section (take n sections) ≤ sum_by unit_count_of_section sections
 sum_take sections zero = omega arith

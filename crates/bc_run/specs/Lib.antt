@@ -1,7 +1,9 @@
 pub mod Words
+pub mod Built
 pub mod Command
 pub mod Statuses
 pub mod Laws
 pub mod Stages
 pub mod Sections
 pub mod Standing
+pub mod Reached

@@ -40,11 +40,6 @@ GoOnBy shards old new made =
 abbrev pub units_in : List (ℕ × Op) → ℕ
 units_in operations = sum_by (λ operation. unit_count operation.1) operations
 
--- an eviction is answered as it may be
-abbrev pub IsEvicted : Script → ℕ × Op → Answer → Type 0
-IsEvicted script (op, ops.Evict key) answer = IsEvictionAnswer script key.0 answer
-IsEvicted script (op, _) answer = ⊤
-
 -- these operations were carried out with these answers: their attempted units, each once and in order, were added to the
 -- orders, each by its way; the journals are as they were, as no script has devices
 pub record Carries (old new : DeviceData) (operations : List (ℕ × Op)) (answers : List Answer) : Type 0 where
@@ -56,16 +51,11 @@ pub record Carries (old new : DeviceData) (operations : List (ℕ × Op)) (answe
   pub attempts : Attempts old.thread [] (flat_map (units_of old.script) operations) made
   pub ways : Each (SaysItsWay old.script) made
   pub replies : AllZip (IsReply old.script old.shards old.base old.thread new.seen) operations answers
-  pub evictions : AllZip (IsEvicted old.script) operations answers
   pub ranges : Each IsAnswer answers
 
 -- one operation was carried out
 abbrev pub CarriesOne : DeviceData → DeviceData → ℕ × Op → Answer → Type 0
 CarriesOne old new operation answer = Carries old new (operation ∷ []) (answer ∷ [])
-
--- a whole section was
-abbrev pub CarriesSection : DeviceData → DeviceData → List Op → List Answer → Type 0
-CarriesSection old new section answers = Carries old new (enumerate_from 0 section) answers
 
 -- sections were carried out, one after the other, from untouched orders: for each what its thread knows then, and what it
 -- added

@@ -1,11 +1,11 @@
 -- What holds of the shards of a run by one caller, and what one attempt of a data unit does to them. The contracts of
 -- private functions speak of this; no public one does.
-use Rattle.std.specs.Prelude.{◌≡◌, ◌↔◌, ℕ, ◌+◌, ◌*◌, ◌<◌, ◌≤◌, ◌==◌, Bool, true, false, List, [], ◌∷◌, ◌++◌, length, map, filter, replicate, slice_get, Option, Some, None, ⊤}
+use Rattle.std.specs.Prelude.{◌≡◌, ℕ, ◌+◌, ◌*◌, ◌<◌, ◌≤◌, ◌==◌, Bool, true, false, List, [], ◌∷◌, ◌++◌, length, map, filter, slice_get, Option, Some, None, ⊤}
 use Rattle.std.specs.List.{range_with_len}
 use Rattle.std.specs.Option.{option_map_or}
 use Rattle.bc_base.specs.declared.place.Place.{Place}
-use Rattle.bc_base.specs.Lists.{At, AllAt, ChangesAt, list_at}
-use Rattle.bc_base.specs.Memory.{Calls, no_calls}
+use Rattle.bc_base.specs.Lists.{AllAt, ChangesAt, list_at}
+use Rattle.bc_base.specs.Memory.{no_calls}
 use Rattle.bc_base.specs.RamStores.{RamData, IsShardOf, owns, contents}
 use Rattle.bc_key.specs.KeyData.{KeyData}
 use Rattle.bc_bio.specs.declared.access.Access.TheVariants.{Read, Write}
@@ -23,7 +23,7 @@ use Rattle.bc_medium.specs.Places.{shard_of}
 use Rattle.bc_medium.specs.KeyedDisk.{Sectors, image_sectors, UnitAnswer, Faulted, Written, Text as Answered}
 use Rattle.bc_medium.specs.Entries.{name_of_entry, told_by, IsTold, written_entry, read_entry, failed_entry}
 use Rattle.bc_medium.specs.Growth.{IsEntryOf, Knows}
-use Rattle.bc_medium.specs.Outcome.{BioAnswer, is_fault}
+use Rattle.bc_medium.specs.Outcome.{is_fault}
 use Rattle.bc_medium.specs.ShardOrder.{ShardData, HasKeys}
 use Rattle.bc_medium.specs.Shards.{orders_of, Adds}
 use Rattle.bc_script.specs.declared.op.Op.{Op}
@@ -32,7 +32,8 @@ use Rattle.bc_script.specs.declared.op.Text.TheVariants.{Fill, Bytes}
 use Rattle.bc_script.specs.Script.{Script, IsScript, keys_of, sectors_in, max_units, max_bio_units, max_bio_sectors}
 use Rattle.bc_script.specs.Bios.{refusal_of}
 use Rattle.bc_script.specs.Plan.{unit_at}
-use Rattle.bc_compose.specs.SectionDone.{SaysItsWay, IsBioAnswer}
+use Rattle.bc_compose.specs.SectionDone.{SaysItsWay}
+use Rattle.bc_run.specs.Built.{IsBuilt}
 use Rattle.bc_run.specs.Sections.{DeviceData, GoOnBy}
 
 -- ---- stores
@@ -71,6 +72,7 @@ AllStand script left shards = (shard : ℕ) → AllAt shards shard (Stands scrip
 pub record IsCourse (script : Script) (keys : List KeyData) (shards : List (ShardData RamData)) (left : ℕ)
     : Type 0 where
   pub rules : IsScript script
+  pub built : IsBuilt script
   pub keys_are : keys ≡ keys_of script
   pub some : 1 ≤ length shards
   pub stand : AllStand script left shards

@@ -9,7 +9,7 @@ use Rattle.bc_run.specs.declared.status.Status.{Status}
 use Rattle.bc_run.specs.declared.status.Status.TheVariants.{Ok, Usage, BadScript, ReadFault, WriteFault, FolderFault, ImageLength, TooLong, NoMemory, Missing}
 use Rattle.bc_run.specs.declared.image.TheConstants.{MAX_IMAGE}
 use Rattle.bc_run.specs.Words.{Begins, IsCommand, Options, options_of}
-use Rattle.bc_run.specs.Command.{HasAnotherLength, IsNoScript, IsCarriedOut, IsScriptAnd}
+use Rattle.bc_run.specs.Command.{HasAnotherLength, IsBadScript, IsCarriedOut, IsScriptAnd}
 
 -- the number that the process ends with
 abbrev pub code_of : Status → ℕ
@@ -99,7 +99,7 @@ abbrev pub EndsBy : CommandRun → Status → Type 0
 EndsBy run Usage = IsCommand run.words → ⊥
 EndsBy run NoMemory = Begins (codes "serial") run.words
 EndsBy run ReadFault = IsCommand run.words × ReadRose run
-EndsBy run (BadScript e) = IsCommand run.words × IfSome run.text (IsNoScript e)
+EndsBy run (BadScript e) = IsCommand run.words × IfSome run.text (IsBadScript e)
 EndsBy run (TooLong limit) =
     IsCommand run.words
     × (((limit ≡ MAX_TEXT) × IfSome run.text (λ text. limit < length text)) ⊎ EndsByScript run (TooLong limit))

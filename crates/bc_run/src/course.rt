@@ -6,9 +6,10 @@ ghost use Rattle.bc_bio.specs.Extent.{unit_sectors, context_after};
 ghost use Rattle.bc_bio.specs.Conditions.{HasKey, IsPlaced};
 ghost use Rattle.bc_bio.specs.BioUnits.{context_wrapped};
 ghost use Rattle.bc_script.specs.declared.op.Op.{Op};
-ghost use Rattle.bc_script.specs.Script.{keys_of, IsText, max_bio_units, max_bio_sectors};
+ghost use Rattle.bc_script.specs.Script.{keys_of, IsScript, IsText, max_bio_units, max_bio_sectors};
 ghost use Rattle.bc_script.specs.Bios.{refusal_of};
 ghost use Rattle.bc_script.specs.Plan.{unit_at};
+ghost use Rattle.bc_run.specs.Built.{IsBuilt};
 ghost use Rattle.bc_run.specs.Sections.{CarriesOne};
 ghost use Rattle.bc_run.specs.Standing.{IsPerformable, AttemptsUnit, answer_of_write, answer_of_read, at_of, device_of};
 
@@ -53,6 +54,11 @@ impl Course<'_> {
     {
         self.thread = thread;
     }
+
+    /// Does nothing, and states that its script is one that is carried out.
+    pub(crate) fn is_built(&self)
+        ensures { IsBuilt self.now.script }
+    {}
 
     /// Why a bio is refused, if it is.
     pub(crate) fn refusal(&self, bio: &Extent) -> Option<Refusal>

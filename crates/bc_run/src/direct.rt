@@ -1,11 +1,15 @@
 //! The device of a run by one caller: operations act at once, and no other caller comes between.
 
-ghost use Rattle.std.specs.Prelude.{◌≡◌};
+ghost use Rattle.std.specs.Prelude.{◌≡◌, ◌≤◌, IfOk};
+ghost use Rattle.bc_script.specs.Script.{keys_of, unit_count, IsScriptOp};
+ghost use Rattle.bc_run.specs.Sections.{CarriesOne};
+ghost use Rattle.bc_run.specs.Reached.{IsAcceptedBio};
 
 use crate::course::Course;
 use crate::device::Device;
 use bc_bio::{Extent, Refusal};
 use bc_key::KeyNo;
+use bc_medium::order_laws;
 use bc_report::Answer;
 use bc_script::Op;
 use std::alloc::{AllocError, Global};
@@ -32,11 +36,35 @@ impl<'s> Model for Direct<'s> {
 }
 
 impl Direct<'_> {
+    ghost use Rattle.bc_run.specs.Standing.{device_of};
+
     /// Begins the section of a thread.
     pub(crate) fn begin(&mut self, thread: u16)
         ensures { self.new ≡ record self.old { thread = thread } }
     {
         self.course.begin(thread);
+    }
+
+    /// Performs an operation's bio, which isn't refused.
+    fn submit(&mut self, op: u32, operation: &Op) -> Result<Answer, AllocError>
+        requires rules { IsScriptOp self.old.script operation.now }
+        requires accepted { IsAcceptedBio self.old.script operation.now }
+        requires spare { unit_count operation.now ≤ self.old.left }
+        ensures { IfOk result (CarriesOne (device_of self.old) (device_of self.new) (op, operation.now)) }
+    {
+        let Some(bio) = operation.bio() else {
+            unreachable!()
+        };
+        if !self.course.accepts(&bio) {
+            unreachable!()
+        }
+        match operation {
+            Op::Write { text, .. } => {
+                self.course
+                    .write(self.alloc, op, &bio, text, self.room.as_mut_slice())
+            }
+            _ => Ok(self.course.read(op, &bio, self.room.as_mut_slice())),
+        }
     }
 }
 
@@ -49,30 +77,29 @@ impl Device<(), AllocError> for Direct<'_> {
         self.course.refusal(bio)
     }
 
-    fn submit(
+    fn window(
         &mut self,
         _rt: &(),
-        op: u32,
-        operation: &Op,
-        bio: &Extent,
-    ) -> Result<Answer, AllocError> {
-        if !self.course.accepts(bio) {
-            unreachable!()
+        section: &[Op],
+        window: &[u32],
+        answers: &mut [Option<Answer>],
+    ) -> Result<(), AllocError> {
+        order_laws();
+        self.course.is_built();
+        for op in window {
+            let answer = self.submit(*op, &section[*op as usize])?;
+            answers[*op as usize] = Some(answer);
         }
-        match operation {
-            Op::Write { text, .. } => {
-                self.course
-                    .write(self.alloc, op, bio, text, self.room.as_mut_slice())
-            }
-            _ => Ok(self.course.read(op, bio, self.room.as_mut_slice())),
-        }
+        Ok(())
     }
 
     fn evict(&mut self, _rt: &(), _op: u32, _key: KeyNo) -> Result<Answer, AllocError> {
+        self.course.is_built();
         Ok(Answer::Evicted)
     }
 
-    fn reset(&mut self, _rt: &(), _op: u32, _device: u8) -> Result<Answer, AllocError> {
-        Ok(Answer::Reset)
+    fn reset(&mut self, _rt: &(), _op: u32, _device: u8) -> Result<(), AllocError> {
+        self.course.is_built();
+        Ok(())
     }
 }

@@ -15,6 +15,7 @@
 #![tactic(auto)]
 
 // a run of the program, stage by stage
+mod built;
 mod image;
 mod program;
 mod status;
@@ -24,6 +25,7 @@ mod words;
 mod course;
 mod device;
 mod direct;
+mod pending;
 mod read_answer;
 mod unit_access;
 
@@ -37,6 +39,7 @@ mod ciphers;
 // the laws of runs
 mod laws;
 
+pub use built::unbuilt_line;
 pub use image::MAX_IMAGE;
 pub use laws::{serial_runs_agree, words_by_example};
 pub use one_caller::{Finished, serial};

@@ -1,15 +1,20 @@
 //! A script carried out by one caller.
 
-ghost use Rattle.std.specs.Prelude.{◌≡◌, ℕ, ◌*◌, ◌^◌, ◌<◌, ◌≤◌, [], length, map, sum_by, IfOk};
+ghost use Rattle.std.specs.Prelude.{◌≡◌, ℕ, ◌*◌, ◌^◌, ◌<◌, ◌≤◌, [], length, map, sum_by, IfOk, List, Some};
 ghost use Rattle.bc_base.specs.Lists.{Each, list_at};
+ghost use Rattle.bc_base.specs.Story.{own};
+ghost use Rattle.bc_medium.specs.Entries.{caller_of};
 ghost use Rattle.bc_medium.specs.Shards.{orders_of};
-ghost use Rattle.bc_script.specs.Script.{IsScript, IsScriptSection, unit_count_of_section, max_ops};
+ghost use Rattle.bc_report.specs.declared.answer.Answer.{Answer};
+ghost use Rattle.bc_script.specs.Script.{IsScript, keys_of, IsScriptSection, unit_count_of_section, max_ops};
 ghost use Rattle.bc_report.specs.LawfulRun.{LawfulRun};
 ghost use Rattle.bc_report.specs.RunOf.{run_of};
 ghost use Rattle.bc_report.specs.SerialRun.{IsSerial};
 ghost use Rattle.bc_report.specs.Report.{IsEntry, IsPart};
 ghost use Rattle.bc_compose.specs.Closed.{line_of};
-ghost use Rattle.bc_run.specs.Sections.{CarriesSection, SectionsDone};
+ghost use Rattle.bc_run.specs.Sections.{SectionsDone};
+ghost use Rattle.bc_run.specs.Reached.{CarriesSection};
+ghost use Rattle.bc_run.specs.Built.{IsBuilt};
 ghost use Rattle.bc_run.specs.Standing.{IsBegun, device_of};
 
 use crate::ciphers::Ciphers;
@@ -40,8 +45,10 @@ pub struct Finished {
 const BIO_BYTES: usize = MAX_BIO_SECTORS as usize * SECTOR_BYTES;
 
 /// Carries a script out by one caller: the section of thread 0, then that of thread 1, and so on. The data units of a bio
-/// that isn't refused are attempted one after the other, until one meets a fault that the script plans; a plugged bio is
-/// submitted at once.
+/// that isn't refused are attempted one after the other, until one meets a fault that the script plans; bios
+/// of a plug are held back and submitted together, in order.
+///
+/// The script has a fallback and no devices: those aren't carried out yet (see [`unbuilt_line`](crate::unbuilt_line)).
 ///
 /// `image` is the disk as the run finds it: 4096 bytes for each block of the script's disk, as
 /// [`Script::blocks`](bc_script::Script::blocks) counts them. `shards` is 1 to 64, and block `b` lies in shard
@@ -57,6 +64,7 @@ pub fn serial(
     image: Vec<u8>,
     shards: u16,
 ) -> Result<Finished, AllocError>
+    requires built { IsBuilt script.now }
     requires length { length image.items ≡ 4096 * script.now.blocks }
     requires shards { (1 ≤ shards) × (shards ≤ 64) }
     ensures lawful { IfOk result (λ finished.
@@ -87,6 +95,7 @@ fn begin<'s>(
     image: Vec<u8>,
     shards: u16,
 ) -> Result<Direct<'s>, AllocError>
+    requires built { IsBuilt script.now }
     requires length { length image.items ≡ 4096 * script.now.blocks }
     requires shards { (1 ≤ shards) × (shards ≤ 64) }
     ensures { IfOk result (IsBegun script.now image.items shards) }
@@ -135,14 +144,29 @@ fn carry_section_out(
     section: &[Op],
 ) -> Result<Items<Answer>, AllocError>
     requires rules { IsScriptSection direct.old.script section.now }
+    requires new { (shard : ℕ) → own caller_of thread (list_at (orders_of direct.old.shards) shard) ≡ [] }
     requires few { length section.now ≤ max_ops }
     requires spare { unit_count_of_section section.now ≤ direct.old.left }
     ensures { IfOk result (CarriesSection
         (device_of (record direct.old { thread = thread })) (device_of direct.new) section.now) }
 {
     direct.begin(thread);
-    let mut answers = Vec::with_capacity(alloc, section.len())?;
-    carry_out(&(), direct, section, &mut answers)?;
+    let mut noted = vec![in alloc; None; section.len()]?;
+    carry_out(&(), direct, section, noted.as_mut_slice())?;
+    let answers = answers_of(alloc, noted.as_slice())?;
+    Ok(answers)
+}
+
+/// The answers that were noted, one for each operation.
+fn answers_of(alloc: Global, noted: &[Option<Answer>]) -> Result<Items<Answer>, AllocError>
+    requires all { (replies : List Answer) × (noted.now ≡ map (λ a. Some a) replies) }
+    ensures { IfOk result (λ answers. map (λ a. Some a) answers ≡ noted.now) }
+{
+    let mut answers = Vec::with_capacity(alloc, noted.len())?;
+    for answer in noted {
+        let Some(answer) = answer else { unreachable!() };
+        answers.push(*answer)?;
+    }
     Ok(Items::from_vec(answers))
 }
 

@@ -4,6 +4,7 @@
 ghost use Rattle.std.specs.Prelude.{◌≤◌};
 
 use super::*;
+use crate::built::unbuilt_line;
 use bc_report::print;
 use bc_script::parse;
 use sha2::{Digest, Sha256};
@@ -14,6 +15,9 @@ fn finished(alloc: Global, text: &[u8], shards: u16) -> Result<Finished, Fail>
     requires { (1 ≤ shards) × (shards ≤ 64) }
 {
     let script = parse(alloc, text)?;
+    let None = unbuilt_line(&script) else {
+        return Err(Fail::from(AllocError));
+    };
     let image = vec![in alloc; 0; 4096 * script.blocks() as usize]?;
     Ok(serial(alloc, &script, image, shards)?)
 }

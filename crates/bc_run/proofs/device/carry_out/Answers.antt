@@ -1,42 +1,31 @@
-use Rattle.std.proofs.Common.{sym, subst, ap, ◌≡◌, ◌∙◌, ◌+◌, ◌++◌, ◌∷◌, List, [], refl, arith, length, take, rules}
-use Rattle.std.proofs.lemmas.List.{take_all}
-use Rattle.std.specs.List.{enumerate_from}
-use Rattle.bc_script.specs.Script.{Script, IsScriptOp}
+use Rattle.std.proofs.Common.{sym, subst, ◌≡◌, ◌∙◌, ◌∷◌, ◌+◌, ◌<◌, ℕ, List, [], ap, refl, Some, arith, length, map}
+use Rattle.std.proofs.lemmas.Option.{slice_get_read}
+use Rattle.bc_base.specs.Lists.{list_at}
+use Rattle.bc_base.specs.Story.{own}
+use Rattle.bc_medium.specs.Entries.{caller_of}
 use Rattle.bc_report.specs.declared.answer.Answer.{Answer}
-use Rattle.bc_run.specs.Sections.{Carries}
-use Rattle.bc_run.proofs.Lists.{all_read}
-use Rattle.bc_run.proofs.Carrying.{carries_none, carries_more, spare_next, same_script}
+use Rattle.bc_run.specs.Sections.{DeviceData}
+use Rattle.bc_run.specs.Reached.{Reached, CarriesSection}
+use Rattle.bc_run.proofs.Reaching.{reached_none, reached_all}
 use Rattle.bc_run.proofs.device.carry_out.Goals as goal
 
 pub loop-op-init : goal.loop-op-init
 loop-op-init g c =
-    let d = g.D.Device.facts c.args.device.now in record {
-      carried = subst (λ (l : List Answer). Carries d d [] l) (sym c.requires.empty) (carries_none d);
-      long = ap length c.requires.empty;
-      room = c.requires.room;
+    let d = g.D.Device.facts in record {
+      reached =
+          subst (λ (l : List ℕ). Reached (d c.of-start.result.value) (d c.args.device.now) c.args.section.now 0 l c.args.answers.now) (sym c.new-pending.ensures)
+          (subst (λ s. Reached (d s) (d c.args.device.now) c.args.section.now 0 [] c.args.answers.now) (sym c.of-start.ensures)
+          (reached_none c.order_laws.ensures.known_stays c.hold_laws.ensures.stays c.hold_laws.ensures.later c.hold_laws.ensures.behind (d c.args.device.now) c.args.section.now c.args.answers.now c.requires.no_events c.requires.long));
     }
 
-pub loop-op-preserved : goal.loop-op-preserved
-loop-op-preserved g c =
-    let d = g.D.Device.facts in
-    let i = c.loop-op.invariant in
-    record {
-      carried = carries_more c.order_laws.ensures.known_stays (d c.args.device.now) (d c.loop-op.device) (d c.carry_out_one.new.device) c.args.section.now c.loop-op.op c.index-section-op.result
-          c.loop-op.answers.items c.push_reserved.new.self.items c.in_ok-answer.answer c.loop-op-test.true c.index-section-op.is c.push_reserved.ensures.items
-          i.carried c.in_ok-answer.ensures;
-      long = search rules;
-      room = search rules;
-    }
+pub step-requires-clause-operation : goal.step-requires-clause-operation
+step-requires-clause-operation g c =
+    slice_get_read c.args.section.now (length c.args.section.now) c.loop-op.op c.index-section-op.result refl (omega (arith, c.loop-op-test.true)) c.index-section-op.is
 
-pub carry_out_one-requires-clause-rules : goal.carry_out_one-requires-clause-rules
-carry_out_one-requires-clause-rules g c =
+pub returns : goal.returns
+returns g c =
     let d = g.D.Device.facts in
-    subst (λ (s : Script). IsScriptOp s c.index-section-op.result)
-    (sym (same_script (d c.args.device.now) (d c.loop-op.device) (enumerate_from 0 (take c.loop-op.op c.args.section.now)) c.loop-op.answers.items c.loop-op.invariant.carried))
-    (all_read (IsScriptOp (d c.args.device.now).script) c.args.section.now c.loop-op.op c.index-section-op.result c.requires.rules c.loop-op-test.true c.index-section-op.is)
-
-pub carry_out_one-requires-clause-spare : goal.carry_out_one-requires-clause-spare
-carry_out_one-requires-clause-spare g c =
-    let d = g.D.Device.facts in
-    spare_next (d c.args.device.now) (d c.loop-op.device) c.args.section.now c.loop-op.op c.index-section-op.result c.loop-op.answers.items
-    c.loop-op-test.true c.index-section-op.is c.requires.spare c.loop-op.invariant.carried
+    let last = c.in_ok-flush.ensures.reached in
+    let start : DeviceData = d c.args.device.now in
+    let moved = subst (λ s. Reached (d s) (d c.flush.new.device) c.args.section.now (length c.args.section.now) [] c.flush.new.answers) c.of-start.ensures last in
+    reached_all c.order_laws.ensures.known_stays c.hold_laws.ensures.stays c.hold_laws.ensures.later c.hold_laws.ensures.behind (d c.args.device.now) c.args.section.now (d c.flush.new.device) c.flush.new.answers c.requires.new moved

@@ -1,4 +1,4 @@
-use Rattle.std.proofs.Common.{◌≡◌, ◌∙◌, List, refl, sym, ap, subst, rules}
+use Rattle.std.proofs.Common.{◌≡◌, ◌∙◌, ap, subst, rules}
 use Rattle.std.specs.Prelude.{replicate}
 use Rattle.bc_medium.specs.Shards.{opened_with}
 use Rattle.bc_script.specs.Script.{max_units, bare_keys}
@@ -10,12 +10,12 @@ pub invariant_of-result : goal.invariant_of-result
 invariant_of-result c =
     let quotas : c.in_ok-quotas.quotas.items ≡ replicate c.args.shards max_units = search rules in
     let are : AreOpenings c.args.script.now c.args.image.items c.args.shards c.in_ok-stores.stores.items = subst (λ l. AreOpenings c.args.script.now l c.args.shards c.in_ok-stores.stores.items) c.as_slice.ensures.value c.in_ok-stores.ensures in
-    begun_course c.args.script.now c.keys.ensures.rules c.args.image.items c.args.shards c.requires.shards.0 c.requires.length c.in_ok-stores.stores.items are
+    begun_course c.args.script.now c.keys.ensures.rules c.requires.built c.args.image.items c.args.shards c.requires.shards.0 c.requires.length c.in_ok-stores.stores.items are
     c.in_ok-of_keys.field-0 c.in_ok-open.field-0 (c.in_ok-open.ensures ∙ ap (opened_with c.in_ok-stores.stores.items) quotas) (c.in_ok-of_keys.ensures ∙ ap bare_keys c.keys.ensures.value)
 
 pub returns : goal.returns
 returns c =
     let quotas : c.in_ok-quotas.quotas.items ≡ replicate c.args.shards max_units = search rules in
     let are : AreOpenings c.args.script.now c.args.image.items c.args.shards c.in_ok-stores.stores.items = subst (λ l. AreOpenings c.args.script.now l c.args.shards c.in_ok-stores.stores.items) c.as_slice.ensures.value c.in_ok-stores.ensures in
-    is_begun c.args.script.now c.keys.ensures.rules c.args.image.items c.args.shards c.requires.shards.0 c.requires.length c.in_ok-stores.stores.items are
+    is_begun c.args.script.now c.keys.ensures.rules c.requires.built c.args.image.items c.args.shards c.requires.shards.0 c.requires.length c.in_ok-stores.stores.items are
     c.in_ok-open.field-0 (c.in_ok-open.ensures ∙ ap (opened_with c.in_ok-stores.stores.items) quotas)

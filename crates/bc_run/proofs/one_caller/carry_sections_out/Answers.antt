@@ -1,13 +1,14 @@
-use Rattle.std.proofs.Common.{◌≡◌, ◌∙◌, ◌<◌, ◌≤◌, ◌+◌, List, [], refl, sym, ap, subst, arith, rules, length, take, true}
+use Rattle.std.proofs.Common.{take, ◌≡◌, ◌≤◌, List, [], refl, sym, ap, subst, arith, length}
 use Rattle.std.specs.List.{AllByRecursion}
 use Rattle.std.specs.Prelude.{sum_by}
 use Rattle.bc_script.specs.declared.op.Op.{Op}
-use Rattle.bc_script.specs.Script.{Script, keys_of, IsOp, IsSection, max_ops, max_threads, unit_count_of_section}
+use Rattle.bc_script.specs.Script.{Script, keys_of, IsOp, IsScriptSection, max_ops, max_threads, unit_count_of_section}
 use Rattle.bc_report.specs.declared.answer.Answer.{Answer}
-use Rattle.bc_run.specs.Sections.{CarriesSection, SectionsDone}
+use Rattle.bc_run.specs.Sections.{SectionsDone}
+use Rattle.bc_run.specs.Reached.{CarriesSection}
 use Rattle.bc_run.specs.Standing.{device_of}
 use Rattle.bc_run.proofs.Lists.{all_read}
-use Rattle.bc_run.proofs.Turns.{sections_none, sections_more, left_more, left_next, few_ops}
+use Rattle.bc_run.proofs.Turns.{new_thread, length-taken, sections_none, sections_more, left_more, left_next, few_ops}
 use Rattle.bc_run.proofs.one_caller.carry_sections_out.Goals as goal
 
 pub loop-thread-init : goal.loop-thread-init
@@ -25,13 +26,9 @@ loop-thread-preserved c =
     let section = c.index-sections-thread.result in
     let carried : CarriesSection (record b { thread = c.loop-thread.thread }) d section c.in_ok-answered.answered =
     subst (λ (l : List Op). CarriesSection (record b { thread = c.loop-thread.thread }) d l c.in_ok-answered.answered) c.as_slice.ensures c.in_ok-answered.ensures in
-    let all : AllByRecursion (IsSection (keys_of c.args.direct.now.script)) c.args.sections.now =
-    subst (AllByRecursion (IsSection (keys_of c.args.direct.now.script))) (sym c.requires.sections) c.requires.rules.threads.each in
-    let valid : AllByRecursion (IsOp (keys_of c.args.direct.now.script)) section =
-    (all_read (IsSection (keys_of c.args.direct.now.script)) c.args.sections.now c.loop-thread.thread section all c.loop-thread-test.true c.index-sections-thread.is).each in
     record {
       done = sections_more a b d c.loop-thread.thread c.args.sections.now c.loop-thread.thread c.loop-thread.answers.items c.push.new.self.items section c.in_ok-answered.answered
-          refl c.requires.rules refl valid refl c.loop-thread-test.true c.index-sections-thread.is c.in_ok-push.ensures.items c.loop-thread.invariant.done carried;
+          refl refl refl c.loop-thread-test.true c.index-sections-thread.is c.in_ok-push.ensures.items c.loop-thread.invariant.done carried;
       left = left_more b d c.loop-thread.thread c.args.sections.now c.loop-thread.thread section c.in_ok-answered.answered c.args.direct.now.left c.loop-thread-test.true c.index-sections-thread.is
           c.loop-thread.invariant.left carried;
     }
@@ -40,14 +37,16 @@ pub carry_section_out-requires : goal.carry_section_out-requires
 carry_section_out-requires c =
     let section = c.index-sections-thread.result in
     let script : c.loop-thread.direct.script ≡ c.args.direct.now.script = ap (λ d. d.script) c.loop-thread.invariant.done.same in
-    let all : AllByRecursion (IsSection (keys_of c.args.direct.now.script)) c.args.sections.now =
-    subst (AllByRecursion (IsSection (keys_of c.args.direct.now.script))) (sym c.requires.sections) c.requires.rules.threads.each in
+    let all : AllByRecursion (IsScriptSection c.args.direct.now.script) c.args.sections.now =
+    subst (AllByRecursion (IsScriptSection c.args.direct.now.script)) (sym c.requires.sections) c.requires.rules.threads.each in
     let most = subst (λ l. sum_by length l ≤ max_ops) (sym c.requires.sections) c.requires.rules.threads.few_ops in
     let few = few_ops c.args.sections.now c.loop-thread.thread section c.loop-thread-test.true c.index-sections-thread.is in
     record {
-      rules = subst (λ (s : Script). IsSection (keys_of s) c.as_slice.result.now) (sym script)
-          (subst (IsSection (keys_of c.args.direct.now.script)) (sym c.as_slice.ensures)
-          (all_read (IsSection (keys_of c.args.direct.now.script)) c.args.sections.now c.loop-thread.thread section all c.loop-thread-test.true c.index-sections-thread.is));
+      rules = subst (λ (s : Script). IsScriptSection s c.as_slice.result.now) (sym script)
+          (subst (IsScriptSection c.args.direct.now.script) (sym c.as_slice.ensures)
+          (all_read (IsScriptSection c.args.direct.now.script) c.args.sections.now c.loop-thread.thread section all c.loop-thread-test.true c.index-sections-thread.is));
+      new = λ shard. new_thread (device_of c.args.direct.now) (device_of c.loop-thread.direct) (take c.loop-thread.thread c.args.sections.now) c.loop-thread.answers.items c.loop-thread.thread shard
+          (sym (length-taken c.args.sections.now c.loop-thread.thread c.loop-thread-test.true)) c.loop-thread.invariant.done;
       few = omega (arith, ap length c.as_slice.ensures);
       spare = omega (
         arith,

@@ -1,4 +1,4 @@
-use Rattle.std.proofs.Common.{◌≡◌, ◌≤◌, ◌+◌, length, take}
+use Rattle.std.proofs.Common.{◌≤◌, ◌+◌, take}
 use Rattle.std.specs.Prelude.{sum_by}
 use Rattle.bc_script.specs.Script.{unit_count_of_section}
 use Rattle.bc_run.specs.Sections.{SectionsDone}

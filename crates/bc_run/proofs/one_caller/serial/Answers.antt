@@ -1,6 +1,6 @@
-use Rattle.std.proofs.Common.{◌≡◌, ◌∙◌, ℕ, ◌*◌, ◌<◌, ◌^◌, List, [], length, map, Vec, Global, sym, ap, subst, refl}
+use Rattle.std.proofs.Common.{◌≡◌, ◌∙◌, ℕ, ◌*◌, ◌<◌, ◌^◌, List, [], length, map, Vec, Global, sym, ap, subst}
 use Rattle.bc_base.specs.Lists.{AllAt, Each}
-use Rattle.bc_base.specs.RamStores.{HaveAllSectors, RamData, contents}
+use Rattle.bc_base.specs.RamStores.{HaveAllSectors, contents}
 use Rattle.bc_medium.specs.declared.entry.Entry.{Entry}
 use Rattle.bc_medium.specs.Places.{shard_of}
 use Rattle.bc_medium.specs.KeyedDisk.{image_sectors}
@@ -27,7 +27,7 @@ join-requires c =
     subst (λ (v : CourseData). SectionsDone (device_of v0) (device_of v) script.threads c.in_ok-answers.answers) (sym is)
     (subst (λ l. SectionsDone (device_of v0) (device_of c.carry_sections_out.new.direct) l c.in_ok-answers.answers) c.threads.ensures.value c.in_ok-answers.ensures) in
     let orders : List (List Entry) = map (λ o. o.items) c.close-stores.result.1.items in
-    subst (λ b. HaveAllSectors b c.deref.result.now) (sym c.blocks-2.ensures.value) (subst (HaveAllSectors script.blocks) (sym c.deref.ensures.value) (have_all script rules c.args.image.items c.args.shards c.requires.shards.0 c.requires.shards.1 c.requires.length v0 v1 c.in_ok-direct.ensures c.in_ok-answers.answers done c.course.inside.ciphers c.course.invariant c.close-stores.result.0.items orders c.close-stores.ensures.stores c.close-stores.ensures.entries c.close-stores.ensures.orders c.close-stores.ensures.left))
+    subst (λ b. HaveAllSectors b c.deref.result.now) (sym c.blocks-2.ensures.value) (subst (HaveAllSectors script.blocks) (sym c.deref.ensures.value) (have_all script rules c.requires.built c.args.image.items c.args.shards c.requires.shards.0 c.requires.shards.1 c.requires.length v0 v1 c.in_ok-direct.ensures c.in_ok-answers.answers done c.course.inside.ciphers c.course.invariant c.close-stores.result.0.items orders c.close-stores.ensures.stores c.close-stores.ensures.entries c.close-stores.ensures.orders c.close-stores.ensures.left))
 
 pub lines_of_shards-requires : goal.lines_of_shards-requires
 lines_of_shards-requires c =
@@ -40,7 +40,7 @@ lines_of_shards-requires c =
     subst (λ (v : CourseData). SectionsDone (device_of v0) (device_of v) script.threads c.in_ok-answers.answers) (sym is)
     (subst (λ l. SectionsDone (device_of v0) (device_of c.carry_sections_out.new.direct) l c.in_ok-answers.answers) c.threads.ensures.value c.in_ok-answers.ensures) in
     let orders : List (List Entry) = map (λ o. o.items) c.close-stores.result.1.items in
-    record { few = subst (Each (λ (o : Vec Entry Global). length o.items < 2 ^ 32)) (sym c.as_slice.ensures.value) (each_of_map (λ (o : Vec Entry Global). o.items) (λ (l : List Entry). length l < 2 ^ 32) c.close-stores.result.1.items (orders_few script rules c.args.image.items c.args.shards c.requires.shards.0 c.requires.shards.1 c.requires.length v0 v1 c.in_ok-direct.ensures c.in_ok-answers.answers done c.course.inside.ciphers c.course.invariant c.close-stores.result.0.items orders c.close-stores.ensures.stores c.close-stores.ensures.entries c.close-stores.ensures.orders c.close-stores.ensures.left)) }
+    record { few = subst (Each (λ (o : Vec Entry Global). length o.items < 2 ^ 32)) (sym c.as_slice.ensures.value) (each_of_map (λ (o : Vec Entry Global). o.items) (λ (l : List Entry). length l < 2 ^ 32) c.close-stores.result.1.items (orders_few script rules c.requires.built c.args.image.items c.args.shards c.requires.shards.0 c.requires.shards.1 c.requires.length v0 v1 c.in_ok-direct.ensures c.in_ok-answers.answers done c.course.inside.ciphers c.course.invariant c.close-stores.result.0.items orders c.close-stores.ensures.stores c.close-stores.ensures.entries c.close-stores.ensures.orders c.close-stores.ensures.left)) }
 
 pub new-requires-2 : goal.new-requires-2
 new-requires-2 c =
@@ -60,7 +60,7 @@ new-requires-2 c =
     (subst (λ l. (s : ℕ) → s < 8 * c.blocks-2.result → AllAt l (shard_of (length l) s) (λ store. image_sectors left s ≡ contents store s)) c.deref.ensures.value c.in_ok-image.ensures.sectors) in
     let lines : c.in_ok-lines.lines ≡ map (map line_of) orders =
     c.in_ok-lines.ensures.lines ∙ ap (map (λ (o : Vec Entry Global). map line_of o.items)) c.as_slice.ensures.value ∙ sym (map-map (λ (o : Vec Entry Global). o.items) (map line_of) c.close-stores.result.1.items) in
-    subst (λ d. IsReport (record { threads = c.in_ok-answers.answers; shards = c.in_ok-lines.lines; devices = d })) (sym c.new.ensures) (is_report script rules c.args.image.items c.args.shards c.requires.shards.0 c.requires.shards.1 c.requires.length v0 v1 c.in_ok-direct.ensures c.in_ok-answers.answers done c.course.inside.ciphers c.course.invariant c.close-stores.result.0.items orders c.close-stores.ensures.stores c.close-stores.ensures.entries c.close-stores.ensures.orders c.close-stores.ensures.left left long sectors c.in_ok-lines.lines lines c.in_ok-lines.ensures.ranges)
+    subst (λ d. IsReport (record { threads = c.in_ok-answers.answers; shards = c.in_ok-lines.lines; devices = d })) (sym c.new.ensures) (is_report script rules c.requires.built c.args.image.items c.args.shards c.requires.shards.0 c.requires.shards.1 c.requires.length v0 v1 c.in_ok-direct.ensures c.in_ok-answers.answers done c.course.inside.ciphers c.course.invariant c.close-stores.result.0.items orders c.close-stores.ensures.stores c.close-stores.ensures.entries c.close-stores.ensures.orders c.close-stores.ensures.left left long sectors c.in_ok-lines.lines lines c.in_ok-lines.ensures.ranges)
 
 pub returns-clause-lawful : goal.returns-clause-lawful
 returns-clause-lawful c =
@@ -82,9 +82,9 @@ returns-clause-lawful c =
     c.in_ok-lines.ensures.lines ∙ ap (map (λ (o : Vec Entry Global). map line_of o.items)) c.as_slice.ensures.value ∙ sym (map-map (λ (o : Vec Entry Global). o.items) (map line_of) c.close-stores.result.1.items) in
     let report : Report = record { threads = c.in_ok-answers.answers; shards = c.in_ok-lines.lines; devices = [] } in
     let report_is : c.new-2.result ≡ report = c.new-2.ensures ∙ ap (λ d. record { threads = c.in_ok-answers.answers; shards = c.in_ok-lines.lines; devices = d }) c.new.ensures in
-    let sections = are_sections script rules c.args.image.items c.args.shards c.requires.shards.0 c.requires.shards.1 c.requires.length v0 v1 c.in_ok-direct.ensures c.in_ok-answers.answers done c.course.inside.ciphers c.course.invariant c.close-stores.result.0.items orders c.close-stores.ensures.stores c.close-stores.ensures.entries c.close-stores.ensures.orders c.close-stores.ensures.left left long sectors c.in_ok-lines.lines lines c.in_ok-lines.ensures.ranges in
-    let serial : IsSerial script (run_of script c.args.image.items report) report = (c.sections_in_turn_make_a_serial_run.ensures script c.args.image.items c.args.shards report left (made_of script rules c.args.image.items c.args.shards c.requires.shards.0 c.requires.shards.1 c.requires.length v0 v1 c.in_ok-direct.ensures c.in_ok-answers.answers done c.course.inside.ciphers c.course.invariant c.close-stores.result.0.items orders c.close-stores.ensures.stores c.close-stores.ensures.entries c.close-stores.ensures.orders c.close-stores.ensures.left) orders [] sections (follow script rules c.args.image.items c.args.shards c.requires.shards.0 c.requires.shards.1 c.requires.length v0 v1 c.in_ok-direct.ensures c.in_ok-answers.answers done c.course.inside.ciphers c.course.invariant c.close-stores.result.0.items orders c.close-stores.ensures.stores c.close-stores.ensures.entries c.close-stores.ensures.orders c.close-stores.ensures.left left long sectors c.in_ok-lines.lines lines c.in_ok-lines.ensures.ranges) (uses script rules c.args.image.items c.args.shards c.requires.shards.0 c.requires.shards.1 c.requires.length v0 v1 c.in_ok-direct.ensures c.in_ok-answers.answers done c.course.inside.ciphers c.course.invariant c.close-stores.result.0.items orders c.close-stores.ensures.stores c.close-stores.ensures.entries c.close-stores.ensures.orders c.close-stores.ensures.left left long sectors c.in_ok-lines.lines lines c.in_ok-lines.ensures.ranges)) in
-    let but = c.sections_make_a_lawful_run.ensures script c.args.image.items c.args.shards report left (made_of script rules c.args.image.items c.args.shards c.requires.shards.0 c.requires.shards.1 c.requires.length v0 v1 c.in_ok-direct.ensures c.in_ok-answers.answers done c.course.inside.ciphers c.course.invariant c.close-stores.result.0.items orders c.close-stores.ensures.stores c.close-stores.ensures.entries c.close-stores.ensures.orders c.close-stores.ensures.left) orders [] sections in
+    let sections = are_sections script rules c.requires.built c.args.image.items c.args.shards c.requires.shards.0 c.requires.shards.1 c.requires.length v0 v1 c.in_ok-direct.ensures c.in_ok-answers.answers done c.course.inside.ciphers c.course.invariant c.close-stores.result.0.items orders c.close-stores.ensures.stores c.close-stores.ensures.entries c.close-stores.ensures.orders c.close-stores.ensures.left left long sectors c.in_ok-lines.lines lines c.in_ok-lines.ensures.ranges in
+    let serial : IsSerial script (run_of script c.args.image.items report) report = (c.sections_in_turn_make_a_serial_run.ensures script c.args.image.items c.args.shards report left (made_of script rules c.requires.built c.args.image.items c.args.shards c.requires.shards.0 c.requires.shards.1 c.requires.length v0 v1 c.in_ok-direct.ensures c.in_ok-answers.answers done c.course.inside.ciphers c.course.invariant c.close-stores.result.0.items orders c.close-stores.ensures.stores c.close-stores.ensures.entries c.close-stores.ensures.orders c.close-stores.ensures.left) orders [] sections (follow script rules c.requires.built c.args.image.items c.args.shards c.requires.shards.0 c.requires.shards.1 c.requires.length v0 v1 c.in_ok-direct.ensures c.in_ok-answers.answers done c.course.inside.ciphers c.course.invariant c.close-stores.result.0.items orders c.close-stores.ensures.stores c.close-stores.ensures.entries c.close-stores.ensures.orders c.close-stores.ensures.left left long sectors c.in_ok-lines.lines lines c.in_ok-lines.ensures.ranges) (uses script rules c.requires.built c.args.image.items c.args.shards c.requires.shards.0 c.requires.shards.1 c.requires.length v0 v1 c.in_ok-direct.ensures c.in_ok-answers.answers done c.course.inside.ciphers c.course.invariant c.close-stores.result.0.items orders c.close-stores.ensures.stores c.close-stores.ensures.entries c.close-stores.ensures.orders c.close-stores.ensures.left left long sectors c.in_ok-lines.lines lines c.in_ok-lines.ensures.ranges)) in
+    let but = c.sections_make_a_lawful_run.ensures script c.args.image.items c.args.shards report left (made_of script rules c.requires.built c.args.image.items c.args.shards c.requires.shards.0 c.requires.shards.1 c.requires.length v0 v1 c.in_ok-direct.ensures c.in_ok-answers.answers done c.course.inside.ciphers c.course.invariant c.close-stores.result.0.items orders c.close-stores.ensures.stores c.close-stores.ensures.entries c.close-stores.ensures.orders c.close-stores.ensures.left) orders [] sections in
     let known = c.serial_runs_have_known_holders.ensures script (run_of script c.args.image.items report) report rules serial in
     subst (λ r. LawfulRun script c.args.image.items c.args.shards r left) (sym report_is) (record { but_holders = but; holders = known })
 
@@ -108,5 +108,5 @@ returns-clause-serial c =
     c.in_ok-lines.ensures.lines ∙ ap (map (λ (o : Vec Entry Global). map line_of o.items)) c.as_slice.ensures.value ∙ sym (map-map (λ (o : Vec Entry Global). o.items) (map line_of) c.close-stores.result.1.items) in
     let report : Report = record { threads = c.in_ok-answers.answers; shards = c.in_ok-lines.lines; devices = [] } in
     let report_is : c.new-2.result ≡ report = c.new-2.ensures ∙ ap (λ d. record { threads = c.in_ok-answers.answers; shards = c.in_ok-lines.lines; devices = d }) c.new.ensures in
-    let sections = are_sections script rules c.args.image.items c.args.shards c.requires.shards.0 c.requires.shards.1 c.requires.length v0 v1 c.in_ok-direct.ensures c.in_ok-answers.answers done c.course.inside.ciphers c.course.invariant c.close-stores.result.0.items orders c.close-stores.ensures.stores c.close-stores.ensures.entries c.close-stores.ensures.orders c.close-stores.ensures.left left long sectors c.in_ok-lines.lines lines c.in_ok-lines.ensures.ranges in
-    subst (λ r. IsSerial script (run_of script c.args.image.items r) r) (sym report_is) (c.sections_in_turn_make_a_serial_run.ensures script c.args.image.items c.args.shards report left (made_of script rules c.args.image.items c.args.shards c.requires.shards.0 c.requires.shards.1 c.requires.length v0 v1 c.in_ok-direct.ensures c.in_ok-answers.answers done c.course.inside.ciphers c.course.invariant c.close-stores.result.0.items orders c.close-stores.ensures.stores c.close-stores.ensures.entries c.close-stores.ensures.orders c.close-stores.ensures.left) orders [] sections (follow script rules c.args.image.items c.args.shards c.requires.shards.0 c.requires.shards.1 c.requires.length v0 v1 c.in_ok-direct.ensures c.in_ok-answers.answers done c.course.inside.ciphers c.course.invariant c.close-stores.result.0.items orders c.close-stores.ensures.stores c.close-stores.ensures.entries c.close-stores.ensures.orders c.close-stores.ensures.left left long sectors c.in_ok-lines.lines lines c.in_ok-lines.ensures.ranges) (uses script rules c.args.image.items c.args.shards c.requires.shards.0 c.requires.shards.1 c.requires.length v0 v1 c.in_ok-direct.ensures c.in_ok-answers.answers done c.course.inside.ciphers c.course.invariant c.close-stores.result.0.items orders c.close-stores.ensures.stores c.close-stores.ensures.entries c.close-stores.ensures.orders c.close-stores.ensures.left left long sectors c.in_ok-lines.lines lines c.in_ok-lines.ensures.ranges))
+    let sections = are_sections script rules c.requires.built c.args.image.items c.args.shards c.requires.shards.0 c.requires.shards.1 c.requires.length v0 v1 c.in_ok-direct.ensures c.in_ok-answers.answers done c.course.inside.ciphers c.course.invariant c.close-stores.result.0.items orders c.close-stores.ensures.stores c.close-stores.ensures.entries c.close-stores.ensures.orders c.close-stores.ensures.left left long sectors c.in_ok-lines.lines lines c.in_ok-lines.ensures.ranges in
+    subst (λ r. IsSerial script (run_of script c.args.image.items r) r) (sym report_is) (c.sections_in_turn_make_a_serial_run.ensures script c.args.image.items c.args.shards report left (made_of script rules c.requires.built c.args.image.items c.args.shards c.requires.shards.0 c.requires.shards.1 c.requires.length v0 v1 c.in_ok-direct.ensures c.in_ok-answers.answers done c.course.inside.ciphers c.course.invariant c.close-stores.result.0.items orders c.close-stores.ensures.stores c.close-stores.ensures.entries c.close-stores.ensures.orders c.close-stores.ensures.left) orders [] sections (follow script rules c.requires.built c.args.image.items c.args.shards c.requires.shards.0 c.requires.shards.1 c.requires.length v0 v1 c.in_ok-direct.ensures c.in_ok-answers.answers done c.course.inside.ciphers c.course.invariant c.close-stores.result.0.items orders c.close-stores.ensures.stores c.close-stores.ensures.entries c.close-stores.ensures.orders c.close-stores.ensures.left left long sectors c.in_ok-lines.lines lines c.in_ok-lines.ensures.ranges) (uses script rules c.requires.built c.args.image.items c.args.shards c.requires.shards.0 c.requires.shards.1 c.requires.length v0 v1 c.in_ok-direct.ensures c.in_ok-answers.answers done c.course.inside.ciphers c.course.invariant c.close-stores.result.0.items orders c.close-stores.ensures.stores c.close-stores.ensures.entries c.close-stores.ensures.orders c.close-stores.ensures.left left long sectors c.in_ok-lines.lines lines c.in_ok-lines.ensures.ranges))

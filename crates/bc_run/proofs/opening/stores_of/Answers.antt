@@ -1,4 +1,4 @@
-use Rattle.std.proofs.Common.{◌≡◌, ◌∙◌, refl, sym, ap, subst, arith, rules, length}
+use Rattle.std.proofs.Common.{ap, arith, rules, length}
 use Rattle.bc_run.specs.Standing.{IsOpening}
 use Rattle.bc_run.proofs.Openings.{places_none, places_more}
 use Rattle.bc_run.proofs.opening.stores_of.Goals as goal

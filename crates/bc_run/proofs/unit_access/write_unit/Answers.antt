@@ -1,6 +1,3 @@
-use Rattle.std.proofs.Common.{subst, Some}
-use Rattle.bc_key.specs.KeyData.{KeyData}
-use Rattle.std.proofs.Common.{List}
 use Rattle.bc_run.proofs.Placing.{attempted_write, attempted_write_fault}
 use Rattle.bc_run.proofs.unit_access.write_unit.Goals as goal
 

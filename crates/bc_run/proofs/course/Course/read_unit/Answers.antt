@@ -1,14 +1,13 @@
-use Rattle.std.proofs.Common.{◌≡◌, ◌∙◌, ◌*◌, ◌-◌, ◌+◌, ◌≤◌, length, List, sym, ap, subst, refl, arith, rules}
+use Rattle.std.proofs.Common.{◌≡◌, ◌∙◌, ◌*◌, ◌-◌, ◌≤◌, List, sym, ap, subst}
 use Rattle.bc_key.specs.KeyData.{KeyData}
-use Rattle.bc_bio.specs.declared.extent.Extent.{Extent}
 use Rattle.bc_bio.specs.Extent.{unit_sectors}
 use Rattle.bc_medium.specs.declared.unit_at.UnitAt.{UnitAt}
 use Rattle.bc_medium.specs.Growth.{IsEntryOf}
 use Rattle.bc_script.specs.declared.op.Op.TheVariants as ops
-use Rattle.bc_script.specs.Script.{Script, keys_of, IsText}
-use Rattle.bc_script.specs.Plan.{unit_at, text_at}
-use Rattle.bc_run.specs.Standing.{CourseData, IsPerformable, AttemptsUnit, Attempted, HasUnit, device_of, at_of, entry_of_read, answer_of_read}
-use Rattle.bc_run.proofs.Ready.{has_key, have_keys, size, own, spare, course_more, attempts, has_unit, text_length}
+use Rattle.bc_script.specs.Script.{keys_of}
+use Rattle.bc_script.specs.Plan.{unit_at}
+use Rattle.bc_run.specs.Standing.{CourseData, IsPerformable, AttemptsUnit, device_of, at_of, entry_of_read, answer_of_read}
+use Rattle.bc_run.proofs.Ready.{has_key, have_keys, size, own, spare, course_more, attempts}
 use Rattle.bc_run.proofs.Placing.{read_says_its_way, read_failed, read_is_its}
 use Rattle.bc_run.proofs.course.Course.read_unit.Goals as goal
 
@@ -101,4 +100,4 @@ returns-clause-attempts c =
     subst (λ (a : UnitAt). IsEntryOf c.self.inside.thread u (entry_of_read a c.read_unit-went.result)) (sym mine) (read_is_its c.self.inside.thread u c.read_unit-went.result c.requires.access) in
     let after : CourseData = record { script = c.self.inside.script.now; shards = c.read_unit-went.new.shards; thread = c.self.inside.thread; left = c.self.inside.left - 1 } in
     subst (λ (v : CourseData). AttemptsUnit (device_of v) (device_of after) (unit_at (keys_of v.script) c.args.op operation bio c.args.unit) (answer_of_read c.read_unit-went.new.place c.read_unit-went.result)) c.self.view_is
-    (attempts c.bio_laws.ensures.sizes c.bio_laws.ensures.blocks c.self.inside.script.now keys c.self.inside.shards c.self.inside.left c.self.invariant c.self.inside.thread c.args.op operation bio performable c.args.unit c.requires.unit c.read_unit-went.new.shards (entry_of_read c.unit_of_bio-at.result c.read_unit-went.result) (answer_of_read c.read_unit-went.new.place c.read_unit-went.result) c.read_unit-went.ensures.attempted some its (read_says_its_way c.self.inside.script.now c.self.invariant.rules c.unit_of_bio-at.result c.read_unit-went.result) (read_failed c.unit_of_bio-at.result c.read_unit-went.new.place c.read_unit-went.result))
+    (attempts c.bio_laws.ensures.sizes c.bio_laws.ensures.blocks c.self.inside.script.now keys c.self.inside.shards c.self.inside.left c.self.invariant c.self.inside.thread c.args.op operation bio performable c.args.unit c.requires.unit c.read_unit-went.new.shards (entry_of_read c.unit_of_bio-at.result c.read_unit-went.result) (answer_of_read c.read_unit-went.new.place c.read_unit-went.result) c.read_unit-went.ensures.attempted some its (read_says_its_way c.self.inside.script.now c.self.invariant.built c.unit_of_bio-at.result c.read_unit-went.result) (read_failed c.unit_of_bio-at.result c.read_unit-went.new.place c.read_unit-went.result))

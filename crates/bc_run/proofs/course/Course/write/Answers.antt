@@ -1,19 +1,14 @@
-use Rattle.std.proofs.Common.{◌≡◌, ◌∙◌, ℕ, ◌*◌, ◌-◌, ◌+◌, ◌++◌, ◌≤◌, ◌^◌, ◌<◌, Bool, true, false, length, List, [], take, sym, ap, subst, refl, arith, rules, Some}
-use Rattle.std.proofs.lemmas.Slice.{take-put_mid}
+use Rattle.std.proofs.Common.{◌≡◌, ◌∙◌, ℕ, ◌+◌, ◌≤◌, ◌<◌, Bool, true, false, sym, ap, subst, refl, arith, Some}
 use Rattle.bc_bio.specs.declared.access.Access.{Access}
 use Rattle.bc_bio.specs.declared.access.Access.TheVariants as access
-use Rattle.bc_bio.specs.declared.extent.Extent.{Extent}
-use Rattle.bc_medium.specs.Outcome.{Wrote, Bytes}
-use Rattle.bc_medium.specs.KeyedDisk.{Faulted}
+use Rattle.bc_medium.specs.Outcome.{Wrote}
 use Rattle.bc_script.specs.declared.op.Op.TheVariants as ops
 use Rattle.bc_script.specs.Script.{Script, keys_of, max_bio_units}
 use Rattle.bc_script.specs.Bios.{bio_of}
 use Rattle.bc_script.specs.Plan.{unit_at}
-use Rattle.bc_report.specs.Answers.{read_answer}
 use Rattle.bc_report.specs.declared.answer.Answer.TheVariants as answers
-use Rattle.bc_run.specs.Standing.{CourseData, AttemptsUnit, device_of, first_units, answer_of_write}
-use Rattle.bc_run.proofs.EqualParts.{next_part}
-use Rattle.bc_run.proofs.Attempting.{SoFar, so_far_none, so_far_wrote, so_far_read, units_more, carries_bio, carries_fault}
+use Rattle.bc_run.specs.Standing.{AttemptsUnit, device_of, first_units, answer_of_write}
+use Rattle.bc_run.proofs.Attempting.{SoFar, so_far_none, so_far_wrote, units_more, carries_bio, carries_fault}
 use Rattle.bc_run.proofs.course.Course.write.Goals as goal
 
 pub loop-unit-init : goal.loop-unit-init

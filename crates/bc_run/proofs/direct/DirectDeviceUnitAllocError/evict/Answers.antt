@@ -1,9 +1,8 @@
-use Rattle.std.proofs.Common.{refl}
-use Rattle.bc_script.specs.declared.op.Op.TheVariants as ops
-use Rattle.bc_report.specs.declared.answer.Answer.TheVariants as answers
-use Rattle.bc_run.specs.Standing.{device_of}
-use Rattle.bc_run.proofs.Carrying.{carries_quiet}
+use Rattle.std.proofs.Common.{subst}
+use Rattle.bc_run.specs.Built.{IsBuilt}
+use Rattle.bc_run.specs.Standing.{CourseData, device_of}
+use Rattle.bc_run.proofs.NoDevices.{is_evicted}
 use Rattle.bc_run.proofs.direct.DirectDeviceUnitAllocError.evict.Goals as goal
 
-pub returns : goal.returns
-returns c = carries_quiet (device_of c.args.self.now) c.args._op (ops.Evict c.args._key) answers.Evicted refl tt tt tt
+pub returns-clause-done : goal.returns-clause-done
+returns-clause-done c = is_evicted (device_of c.args.self.now) c.args._op c.args._key (subst (λ (v : CourseData). IsBuilt v.script) c.self.view_is c.is_built.ensures)

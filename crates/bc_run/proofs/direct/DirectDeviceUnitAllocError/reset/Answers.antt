@@ -1,9 +1,9 @@
-use Rattle.std.proofs.Common.{refl}
-use Rattle.bc_script.specs.declared.op.Op.TheVariants as ops
-use Rattle.bc_report.specs.declared.answer.Answer.TheVariants as answers
-use Rattle.bc_run.specs.Standing.{device_of}
-use Rattle.bc_run.proofs.Carrying.{carries_quiet}
+use Rattle.std.proofs.Common.{subst}
+use Rattle.bc_run.specs.Built.{IsBuilt}
+use Rattle.bc_run.specs.Standing.{CourseData}
+use Rattle.bc_run.proofs.NoDevices.{no_device}
 use Rattle.bc_run.proofs.direct.DirectDeviceUnitAllocError.reset.Goals as goal
 
-pub returns : goal.returns
-returns c = carries_quiet (device_of c.args.self.now) c.args._op (ops.Reset c.args._device) answers.Reset refl refl tt tt
+pub returns-clause-done : goal.returns-clause-done
+returns-clause-done c =
+    absurd (no_device c.args.self.now.script (subst (λ (v : CourseData). IsBuilt v.script) c.self.view_is c.is_built.ensures) c.args._device c.requires.rules)

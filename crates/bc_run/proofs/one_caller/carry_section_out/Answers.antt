@@ -1,0 +1,21 @@
+use Rattle.std.proofs.Common.{◌≡◌, ◌∙◌, List, length, map, drop, sym, ap, subst, Some, arith}
+use Rattle.std.proofs.lemmas.List.{length-map}
+use Rattle.bc_report.specs.declared.answer.Answer.{Answer}
+use Rattle.bc_compose.specs.SectionDone.{IsReply}
+use Rattle.bc_run.specs.Reached.{CarriesSection}
+use Rattle.bc_run.specs.Standing.{CourseData, device_of}
+use Rattle.bc_run.proofs.Windowing.{same_replies, replied_all, taken}
+use Rattle.bc_run.proofs.one_caller.carry_section_out.Goals as goal
+
+pub returns : goal.returns
+returns c =
+    let done = c.in_ok-carry_out.ensures in
+    let begun = device_of c.begin.new.self in
+    let count : c.in_ok-noted.noted.len ≡ length c.carry_out.new.answers =
+    omega (arith, c.in_ok-noted.ensures.len, ap length done.1, length-map done.0 (λ a. Some a), replied_all (IsReply begun.script begun.shards begun.base begun.thread (device_of c.carry_out.new.device).seen) 0 c.args.section.now done.0 done.2.done.answers) in
+    let noted : c.as_slice.result.now ≡ c.carry_out.new.answers =
+    c.as_slice.ensures.value ∙ taken c.carry_out.new.answers (drop (length c.carry_out.new.answers) c.in_ok-noted.noted.items) c.in_ok-noted.noted.len count in
+    let same : done.0 ≡ c.in_ok-answers.answers = same_replies done.0 c.in_ok-answers.answers (sym done.1 ∙ sym noted ∙ sym c.in_ok-answers.ensures) in
+    let start : CourseData = record c.args.direct.now { thread = c.args.thread } in
+    subst (λ (l : List Answer). CarriesSection (device_of start) (device_of c.carry_out.new.device) c.args.section.now l) same
+    (subst (λ (v : CourseData). CarriesSection (device_of v) (device_of c.carry_out.new.device) c.args.section.now done.0) c.begin.ensures done.2)
