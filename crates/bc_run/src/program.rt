@@ -90,7 +90,8 @@ pub fn run<Rt, S: Source, K: Sink, F: Folder, G>(
       };
     }) result }
     ensures usage { (IsCommand (map string_bytes words.now) → ⊥)
-        → (result ≡ Status.Usage) ⊎ ((result ≡ Status.NoMemory) × Begins (codes "serial") (map string_bytes words.now)) }
+        → (result ≡ Status.Usage)
+        ⊎ ((result ≡ Status.NoMemory) × Begins (codes "serial") (map string_bytes words.now)) }
     ensures end { result ≡ Status.Ok → IsAtEnd (S.left script.new) }
     ensures untouched { result ≢ Status.Ok → result ≢ Status.WriteFault
         → Keeps (K.held out.old) (K.held out.new) }

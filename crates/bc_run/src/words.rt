@@ -50,7 +50,8 @@ pub(crate) fn options_of_words<'w>(
 /// The first word is the command.
 fn named(words: &[String]) -> Result<(), Status>
     ensures ok { OnOk result (Begins (codes "serial") (map string_bytes words.now)) }
-    ensures usage { IfErr result (λ e. (e ≡ Status.Usage) × (Begins (codes "serial") (map string_bytes words.now) → ⊥)) }
+    ensures usage { IfErr result (λ e.
+        (e ≡ Status.Usage) × (Begins (codes "serial") (map string_bytes words.now) → ⊥)) }
 {
     match words.first() {
         Some(word) if word.as_str() == "serial" => Ok(()),
