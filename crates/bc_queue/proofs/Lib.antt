@@ -7,3 +7,4 @@ pub mod Growing
 pub mod Walk
 pub mod MediumAccess
 pub mod Queues
+pub mod Names

@@ -114,8 +114,10 @@ range_split first zero m = ap₂' (range_with_len) (none first) (zero_plus m)
   where
     none : (k : ℕ) → k ≡ k + 0
     none k = omega arith
+
     zero_plus : (k : ℕ) → 0 + k ≡ k
     zero_plus k = omega arith
+
     ap₂' : (f : ℕ → ℕ → List ℕ) {a b c d : ℕ} → a ≡ b → c ≡ d → f a c ≡ f b d
     ap₂' f {a} {b} {c} {d} p q = ap (λ x. f x c) p ∙ ap (f b) q
 range_split first (suc n) m =

@@ -129,7 +129,7 @@ all_under owns way keys device first count bios same is can under n from below =
       taken = record {
         sectors = one.taken.sectors;
         serves = subst (λ ks. Serves way.controller ks (named_at keys bios n).context way.hold) same (serves keys device way.controller (named_at keys bios n).context way.hold is
-        (subst (λ ks. IsSomeAnd (named_at keys bios n).context (λ c. IsSomeAnd (key_at ks c.key) (λ key. is_supported way.controller.caps key.config ≡ true))) (sym same) one.taken.supported) (under n from below));
+            (subst (λ ks. IsSomeAnd (named_at keys bios n).context (λ c. IsSomeAnd (key_at ks c.key) (λ key. is_supported way.controller.caps key.config ≡ true))) (sym same) one.taken.supported) (under n from below));
       };
     }
 

@@ -166,7 +166,7 @@ module _ (stay : AnswersStay) (old mid new : AccessFacts) (before now after : Re
   pass_over : CarriesOut old mid before now first i → PassesOver mid new now after (first + i) → CarriesOut old new before after first (i + 1)
   pass_over p s =
       let less : (shard : ℕ) → old.spare shard ≤ mid.spare shard + units_on old.shards shard (planned_part old.keys before.bios first (i + 1)) = λ shard.
-          omega (arith, p.spare shard, units_less old.shards shard old.keys before.bios first i (i + 1) (omega arith)) in
+      omega (arith, p.spare shard, units_less old.shards shard old.keys before.bios first i (i + 1) (omega arith)) in
       let numbers : attempted_in now.bios first (i + 1) ≡ attempted_in now.bios first i =
       attempted_push now.bios first i ∙ ap (λ (b : Bool). attempted_in now.bios first i ++ cond (not b) ((first + i) ∷ []) []) s.over ∙ append-nil (attempted_in now.bios first i) in
       subst (λ f. CarriesOut old f before after first (i + 1)) (sym s.facts)
@@ -227,8 +227,8 @@ module _ (stay : AnswersStay) (old mid new : AccessFacts) (before now after : Re
             ∙ ap (λ l. with_faults (tagged_bios before.bios) (faults_of before.bios) (failed_among l (p.made ++ s.e ∷ []))) (sym numbers);
         others = λ m left.
             let apart : m ≢ n = λ is_n. ⊎_elim
-                (λ (h : m < first). absurd (omega (arith, h, is_n)))
-                (λ more. ⊎_elim (λ (h : first + (i + 1) ≤ m). absurd (omega (arith, h, is_n))) (λ (h : is_over after.bios m ≡ true). true≢false (sym h ∙ kept m (omega (arith, is_n)) ∙ ap (is_over now.bios) is_n ∙ tried)) more) left in
+            (λ (h : m < first). absurd (omega (arith, h, is_n)))
+            (λ more. ⊎_elim (λ (h : first + (i + 1) ≤ m). absurd (omega (arith, h, is_n))) (λ (h : is_over after.bios m ≡ true). true≢false (sym h ∙ kept m (omega (arith, is_n)) ∙ ap (is_over now.bios) is_n ∙ tried)) more) left in
             s.others m apart ∙ p.others m (⊎_elim
             (λ (h : m < first). inl h)
             (λ more. ⊎_elim

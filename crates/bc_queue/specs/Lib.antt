@@ -2,3 +2,4 @@ pub mod Plugs
 pub mod RequestUnits
 pub mod Carrying
 pub mod Queues
+pub mod Laws

@@ -39,7 +39,10 @@ impl<'a, S: Store> Model for InlineAccess<'a, S> {
     ghost Value = { InlineData S };
 
     ghost view = { λ a. record {
-      controller = a.controller.now; hold = a.hold.now; medium = a.medium.now; slots = a.slots.value.items
+      controller = a.controller.now;
+      hold = a.hold.now;
+      medium = a.medium.now;
+      slots = a.slots.value.items;
     } };
 
     ghost invariant = { λ a. KeepsTo a.controller.now.caps a.last };
@@ -54,7 +57,10 @@ impl<'a, S: Store> InlineAccess<'a, S> {
         slots: &Vec<SlotPass>,
     ) -> InlineAccess<'a, S>
         ensures { result ≡ record {
-          controller = controller.now; hold = hold.now; medium = medium.now; slots = slots.now.items
+          controller = controller.now;
+          hold = hold.now;
+          medium = medium.now;
+          slots = slots.now.items;
         } }
     {
         InlineAccess {

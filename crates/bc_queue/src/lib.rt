@@ -16,6 +16,10 @@ mod inline_access;
 mod plain_access;
 mod queue;
 
+// what holds of requests that were carried out
+mod laws;
+
+pub use laws::request_laws;
 pub use plug::{MAX_PLUGGED, Plug};
 pub use queue::{Queue, QueuePass};
 pub use request_units::carry_out;

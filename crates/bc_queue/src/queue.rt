@@ -156,13 +156,7 @@ impl<S: Store> Queue<S> {
     }
 
     /// The tag and the context of the first of these units.
-    fn first_unit(
-        &self,
-        device: u8,
-        request: &Request,
-        first: u32,
-        count: u32,
-    ) -> (u32, Context)
+    fn first_unit(&self, device: u8, request: &Request, first: u32, count: u32) -> (u32, Context)
         requires device { device < length self.now.controllers }
         requires request { IsRequest self.now.medium.keys.keys (tagged_bios request.now.bios) }
         requires some { 1 ≤ count }

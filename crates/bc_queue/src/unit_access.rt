@@ -61,13 +61,7 @@ pub trait UnitAccess<R, P> {
     ///
     /// # Errors
     /// The unit met a fault: `text` is then unspecified.
-    fn read(
-        &mut self,
-        rt: &R,
-        pass: &mut P,
-        at: &UnitAt,
-        text: &mut [u8],
-    ) -> Result<Place, Fault>
+    fn read(&mut self, rt: &R, pass: &mut P, at: &UnitAt, text: &mut [u8]) -> Result<Place, Fault>
         requires ready { is_ready self.old pass.old }
         requires caller { at.now.caller ≡ (facts self.old pass.old).caller }
         requires takes { takes self.old at.now.sector at.now.context }

@@ -1,6 +1,6 @@
 -- What the words that were loaded mean.
-use Rattle.std.proofs.Common.{◌≡◌, ℕ, ◌≤◌, List, length, Option, Some, None, Result, Ok, Err, refl, sym, ap, subst, ◌∙◌}
-use Rattle.std.specs.Prelude.{IsSomeAnd, IfSome}
+use Rattle.std.proofs.Common.{◌≡◌, ℕ, ◌≤◌, List, length, Option, Some, None, Result, Ok, sym, ap, ◌∙◌}
+use Rattle.std.specs.Prelude.{IsSomeAnd}
 use Rattle.std.specs.Result.{result_ok}
 use Rattle.std.proofs.lemmas.Option.{same_Some}
 use Rattle.bc_key.specs.KeyData.{KeyData, IsValid}
@@ -8,8 +8,7 @@ use Rattle.bc_modes.specs.Capabilities.{Capabilities}
 use Rattle.bc_modes.specs.Entries.{entry_words, read_words}
 use Rattle.bc_modes.specs.UnitCipher.{CipherParts, parts_of}
 use Rattle.bc_modes.specs.Laws.{EntriesReadBack}
-use Rattle.bc_modes.specs.declared.entry.EntryError.{EntryError}
-use Rattle.bc_ufs.specs.Controllers.{ControllerData, LastData, KeepsTo}
+use Rattle.bc_ufs.specs.Controllers.{LastData, KeepsTo}
 
 -- two results that are Ok of one value
 pub same_Ok : {E : Type 0} (x y : CipherParts) → (one other : Result CipherParts E) → one ≡ Ok x → other ≡ Ok y → one ≡ other → x ≡ y

@@ -47,4 +47,3 @@ returns-in-Err-clause-attempts g c =
     let bytes : c.from_vec-in-Err.result ≡ c.read.new.text = c.from_vec-in-Err.ensures ∙ take_at c.read.new.text (drop (length c.read.new.text) c.take_bytes-text.result.items) c.take_bytes-text.result.len (c.read.ensures.length ∙ c.as_mut_slice.ensures.len) in
     read_failed facts (g.A.UnitAccess.facts c.read.new.self c.read.new.pass) c.args.request.now c.take_bytes-text.new.request c.put-in-Err.new.request c.args.n c.args.at.now c.in-Err.field-0.place c.take_bytes-text.result.items c.read.new.text c.fault.new.self
     c.requires.at c.requires.reads c.take_bytes-text.ensures.bytes long c.in-Err.ensures.failed c.take_bytes-text.ensures.left (c.put-in-Err.ensures ∙ ap (λ (l : List ℕ). with_unit c.args.n c.take_bytes-text.new.request (Full l)) bytes) c.fault.ensures.marks
-

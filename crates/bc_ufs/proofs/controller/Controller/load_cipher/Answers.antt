@@ -1,6 +1,5 @@
-use Rattle.std.proofs.Common.{◌≡◌, ℕ, ◌≤◌, List, length, Ok, Err, sym, ap, subst, ◌∙◌}
+use Rattle.std.proofs.Common.{ℕ, ◌≤◌, List, length, ap, subst, ◌∙◌}
 use Rattle.bc_modes.specs.Entries.{read_words}
-use Rattle.bc_modes.specs.Capabilities.{Capabilities}
 use Rattle.bc_modes.specs.UnitCipher.{parts_of}
 use Rattle.bc_ufs.specs.Controllers.{ControllerData}
 use Rattle.bc_profile.specs.Passes.{row_at}
