@@ -7,7 +7,6 @@ use Rattle.std.proofs.lemmas.List.{append_assoc, length-append, length-map, map-
 use Rattle.bc_base.specs.Lists.{Each, EachFrom, list_at}
 use Rattle.bc_base.specs.Story.{own, StartsWith, IsFront}
 use Rattle.bc_profile.specs.declared.event.Event.{Event}
-use Rattle.bc_profile.specs.declared.event.Event.TheVariants as events
 use Rattle.bc_profile.specs.declared.noted.Noted.{Noted}
 use Rattle.bc_profile.specs.Laws.{ProgrammingsStay}
 use Rattle.bc_profile.specs.SlotJournal.{IsLawful}
