@@ -25,6 +25,10 @@ pub struct Capability {
 
 /// A capability without data units, as it stands in the unused places of a list.
 impl Default for Capability {
+    ghost use Rattle.bc_key.specs.declared.config.Mode.TheVariants.{Aes256Xts};
+
+    ghost is_default = { λ capability. (capability.mode ≡ Aes256Xts) × (capability.units ≡ 0) };
+
     fn default() -> Capability {
         Capability {
             mode: Mode::Aes256Xts,

@@ -109,6 +109,50 @@ fn an_eviction_under_a_hold_is_refused(rt: HostRuntime) -> Result<(), Fail> {
 }
 
 #[test]
+fn a_refused_eviction_leaves_the_key(rt: HostRuntime) -> Result<(), Fail> {
+    let alloc = rt.alloc();
+    let (profile, mut first, mut second) = two_callers(alloc, 2)?;
+    assert!(&rt; profile.spare(&first) >= 2 && profile.spare(&second) >= 2);
+    let hold = profile.get(&rt, &mut first, A);
+    let refused = profile.evict(&rt, &mut second, A);
+    assert!(&rt; refused == Err(Busy { slot: 0, refs: 1 }));
+    assert!(&rt; profile.spare(&first) >= 1);
+    profile.put(&rt, &mut first, hold);
+    assert!(&rt; profile.spare(&first) >= 2);
+    let hold = profile.get(&rt, &mut first, A);
+    assert!(&rt; hold.slot() == 0 && hold.epoch() == 0);
+    assert!(&rt; profile.spare(&first) >= 1);
+    profile.put(&rt, &mut first, hold);
+    let refused = Event::Busy {
+        slot: 0,
+        key: 0,
+        refs: 1,
+    };
+    let expected = [program(0, 0), refused, idle(0), idle(0)];
+    assert!(&rt; is_journal(alloc, profile, first, second, &expected)?);
+    Ok(())
+}
+
+#[test]
+fn an_eviction_after_the_last_put_empties(rt: HostRuntime) -> Result<(), Fail> {
+    let alloc = rt.alloc();
+    let (profile, mut first, mut second) = two_callers(alloc, 2)?;
+    assert!(&rt; profile.spare(&first) >= 2 && profile.spare(&second) >= 1);
+    let hold = profile.get(&rt, &mut first, A);
+    assert!(&rt; profile.spare(&first) >= 1);
+    profile.put(&rt, &mut first, hold);
+    assert!(&rt; profile.spare(&first) >= 2);
+    let hold = profile.get(&rt, &mut first, A);
+    assert!(&rt; profile.spare(&first) >= 1);
+    profile.put(&rt, &mut first, hold);
+    assert!(&rt; profile.evict(&rt, &mut second, A).is_ok());
+    let evicted = Event::Evict { slot: 0, key: 0 };
+    let expected = [program(0, 0), idle(0), idle(0), evicted];
+    assert!(&rt; is_journal(alloc, profile, first, second, &expected)?);
+    Ok(())
+}
+
+#[test]
 fn held_slots_are_skipped(rt: HostRuntime) -> Result<(), Fail> {
     let alloc = rt.alloc();
     let (profile, mut first, mut second) = two_callers(alloc, 2)?;

@@ -1,4 +1,4 @@
-//! Measures the unit ciphers, the texts of scripts and reports, and the keyslot manager.
+//! Measures the unit ciphers, the texts of scripts and reports, and the keyslot managers.
 //!
 //! | Words | What is printed |
 //! |---|---|
@@ -7,6 +7,7 @@
 //! | `expand MODE KEYS` | how fast so many keys are expanded |
 //! | `digest MODE SIZE UNITS` | the digests of both ways alone, which are the same at each run |
 //! | `keyslots HOLDS` | how long so many holds of keys take by a keyslot manager for one caller, and how many events it records |
+//! | `profile HOLDS` | how long a hold of a key takes by a keyslot manager for many callers: by one caller, and by four at once |
 //! | `script HEX READS` | the bytes and operations of a script's text, and how fast it is parsed and printed |
 //! | `report COUNT` | the bytes of a report's text, and how fast it is parsed and printed |
 //! | `read` | the report that standard input says, printed again, or the first line that no report has there |
@@ -26,6 +27,7 @@ mod units;
 // what is measured
 mod keyslots;
 mod measure;
+mod profiles;
 mod reports;
 mod scripts;
 
@@ -38,9 +40,11 @@ use direction::Direction;
 use std::alloc::Global;
 use std::env;
 use std::rt::Clock;
+use std::sync::Wait;
+use std::thread::Threads;
 
 const USAGE: &str =
-    "words: encrypt|decrypt|digest xts|essiv SIZE UNITS, expand xts|essiv KEYS, keyslots HOLDS, script HEX READS, report COUNT, read";
+    "words: encrypt|decrypt|digest xts|essiv SIZE UNITS, expand xts|essiv KEYS, keyslots HOLDS, profile HOLDS, script HEX READS, report COUNT, read";
 
 /// How many data units a measurement may have: those of 4096 bytes then fill 256 MiB.
 const MOST_UNITS: u32 = 65536;
@@ -96,13 +100,21 @@ fn many_units(rt: &(impl Print + Clock), alloc: Global, words: &[String]) -> Res
 }
 
 /// Does what the words ask for.
-fn run(rt: &(impl Print + Clock), alloc: Global, words: &[String]) -> Result<()> {
+fn run<R: Print + Clock + Threads + Wait + Sync>(
+    rt: &R,
+    alloc: Global,
+    words: &[String],
+) -> Result<()> {
     if words.len() == 4 {
         return many_units(rt, alloc, words);
     }
     if words.len() == 2 && words[0].as_str() == "keyslots" {
         let holds = number(words[1].as_str(), keyslots::MOST_HOLDS)?;
         return keyslots::show(rt, alloc, holds);
+    }
+    if words.len() == 2 && words[0].as_str() == "profile" {
+        let holds = number(words[1].as_str(), profiles::MOST_HOLDS)?;
+        return profiles::show(rt, alloc, holds);
     }
     if words.len() == 3 && words[0].as_str() == "expand" {
         let keys = number(words[2].as_str(), MOST_KEYS)?;

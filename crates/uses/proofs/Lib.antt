@@ -1,3 +1,4 @@
 pub mod Tallies
 pub mod DataUnits
 pub mod Disks
+pub mod SlotLemmas
