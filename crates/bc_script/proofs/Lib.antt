@@ -23,3 +23,6 @@ pub mod Parsed
 pub mod Taken
 pub mod Whole
 pub mod Printed
+pub mod GeneratedExamples
+pub mod GeneratedRules
+pub mod GeneratedLoops

@@ -104,6 +104,10 @@ max_threads = limits.MAX_THREADS
 abbrev pub max_ops : ℕ
 max_ops = limits.MAX_OPS
 
+-- the most pairs of a write and a read that each thread of a generated script has
+abbrev pub max_generated : ℕ
+max_generated = limits.MAX_GENERATED
+
 -- the most data units of all bios together
 abbrev pub max_units : ℕ
 max_units = limits.MAX_UNITS

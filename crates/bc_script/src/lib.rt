@@ -26,6 +26,9 @@ mod order;
 mod sort;
 mod statement;
 
+// the script that `make` carries out
+mod generator;
+
 // a text is read, and printed
 mod laws;
 mod named_keys;
@@ -33,6 +36,7 @@ mod parser;
 mod printing;
 mod reader;
 
+pub use generator::generate;
 pub use laws::{errors_are_exact, no_proper_prefix};
 pub use name::Name;
 pub use named_key::NamedKey;

@@ -49,6 +49,10 @@ pub const MAX_THREADS: usize = 16;
 /// The most operations of all sections together.
 pub const MAX_OPS: u32 = 65536;
 
+/// The most pairs of a write and a read that each thread of a generated script has: 2048. All threads together then have
+/// as many operations as a script may have.
+pub const MAX_GENERATED: u32 = MAX_OPS / (2 * MAX_THREADS as u32);
+
 /// The most data units of all bios together.
 pub const MAX_UNITS: u32 = 65536;
 

@@ -1,0 +1,103 @@
+//! Generated scripts, whole and in part.
+
+use super::*;
+use crate::printing::print;
+use std::test::Fail;
+
+/// The lines of the three keys.
+const KEYS: &str =
+    "key a aes-256-xts 4096 8 000102030405060708090a0b0c0d0e0f101112131415161718191a1b1c1d1e1f\
+    202122232425262728292a2b2c2d2e2f303132333435363738393a3b3c3d3e3f\n\
+    key b aes-256-xts 512 8 404142434445464748494a4b4c4d4e4f505152535455565758595a5b5c5d5e5f\
+    606162636465666768696a6b6c6d6e6f707172737475767778797a7b7c7d7e7f\n\
+    key c aes-128-cbc-essiv 4096 8 808182838485868788898a8b8c8d8e8f\n";
+
+/// The sections of one pair a thread.
+const SECTIONS: &str = "thread\n\
+    write a 8 1 0 fill 00\n\
+    read a 8 1 0\n\
+    thread\n\
+    write b 520 1 0 fill 10\n\
+    read b 520 1 0\n\
+    thread\n\
+    write c 1032 1 0 fill 20\n\
+    read c 1032 1 0\n\
+    thread\n\
+    write a 1544 1 0 fill 30\n\
+    read a 1544 1 0\n\
+    thread\n\
+    write b 2056 1 0 fill 40\n\
+    read b 2056 1 0\n\
+    thread\n\
+    write c 2568 1 0 fill 50\n\
+    read c 2568 1 0\n\
+    thread\n\
+    write a 3080 1 0 fill 60\n\
+    read a 3080 1 0\n\
+    thread\n\
+    write b 3592 1 0 fill 70\n\
+    read b 3592 1 0\n\
+    thread\n\
+    write c 4104 1 0 fill 80\n\
+    read c 4104 1 0\n\
+    thread\n\
+    write a 4616 1 0 fill 90\n\
+    read a 4616 1 0\n\
+    thread\n\
+    write b 5128 1 0 fill a0\n\
+    read b 5128 1 0\n\
+    thread\n\
+    write c 5640 1 0 fill b0\n\
+    read c 5640 1 0\n\
+    thread\n\
+    write a 6152 1 0 fill c0\n\
+    read a 6152 1 0\n\
+    thread\n\
+    write b 6664 1 0 fill d0\n\
+    read b 6664 1 0\n\
+    thread\n\
+    write c 7176 1 0 fill e0\n\
+    read c 7176 1 0\n\
+    thread\n\
+    write a 7688 1 0 fill f0\n\
+    read a 7688 1 0\n";
+
+#[test]
+fn one_pair_a_thread(rt: HostRuntime) -> Result<(), Fail> {
+    let alloc = rt.alloc();
+    for slots in [1, 8, 32] {
+        let script = generate(alloc, 1, slots)?;
+        let head = format!(in alloc;
+            "blkcrypt 1\ndisk 1024\nfallback on\ndevice 0 1024 {slots} 9 0 8\n"
+        )?;
+        let wanted = format!(in alloc; "{head}{KEYS}{SECTIONS}end\n")?;
+        assert_eq!(rt; print(alloc, &script)?.as_slice(), wanted.as_bytes());
+    }
+    Ok(())
+}
+
+#[test]
+fn first_pairs_of_a_thousand(rt: HostRuntime) -> Result<(), Fail> {
+    let alloc = rt.alloc();
+    let text = String::from_utf8(print(alloc, &generate(alloc, 1000, 1)?)?)?;
+    let section = text
+        .split("thread\n")
+        .nth(2)
+        .ok_or("a section of thread 1")?;
+    let first =
+        "write b 832 1 0 fill 10\nread b 832 1 0\nwrite c 888 1 1 fill 11\nread c 888 1 1\n";
+    assert!(rt; section.starts_with(first));
+    Ok(())
+}
+
+#[test]
+fn the_most_pairs(rt: HostRuntime) -> Result<(), Fail> {
+    let script = generate(rt.alloc(), 2048, 32)?;
+    let mut ops = 0;
+    for section in script.threads() {
+        ops += section.len();
+    }
+    assert_eq!(rt; script.threads().len(), 16);
+    assert_eq!(rt; ops, 65536);
+    Ok(())
+}
