@@ -58,7 +58,9 @@ impl Course<'_> {
     /// Does nothing, and states that its script is one that is carried out.
     pub(crate) fn is_built(&self)
         ensures { IsBuilt self.now.script }
-    {}
+    {
+        let _ = &self.script;
+    }
 
     /// Why a bio is refused, if it is.
     pub(crate) fn refusal(&self, bio: &Extent) -> Option<Refusal>
