@@ -176,6 +176,7 @@ module _ (stays : ProgrammingsStay) (later_holds : LaterHoldsNameLater) (behind_
       next_before : (acts : List (ℕ × Op)) (act : ℕ × Op) (next : ℕ) → act.0 ≡ next → AllByRecursion (λ (x : ℕ × Op). x.0 < next) acts → AllByRecursion (λ (x : ℕ × Op). x.0 < next + 1) (acts ++ act ∷ [])
       next_before acts act next here before =
           all_append (λ (x : ℕ × Op). x.0 < next + 1) acts (act ∷ []) (all_from_in (λ (x : ℕ × Op). x.0 < next + 1) acts (λ x a. let lt = all_at (λ (y : ℕ × Op). y.0 < next) acts x before a in omega arith)) (omega arith, tt)
+
       no_more : (acts : List (ℕ × Op)) (act : ℕ × Op) → units_of script act ≡ [] → flat_map (units_of script) (acts ++ act ∷ []) ≡ flat_map (units_of script) acts
       no_more acts act none = flat_map-append (units_of script) acts (act ∷ []) ∙ ap (λ l. flat_map (units_of script) acts ++ (l ++ [])) none ∙ append-nil (flat_map (units_of script) acts)
 
@@ -303,6 +304,7 @@ module _ (stays : ProgrammingsStay) (later_holds : LaterHoldsNameLater) (behind_
           by_via c (vias.Inline d s ev) is' = sym (ap (λ (x : InlineEntry). x.op) (same_Some _ i is'))
           by_via c vias.Plain is' = absurd (none-some i is')
           by_via c vias.Soft is' = absurd (none-some i is')
+
           by_context : (o : Option Context) → option_and_then (λ context. entry_by e.at.tag context e.via) o ≡ Some i → i.op ≡ e.at.tag
           by_context None is' = absurd (none-some i is')
           by_context (Some c) is' = by_via c e.via is'

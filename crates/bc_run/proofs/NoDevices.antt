@@ -187,8 +187,7 @@ module _ (script : Script) (rules : IsScript script) where
     where
       none : (n : ℕ) → 0 ≤ n
       none n = omega arith
-
-  -- ---- what calls tell
+      -- ---- what calls tell
 
 sees_more : (a b : DeviceData) → b ≡ record a { seen = b.seen; spare = b.spare } → SeesMore a b
 sees_more a b same = same ∙ ap (λ (n : List (List Noted)). record a { seen = b.seen; noted = n; spare = b.spare }) (sym (ap (λ (d : DeviceData). d.noted) same))

@@ -111,6 +111,7 @@ stands_named noted e i is named' = by_context e.at.context is named'
         subst (Stands noted) (same_Some _ i is') (record { slot = s; programs = to_story (list_at noted d) s c.key.0 ev h })
     by_via c vias.Plain is' h = absurd (none-some i is')
     by_via c vias.Soft is' h = absurd (none-some i is')
+
     by_context : (o : Option Context) → option_and_then (λ context. entry_by e.at.tag context e.via) o ≡ Some i → NamesOwn noted (option_map (λ context. context.key.0) o) e.via → Stands noted i
     by_context None is' h = absurd (none-some i is')
     by_context (Some c) is' h = by_via c e.via is' h
@@ -189,6 +190,7 @@ module _ (stays : ProgrammingsStay) (later_holds : LaterHoldsNameLater) (behind_
     where
       both : filter_map inline_of (made ++ es) ≡ filter_map inline_of made ++ filter_map inline_of es
       both = filter_map-append inline_of made es
+
       across : (i j : InlineEntry) → In i (filter_map inline_of made) → (next ≤ j.op) × (j.op < later) × HasHold script before after j → InOrder evictions thread i j
       across i j a h =
           let hold = h.2 in
@@ -227,21 +229,23 @@ module _ (stays : ProgrammingsStay) (later_holds : LaterHoldsNameLater) (behind_
     entries_before = more.entries_before;
     evictions_before = all_append (λ (w : Eviction). w.op < next + 1) evictions (v ∷ []) more.evictions_before (omega (arith, here), tt);
     passed =
-        all_append (IsPassed script after made) evictions (v ∷ []) more.passed
-        ((λ d t k.
-        let g = gone d t k in
-        record {
-          front = g.front;
-          seen = g.seen;
-          gone = g.gone;
-          behind = all_from_in (λ (i : InlineEntry). i.op < v.op → i.key ≡ v.key → i.device ≡ d → i.event < length g.front) (filter_map inline_of made)
-              (λ i a lt keys devices.
-              let from = in_of_filter_map inline_of made i a in
-              let stood = stands_named before from.0 i from.2 (all_at (λ e. NamesOwn before (key_of_entry e) e.via) made from.0 o.own_key from.1) in
-              let begins : StartsWith g.front (list_at before i.device) = subst (λ n. StartsWith g.front (list_at before n)) (sym devices) g.begins in
-              let there = (stays (list_at before i.device) g.front i.event stood.slot i.key begins stood.programs).0 in
-              (stays g.front g.front i.event stood.slot i.key (begins_itself g.front) there).1);
-        }), tt);
+        all_append (IsPassed script after made) evictions (v ∷ []) more.passed (
+          (λ d t k.
+              let g = gone d t k in
+              record {
+                front = g.front;
+                seen = g.seen;
+                gone = g.gone;
+                behind = all_from_in (λ (i : InlineEntry). i.op < v.op → i.key ≡ v.key → i.device ≡ d → i.event < length g.front) (filter_map inline_of made)
+                    (λ i a lt keys devices.
+                    let from = in_of_filter_map inline_of made i a in
+                    let stood = stands_named before from.0 i from.2 (all_at (λ e. NamesOwn before (key_of_entry e) e.via) made from.0 o.own_key from.1) in
+                    let begins : StartsWith g.front (list_at before i.device) = subst (λ n. StartsWith g.front (list_at before n)) (sym devices) g.begins in
+                    let there = (stays (list_at before i.device) g.front i.event stood.slot i.key begins stood.programs).0 in
+                    (stays g.front g.front i.event stood.slot i.key (begins_itself g.front) there).1);
+              }),
+          tt,
+        );
   }
     where
       more : Done thread (next + 1) made evictions after

@@ -181,14 +181,20 @@ module _ (known_stays : KnownStays) (stays : ProgrammingsStay) (later_holds : La
   settled_more : (d d' : DeviceData) (answers answers' : List (Option Answer)) (o : ℕ) → SeesMore start d → SeesMore start d' → ((shard : ℕ) → StartsWith (list_at d'.seen shard) (list_at d.seen shard))
       → slice_get answers' o ≡ slice_get answers o → Settled d section answers o → Settled d' section answers' o
   settled_more d d' answers answers' o same same' fronts told s = record {
-    operation = s.operation; answer = s.answer; asked = s.asked; told = told ∙ s.told; range = s.range;
+    operation = s.operation;
+    answer = s.answer;
+    asked = s.asked;
+    told = told ∙ s.told;
+    range = s.range;
     replied = reply_to d' (o, s.operation) s.answer same'
         (reply_more known_stays script shards base thread d.seen d'.seen fronts (o, s.operation) s.answer (reply_from d (o, s.operation) s.answer same s.replied));
   }
 
   pub reached_none : (answers : List (Option Answer)) → ((d : ℕ) → own author_of thread (list_at start.noted d) ≡ []) → length answers ≡ length section → Reached start start section 0 [] answers
   reached_none answers none long = record {
-    acts = []; next = 0; made = [];
+    acts = [];
+    next = 0;
+    made = [];
     same = refl;
     spare = omega arith;
     alone = λ _. goes_none shards thread opening;
@@ -220,7 +226,9 @@ module _ (known_stays : KnownStays) (stays : ProgrammingsStay) (later_holds : La
         ∙ ap (λ o. evictions_at op answers ++ cons_option o []) none ∙ append-nil (evictions_at op answers) in
         let le = r.next_below in
         record {
-          acts = r.acts; next = r.next; made = r.made;
+          acts = r.acts;
+          next = r.next;
+          made = r.made;
           same = r.same;
           spare = r.spare;
           alone = r.alone;
@@ -259,7 +267,9 @@ module _ (known_stays : KnownStays) (stays : ProgrammingsStay) (later_holds : La
         let mine = s.spare in
         let before = r.spare in
         record {
-          acts = r.acts ++ numbered section pending; next = op; made = r.made ++ s.made;
+          acts = r.acts ++ numbered section pending;
+          next = op;
+          made = r.made ++ s.made;
           same = s.same;
           spare = omega (arith, sum_by-append (λ (x : ℕ × Op). unit_count x.1) r.acts (numbered section pending));
           alone = λ al. goes_append shards thread opening now.seen new.seen r.made s.made (r.alone al) (s.alone al);
@@ -332,7 +342,9 @@ module _ (known_stays : KnownStays) (stays : ProgrammingsStay) (later_holds : La
         ∙ ap (λ o. evictions_at op (slice_set answers op (Some answer)) ++ cons_option o []) none ∙ append-nil (evictions_at op (slice_set answers op (Some answer))) ∙ keeps_set answer in
         let le = r.next_below in
         record {
-          acts = r.acts; next = r.next; made = r.made;
+          acts = r.acts;
+          next = r.next;
+          made = r.made;
           same = r.same;
           spare = r.spare;
           alone = r.alone;
@@ -380,7 +392,9 @@ module _ (known_stays : KnownStays) (stays : ProgrammingsStay) (later_holds : La
         let before = r.spare in
         let more = units_same r.acts (op, ops.Evict key) in
         record {
-          acts = r.acts ++ (op, ops.Evict key) ∷ []; next = op + 1; made = r.made;
+          acts = r.acts ++ (op, ops.Evict key) ∷ [];
+          next = op + 1;
+          made = r.made;
           same = s.same;
           spare = omega arith;
           alone = λ al. subst (GoOnBy shards opening new.seen) (append-nil r.made) (goes_append shards thread opening now.seen new.seen r.made [] (r.alone al) (s.alone al));
@@ -411,7 +425,9 @@ module _ (known_stays : KnownStays) (stays : ProgrammingsStay) (later_holds : La
         let before = r.spare in
         let more = units_same r.acts (op, ops.Reset device) in
         record {
-          acts = r.acts ++ (op, ops.Reset device) ∷ []; next = op + 1; made = r.made;
+          acts = r.acts ++ (op, ops.Reset device) ∷ [];
+          next = op + 1;
+          made = r.made;
           same = s.same;
           spare = omega arith;
           alone = λ al. subst (GoOnBy shards opening new.seen) (append-nil r.made) (goes_append shards thread opening now.seen new.seen r.made [] (r.alone al) (s.alone al));
@@ -440,10 +456,12 @@ module _ (known_stays : KnownStays) (stays : ProgrammingsStay) (later_holds : La
       let h = each 0 (omega arith) in
       let n : first + 0 ≡ first = omega arith in
       let rest = replies_of xs ts seen (first + 1) (omega arith)
-      (λ i lt. let e = each (suc i) (omega arith) in let m : first + suc i ≡ first + 1 + i = omega arith in (e.0, e.1, e.2, e.3, subst (λ k. IsReply script shards base thread seen (k, e.0) e.1) m e.4, e.5)) in
-      (h.1 ∷ rest.0,
-      ap (λ y. y ∷ ts) (same_Some t (Some h.1) h.3) ∙ ap (λ l. Some h.1 ∷ l) rest.1,
-      (subst (λ o. IsReply script shards base thread seen (first, o) h.1) (sym (same_Some x h.0 h.2)) (subst (λ k. IsReply script shards base thread seen (k, h.0) h.1) n h.4), rest.2), (h.5, rest.3))
+      (λ i lt. let e = each (suc i) (omega arith) in let m : first + suc i ≡ first + 1 + i = omega arith in (e.0, e.1, e.2, e.3, subst (λ k. IsReply script shards base thread seen (k, e.0) e.1) m e.4, e.5)) in (
+        h.1 ∷ rest.0,
+        ap (λ y. y ∷ ts) (same_Some t (Some h.1) h.3) ∙ ap (λ l. Some h.1 ∷ l) rest.1,
+        (subst (λ o. IsReply script shards base thread seen (first, o) h.1) (sym (same_Some x h.0 h.2)) (subst (λ k. IsReply script shards base thread seen (k, h.0) h.1) n h.4), rest.2),
+        (h.5, rest.3),
+      )
 
   evictions_are : (rest : List Op) (replies all : List Answer) (first : ℕ) → length replies ≡ length rest → ((i : ℕ) (a : Answer) → slice_get replies i ≡ Some a → slice_get all (first + i) ≡ Some a)
       → filter_map (eviction_of thread (map (λ a. Some a) all)) (enumerate_from first rest) ≡ filter_map (eviction_in thread) (enumerate_from first (zip rest replies))
@@ -459,6 +477,7 @@ module _ (known_stays : KnownStays) (stays : ProgrammingsStay) (later_holds : La
       get_map [] i y e = absurd (none-some y e)
       get_map (z ∷ zs) zero y e = ap (λ w. Some (Some w)) (same_Some z y e)
       get_map (z ∷ zs) (suc i) y e = get_map zs i y e
+
       one : (x : Op) → slice_get (map (λ y. Some y) all) first ≡ Some (Some a) → eviction_of thread (map (λ y. Some y) all) (first, x) ≡ eviction_in thread (first, (x, a))
       one (ops.Evict key) h = ap (eviction_by thread first key.0) h
       one (ops.Write c s n x') h = refl
@@ -490,13 +509,16 @@ module _ (known_stays : KnownStays) (stays : ProgrammingsStay) (later_holds : La
       told.2
       (subst (AllByRecursion (λ (e : Eviction). IsEvictionAnswer script e.key e.answer)) evictions r.eviction_answers) in
       let before = r.spare in
-      let most = acts_fit now (length section) [] answers r 0 section in
-      (replies, told.1, record {
-        made = r.made;
-        same = r.same;
-        spare = omega (arith, ap units_in acts);
-        alone = r.alone;
-        fronts = r.acted.grows.fronts;
-        done = done;
-        ranges = told.3;
-      })
+      let most = acts_fit now (length section) [] answers r 0 section in (
+        replies,
+        told.1,
+        record {
+          made = r.made;
+          same = r.same;
+          spare = omega (arith, ap units_in acts);
+          alone = r.alone;
+          fronts = r.acted.grows.fronts;
+          done = done;
+          ranges = told.3;
+        },
+      )

@@ -85,7 +85,11 @@ module _ (a b : DeviceData) (section : List Op) (window : List ℕ) (i op : ℕ)
 
       go_on : (o : ℕ) → slice_get (slice_set answers op (Some answer)) o ≡ slice_get answers o → Settled b section answers o → Settled c section (slice_set answers op (Some answer)) o
       go_on o same s = record {
-        operation = s.operation; answer = s.answer; asked = s.asked; told = same ∙ s.told; range = s.range;
+        operation = s.operation;
+        answer = s.answer;
+        asked = s.asked;
+        told = same ∙ s.told;
+        range = s.range;
         replied = over (o, s.operation) s.answer (reply_more known_stays b.script b.shards b.base b.thread b.seen c.seen q.grows.fronts (o, s.operation) s.answer s.replied);
       }
 

@@ -23,8 +23,8 @@ use bc_key::KeyNo;
 use bc_medium::order_laws;
 use bc_profile::hold_laws;
 use bc_report::Answer;
-use bc_script::limits::MAX_PLUGGED;
 use bc_script::Op;
+use bc_script::limits::MAX_PLUGGED;
 use std::snapshot::Snapshot;
 
 /// Carries the operations of a thread's section out. `R` is what it waits with, and `E` what it can fail with; after an
@@ -142,11 +142,15 @@ fn step<R, E, D: Device<R, E>>(
     hold_laws();
     match operation {
         Op::Write { .. } => {
-            bio(rt, device, start, section, op, operation, plugged, pending, answers)?;
+            bio(
+                rt, device, start, section, op, operation, plugged, pending, answers,
+            )?;
             Ok(plugged)
         }
         Op::Read { .. } => {
-            bio(rt, device, start, section, op, operation, plugged, pending, answers)?;
+            bio(
+                rt, device, start, section, op, operation, plugged, pending, answers,
+            )?;
             Ok(plugged)
         }
         Op::Evict(key) => {

@@ -159,9 +159,7 @@ fn answers_of(alloc: Global, noted: &[Option<Answer>]) -> Result<Items<Answer>, 
 {
     let mut answers = Vec::with_capacity(alloc, noted.len())?;
     for answer in noted {
-        let Some(answer) = answer else {
-            unreachable!()
-        };
+        let Some(answer) = answer else { unreachable!() };
         answers.push(*answer)?;
     }
     Ok(Items::from_vec(answers))
