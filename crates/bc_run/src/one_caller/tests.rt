@@ -268,6 +268,97 @@ fn what_submits_no_bio_is_answered_by_its_name(rt: HostRuntime) -> Result<(), Fa
     Ok(())
 }
 
+// ---- plugs
+
+#[test]
+fn a_plug_may_be_empty(rt: HostRuntime) -> Result<(), Fail> {
+    let report = report_of(
+        rt.alloc(),
+        b"blkcrypt 1\ndisk 1\nfallback on\nthread\nplug\nunplug\nplug\nwrite - 0 1 - fill 05\nunplug\nend\n",
+    )?;
+    let wanted =
+        b"report 1\nthread 0\nplug\nunplug\nplug\ndone\nunplug\nshard 0 1\n0 3 0 plain\nend\n";
+    assert_eq!(rt; report.as_slice(), wanted.as_slice());
+    Ok(())
+}
+
+// An eviction submits what is plugged and leaves the plug open.
+#[test]
+fn a_key_is_evicted_in_a_plug(rt: HostRuntime) -> Result<(), Fail> {
+    let report = report_of(
+        rt.alloc(),
+        b"blkcrypt 1\ndisk 1\nfallback on\n\
+        key a aes-256-xts 512 8 000102030405060708090a0b0c0d0e0f101112131415161718191a1b1c1d1e1f202122232425262728292a2b2c2d2e2f303132333435363738393a3b3c3d3e3f\n\
+        thread\nplug\nwrite a 0 1 0 fill 11\nevict a\nread a 0 1 0\nunplug\nend\n",
+    )?;
+    let wanted =
+        b"report 1\nthread 0\nplug\ndone\nevicted\ndone fill 11\nunplug\nshard 0 2\n0 1 0 soft\n0 3 0 soft\nend\n";
+    assert_eq!(rt; report.as_slice(), wanted.as_slice());
+    Ok(())
+}
+
+// A refused bio is answered and not plugged.
+#[test]
+fn a_bio_is_refused_in_a_plug(rt: HostRuntime) -> Result<(), Fail> {
+    let report = report_of(
+        rt.alloc(),
+        b"blkcrypt 1\ndisk 1\nfallback on\nthread\nplug\nwrite - 0 0 - fill 00\nwrite - 0 1 - fill 05\n\
+        read - 0 0 -\nread - 0 1 -\nunplug\nend\n",
+    )?;
+    let wanted =
+        b"report 1\nthread 0\nplug\nrefused empty\ndone\nrefused empty\ndone fill 05\nunplug\n\
+        shard 0 2\n0 2 0 plain\n0 4 0 plain\nend\n";
+    assert_eq!(rt; report.as_slice(), wanted.as_slice());
+    Ok(())
+}
+
+/// Appends a number below 100, in decimal.
+fn append_number(text: &mut Vec<u8>, number: u8) -> Result<(), Fail> {
+    if number >= 10 {
+        text.push(b'0' + number / 10)?;
+    }
+    text.push(b'0' + number % 10)?;
+    Ok(())
+}
+
+/// The report of a script that writes so many bios in one plug and then reads, and the report that is wanted.
+fn of_a_plug(alloc: Global, bios: u8) -> Result<(Vec<u8>, Vec<u8>), Fail>
+    requires { bios ≤ 65 }
+{
+    let mut text = Vec::new(alloc);
+    let mut wanted = Vec::new(alloc);
+    text.extend_from_slice(b"blkcrypt 1\ndisk 1\nfallback on\nthread\nplug\n")?;
+    wanted.extend_from_slice(b"report 1\nthread 0\nplug\n")?;
+    for _ in 0..bios {
+        text.extend_from_slice(b"write - 0 1 - fill 07\n")?;
+        wanted.extend_from_slice(b"done\n")?;
+    }
+    text.extend_from_slice(b"unplug\nread - 0 1 -\nend\n")?;
+    wanted.extend_from_slice(b"unplug\ndone fill 07\nshard 0 ")?;
+    append_number(&mut wanted, bios + 1)?;
+    wanted.push(b'\n')?;
+    for op in 0..bios {
+        wanted.extend_from_slice(b"0 ")?;
+        append_number(&mut wanted, op + 1)?;
+        wanted.extend_from_slice(b" 0 plain\n")?;
+    }
+    wanted.extend_from_slice(b"0 ")?;
+    append_number(&mut wanted, bios + 2)?;
+    wanted.extend_from_slice(b" 0 plain\nend\n")?;
+    Ok((report_of(alloc, text.as_slice())?, wanted))
+}
+
+// A plug holds 64 bios; the 65th submits them first.
+#[test]
+fn a_plug_holds_64_bios(rt: HostRuntime) -> Result<(), Fail> {
+    for bios in [64_u8, 65] {
+        assert!(rt; bios <= 65);
+        let (report, wanted) = of_a_plug(rt.alloc(), bios)?;
+        assert_eq!(rt; report.as_slice(), wanted.as_slice());
+    }
+    Ok(())
+}
+
 // ---- planned faults
 
 // The first unit of the second bio fails: its second unit isn't attempted, and the other bios of the plug go on.
