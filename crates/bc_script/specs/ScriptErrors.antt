@@ -1,7 +1,7 @@
 -- The first line of a text that fails a test, and the first test that it fails.
 --
--- A test speaks of its line and of the lines above: how many devices, keys, faults, operations or data units those have is a count
--- or a sum over their forms, which stand here with the nearest line first.
+-- A test speaks of its line and of the lines above: how many devices, keys, faults, operations or data units those have is
+-- a count or a sum over their forms, which stand here with the nearest line first.
 use Rattle.std.specs.Prelude.{ℕ, ◌+◌, ◌*◌, ◌/◌, ◌^◌, ◌&&◌, ◌||◌, not, nat_lt, nat_le, nat_eq, Bool, true, false, if◌then◌else◌, List, [], ◌∷◌, length, Option, Some, None, is_some, sum_by, count_by, unwrap_or}
 use Rattle.std.specs.Option.{option_map, option_map_or}
 use Rattle.std.specs.Result.{result_ok}
@@ -146,7 +146,8 @@ is_open (Plug ∷ above) = true
 is_open (Unplug ∷ above) = false
 is_open (form ∷ above) = is_open above
 
--- ---- the tests of each form, in their order: its fields from left to right, then the key, the order, the devices and the limits
+-- ---- the tests of each form, in their order: its fields from left to right, then the key, the order, the devices and
+-- the limits
 
 -- the test that a line fails, if it fails one
 abbrev pub Why : Type 0
@@ -171,8 +172,8 @@ abbrev pub key_test : Why → Why → Why
 key_test None next = next
 key_test (Some kind) next = Some kind
 
--- The devices, if there are any, have the disk's blocks together. The line at which this fails, if one does, is the first
--- after the devices.
+-- The devices, if there are any, have the disk's blocks together. The line at which this fails, if one does, is the
+-- first after the devices.
 abbrev pub device_test : List Form → Why → Why
 device_test above next = first_of (are_whole above) why.Device next
 

@@ -25,11 +25,23 @@ impl Model for Script {
 
     ghost Value = { specs.Script };
 
-    ghost view = { λ s. record
-        { blocks = s.blocks; fallback = s.fallback; targets = s.targets; keys = s.keys; faults = s.faults; threads = s.threads } };
+    ghost view = { λ s. record {
+      blocks = s.blocks;
+      fallback = s.fallback;
+      targets = s.targets;
+      keys = s.keys;
+      faults = s.faults;
+      threads = s.threads;
+    } };
 
-    ghost invariant = { λ s. specs.IsScript (record
-        { blocks = s.blocks; fallback = s.fallback; targets = s.targets; keys = s.keys; faults = s.faults; threads = s.threads }) };
+    ghost invariant = { λ s. specs.IsScript (record {
+      blocks = s.blocks;
+      fallback = s.fallback;
+      targets = s.targets;
+      keys = s.keys;
+      faults = s.faults;
+      threads = s.threads;
+    }) };
 }
 
 impl Script {

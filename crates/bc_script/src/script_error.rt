@@ -17,8 +17,8 @@ pub enum ScriptWhy {
     /// The text ends before its `end` line, or in a line without a line feed; or the line stands after the `end` line.
     #[error("end")]
     End,
-    /// The line is of a form that isn't built yet, and stands where it may. No call answers this now, since each form is
-    /// built.
+    /// The line is of a form that isn't built yet, and stands where it may. No call of this crate answers it now, since
+    /// each form is built.
     #[error("not built")]
     NotBuilt,
     /// The line has none of the forms that may stand there, by its first word, its number of fields and its fixed words.
@@ -40,8 +40,8 @@ pub enum ScriptWhy {
     /// open where its section ends.
     #[error("order")]
     Order,
-    /// A device doesn't begin at the end of the one before it; or the devices don't have the disk's blocks together, which
-    /// the first line after them reports.
+    /// A device doesn't begin at the end of the one before it; or the devices don't have the disk's blocks together,
+    /// which the first line after them reports.
     #[error("device")]
     Device,
     /// The line is one too many of its sort, or asks for too many data units.
