@@ -75,19 +75,19 @@ key_has : (keys : List KeyData) (context : Option Context) → IsContext keys co
 key_has keys None is = tt
 key_has keys (Some context) is = is.0
 
-has_key : (keys : List KeyData) (operation : Op) (bio : Extent) → IsOp keys operation → bio_of operation ≡ Some bio → HasKey keys bio.context
-has_key keys (ops.Write c s n x) bio is e = subst (λ (b : Extent). HasKey keys b.context) (same_Some _ bio e) (key_has keys c is.0.context_is)
-has_key keys (ops.Read c s n) bio is e = subst (λ (b : Extent). HasKey keys b.context) (same_Some _ bio e) (key_has keys c is.context_is)
-has_key keys (ops.Evict key) bio is e = absurd (none-some bio e)
-has_key keys (ops.Reset d) bio is e = absurd (none-some bio e)
-has_key keys ops.Plug bio is e = absurd (none-some bio e)
-has_key keys ops.Unplug bio is e = absurd (none-some bio e)
+has_key : (devices : ℕ) (keys : List KeyData) (operation : Op) (bio : Extent) → IsOp devices keys operation → bio_of operation ≡ Some bio → HasKey keys bio.context
+has_key devices keys (ops.Write c s n x) bio is e = subst (λ (b : Extent). HasKey keys b.context) (same_Some _ bio e) (key_has keys c is.0.context_is)
+has_key devices keys (ops.Read c s n) bio is e = subst (λ (b : Extent). HasKey keys b.context) (same_Some _ bio e) (key_has keys c is.context_is)
+has_key devices keys (ops.Evict key) bio is e = absurd (none-some bio e)
+has_key devices keys (ops.Reset d) bio is e = absurd (none-some bio e)
+has_key devices keys ops.Plug bio is e = absurd (none-some bio e)
+has_key devices keys ops.Unplug bio is e = absurd (none-some bio e)
 
 pub key_of_bio : (start now : DeviceData) (section : List Op) (op : ℕ) (operation : Op) (bio : Extent) → SeesMore start now → AllByRecursion (IsScriptOp start.script) section → slice_get section op ≡ Some operation
     → bio_of operation ≡ Some bio → HasKey (keys_of now.script) bio.context
 key_of_bio start now section op operation bio same rules at' is =
     subst (λ (d : DeviceData). HasKey (keys_of d.script) bio.context) (sym same)
-    (has_key (keys_of start.script) operation bio (at_place (IsScriptOp start.script) section op operation rules at') is)
+    (has_key (length start.script.targets) (keys_of start.script) operation bio (at_place (IsScriptOp start.script) section op operation rules at') is)
 
 pub rules_at : (start now : DeviceData) (operation : Op) → SeesMore start now → IsScriptOp start.script operation → IsScriptOp now.script operation
 rules_at start now operation same is = subst (λ (d : DeviceData). IsScriptOp d.script operation) (sym same) is

@@ -1,10 +1,9 @@
 -- Lines of generated scripts, by the definition alone.
-use Rattle.std.proofs.Common.{◌≡◌, ℕ, [], ◌∷◌, ◌++◌, List, map, take, refl}
+use Rattle.std.proofs.Common.{◌≡◌, ℕ, List, map, refl}
 use Rattle.std.specs.Prelude.{codes}
 use Rattle.std.specs.Fmt.{digits}
 use Rattle.hex.specs.Hex.{encode_with}
 use Rattle.bc_text.specs.Lines.{lines_text}
-use Rattle.bc_script.specs.Script.{Script}
 use Rattle.bc_script.specs.ScriptText.{op_line, head_lines, key_line}
 use Rattle.bc_script.specs.Generated.{generated, generated_keys, generated_pair, generated_section}
 

@@ -1,6 +1,7 @@
 //! Generated scripts, whole and in part.
 
 use super::*;
+use crate::limits::{MAX_GENERATED, MAX_OPS};
 use crate::printing::print;
 use std::test::Fail;
 
@@ -90,14 +91,15 @@ fn first_pairs_of_a_thousand(rt: HostRuntime) -> Result<(), Fail> {
     Ok(())
 }
 
+/// As many operations as a script may have: 65536, in 16 sections of 4096.
 #[test]
 fn the_most_pairs(rt: HostRuntime) -> Result<(), Fail> {
-    let script = generate(rt.alloc(), 2048, 32)?;
-    let mut ops = 0;
-    for section in script.threads() {
-        ops += section.len();
-    }
+    let script = generate(rt.alloc(), MAX_GENERATED, 32)?;
+    assert_eq!(rt; MAX_GENERATED, 2048);
+    assert_eq!(rt; MAX_OPS, 65536);
     assert_eq!(rt; script.threads().len(), 16);
-    assert_eq!(rt; ops, 65536);
+    for section in script.threads() {
+        assert_eq!(rt; section.len(), 4096);
+    }
     Ok(())
 }

@@ -1,6 +1,5 @@
 use Rattle.std.proofs.Common.{sym, subst, ◌∙◌}
 use Rattle.bc_script.specs.Script.{IsScript}
-use Rattle.bc_script.proofs.GeneratedExamples as examples
 use Rattle.bc_script.proofs.GeneratedRules.{is_script, parts_are}
 use Rattle.bc_script.proofs.generator.generate.Goals as goal
 
