@@ -1,5 +1,5 @@
 -- What holds as no script has devices: no key is inline, no entry names a slot, and no journal has an event.
-use Rattle.std.proofs.Common.{append-nil, ◌≡◌, ℕ, ◌+◌, ◌≤◌, Bool, true, false, cond, List, [], ◌∷◌, refl, sym, ap, subst, ◌∙◌, arith, Option, Some, None}
+use Rattle.std.proofs.Common.{append-nil, ◌≡◌, ℕ, ◌+◌, ◌≤◌, Bool, true, false, cond, List, [], ◌∷◌, refl, sym, ap, subst, ◌∙◌, arith, Option, Some, None, length, ◌<◌}
 use Rattle.std.specs.Prelude.{nat_eq, ◌==◌, ◌&&◌, ◌||◌, zip, filter_map, count_by, IsTrue, IsSomeAnd, slice_get, option_and_then, unwrap_or}
 use Rattle.std.specs.List.{AllZip, AllByRecursion, enumerate_from, cons_option}
 use Rattle.std.specs.Option.{option_map_or}
@@ -221,9 +221,9 @@ no_notes thread old new same = subst (λ (n : List (List Noted)). Notes thread o
   adds = λ device. sym (append-nil (own_events thread old device));
 })
 
-pub is_submitted : (a b : DeviceData) (section : List Op) (os : List ℕ) (told : List Answer) → IsScript a.script → AllByRecursion (MayBePlugged a.script section) os
+pub is_submitted : (a b : DeviceData) (section : List Op) (os : List ℕ) (told : List Answer) → IsBuilt a.script → AllByRecursion (MayBePlugged a.script section) os
     → Carries a b (numbered section os) told → Submitted a b (numbered section os)
-is_submitted a b section os told rules plugged p = record {
+is_submitted a b section os told built plugged p = record {
   made = p.made;
   events = λ device. [];
   same = sees_more a b p.same;
@@ -233,21 +233,21 @@ is_submitted a b section os told rules plugged p = record {
   attempts = p.attempts;
   ways = p.ways;
   notes = no_notes a.thread a.noted b.noted (ap (λ (d : DeviceData). d.noted) p.same);
-  bounds = bounds a.script rules (numbered section os) [] (λ device. no_reset a.script rules section device os plugged) tt;
-  held = no_holds a.script rules a.noted b.noted p.made p.ways;
+  bounds = bounds a.script built (numbered section os) [] (λ device. no_reset a.script built section device os plugged) tt;
+  held = no_holds a.script built a.noted b.noted p.made p.ways;
 }
 
-pub is_evicted : (a : DeviceData) (op : ℕ) (key : KeyNo) → IsScript a.script → Evicted a a op key answers.Evicted
-is_evicted a op key rules = record {
+pub is_evicted : (a : DeviceData) (op : ℕ) (key : KeyNo) → IsBuilt a.script → Evicted a a op key answers.Evicted
+is_evicted a op key built = record {
   events = λ device. [];
   same = refl;
   spare = omega arith;
   grows = grows_none a.shards a.thread a.seen;
   alone = λ _. goes_none a.shards a.thread a.seen;
   notes = no_notes a.thread a.noted a.noted refl;
-  bounds = bounds a.script rules ((op, ops.Evict key) ∷ []) (record { thread = a.thread; op = op; key = key.0; answer = answers.Evicted } ∷ []) (λ device. refl) (tt, tt);
+  bounds = bounds a.script built ((op, ops.Evict key) ∷ []) (record { thread = a.thread; op = op; key = key.0; answer = answers.Evicted } ∷ []) (λ device. refl) (tt, tt);
   valid = tt;
-  gone = λ device passed inline'. absurd (true≢false (sym (is_true (is_inline a.script (record { 0 = key.0 })) inline') ∙ never_inline a.script rules (record { 0 = key.0 })));
+  gone = λ device passed inline'. absurd (true≢false (sym (is_true (is_inline a.script (record { 0 = key.0 })) inline') ∙ never_inline a.script built (record { 0 = key.0 })));
 }
   where
     is_true : (b : Bool) → IsTrue b → b ≡ true

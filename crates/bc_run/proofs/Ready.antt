@@ -92,6 +92,7 @@ module _ (sizes : UnitsHaveSizes) (blocks : UnitsLieInBlocks) (script : Script) 
         let more : (left : ℕ) → 1 ≤ left → left ≡ left - 1 + 1 = λ left some. omega arith in
         let long : length new ≡ length shards = ap length p.goes_on.3 ∙ length-set shards p.place.shard p.goes_on.1 in record {
           rules = course.rules;
+          built = course.built;
           keys_are = course.keys_are;
           some = subst (λ n. 1 ≤ n) (sym long) course.some;
           stand = stand_more script shards new e p.place.shard left (left - 1) (omega arith)

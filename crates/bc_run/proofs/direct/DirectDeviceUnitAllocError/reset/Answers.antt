@@ -4,6 +4,6 @@ use Rattle.bc_run.specs.Standing.{CourseData}
 use Rattle.bc_run.proofs.NoDevices.{no_device}
 use Rattle.bc_run.proofs.direct.DirectDeviceUnitAllocError.reset.Goals as goal
 
-pub returns-clause-done : goal.returns-clause-done
-returns-clause-done c =
+pub returns : goal.returns
+returns c =
     absurd (no_device c.args.self.now.script (subst (λ (v : CourseData). IsBuilt v.script) c.self.view_is c.is_built.ensures) c.args._device c.requires.rules)
