@@ -3,7 +3,7 @@ use Rattle.std.proofs.Common.{append-nil, ◌≡◌, ℕ, ◌+◌, ◌≤◌, Bo
 use Rattle.std.specs.Prelude.{nat_eq, ◌==◌, ◌&&◌, ◌||◌, zip, filter_map, count_by, IsTrue, IsSomeAnd, slice_get, option_and_then, unwrap_or}
 use Rattle.std.specs.List.{AllZip, AllByRecursion, enumerate_from, cons_option}
 use Rattle.std.specs.Option.{option_map_or}
-use Rattle.std.proofs.lemmas.Bool.{true≢false}
+use Rattle.std.proofs.lemmas.Bool.{true≢false, ne_eqb}
 use Rattle.std.proofs.lemmas.List.Sums.{sum_by-cons}
 use Rattle.bc_base.specs.Lists.{Each, list_at}
 use Rattle.bc_key.specs.KeyData.{KeyData}
@@ -42,6 +42,9 @@ use Rattle.bc_run.proofs.Growing.{begins_itself, grows_none, goes_none}
 use Rattle.bc_run.specs.Built.{IsBuilt}
 use Rattle.bc_run.specs.Standing.{via_of}
 
+some_none : (n : ℕ) → Some n ≡ None → ⊥
+some_none n is = cc
+
 -- a script that is carried out has a fallback and no devices
 is_bare : (script : Script) → IsBuilt script → (script.fallback ≡ true) × (script.targets ≡ [])
 is_bare script built = bare script.fallback script.targets built
@@ -50,8 +53,9 @@ is_bare script built = bare script.fallback script.targets built
         → cond {A = Option ℕ} fallback (cond {A = Option ℕ} (nat_eq (length targets) 0) None (Some 4)) (Some 3) ≡ None
         → (fallback ≡ true) × (targets ≡ [])
     bare true [] is = (refl, refl)
-    bare true (target ∷ targets) is = absurd cc
-    bare false targets is = absurd cc
+    bare true (target ∷ targets) is =
+        absurd (some_none 4 (sym (ap (λ (b : Bool). cond {A = Option ℕ} b None (Some 4)) (ne_eqb (length (target ∷ targets)) 0 (λ same. omega arith))) ∙ is))
+    bare false targets is = absurd (some_none 3 is)
 
 pub no_device : (script : Script) → IsBuilt script → (device : ℕ) → device < length script.targets → ⊥
 no_device script built device below =
