@@ -8,3 +8,4 @@ pub mod Walk
 pub mod MediumAccess
 pub mod Queues
 pub mod Names
+pub mod OrderOnly

@@ -3,3 +3,4 @@ pub mod RequestUnits
 pub mod Carrying
 pub mod Queues
 pub mod Laws
+pub mod OrderOnly

@@ -26,4 +26,6 @@ pub use request_units::carry_out;
 pub use unit_access::UnitAccess;
 
 #[cfg(test)]
+mod carry_out_tests;
+#[cfg(test)]
 mod tests;
