@@ -390,16 +390,17 @@ fn devices_stand_before_keys(rt: HostRuntime) -> Result<(), Fail> {
 fn as_many_devices_as_there_may_be(rt: HostRuntime) -> Result<(), Fail> {
     let alloc = rt.alloc();
     let mut text = format!(in alloc; "blkcrypt 1\ndisk 36\nfallback off\n")?;
-    let mut first = 0u32;
-    for n in 1u32..9 {
-        let line = format!(in alloc; "device {first} {n} 3{n} 1{n} {n} {n}\n")?;
-        if n < 3 {
-            text.push_str(&line)?;
-        } else {
-            let line = format!(in alloc; "device {first} {n} {n} {n} 1 {n}\n")?;
-            text.push_str(&line)?;
-        }
-        first += n;
+    for line in [
+        "device 0 1 31 11 1 1\n",
+        "device 1 2 32 12 2 2\n",
+        "device 3 3 3 3 1 3\n",
+        "device 6 4 4 4 1 4\n",
+        "device 10 5 5 5 1 5\n",
+        "device 15 6 6 6 1 6\n",
+        "device 21 7 7 7 1 7\n",
+        "device 28 8 8 8 1 8\n",
+    ] {
+        text.push_str(line)?;
     }
     fail_after(
         &rt,
