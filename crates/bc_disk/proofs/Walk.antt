@@ -50,7 +50,7 @@ length_part xs zero k within = length_take xs k (omega (arith, within))
 length_part [] (suc n) k within = absurd (omega (arith, within))
 length_part (x ∷ xs) (suc n) k within = length_part xs n k (omega (arith, within))
 
-drop_all : {X : Type 0} (xs : List X) (n : ℕ) → length xs ≤ n → drop n xs ≡ []
+pub drop_all : {X : Type 0} (xs : List X) (n : ℕ) → length xs ≤ n → drop n xs ≡ []
 drop_all [] zero past = refl
 drop_all [] (suc n) past = refl
 drop_all (x ∷ xs) zero past = absurd (omega (arith, past))

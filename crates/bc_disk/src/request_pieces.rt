@@ -1,9 +1,10 @@
 //! The pieces of a request, one after the other.
 
-ghost use Rattle.std.specs.Prelude.{◌≡◌};
-ghost use Rattle.bc_bio.specs.Windows.{IsRequest};
+ghost use Rattle.std.specs.Prelude.{◌≡◌, List, ◌++◌};
+ghost use Rattle.bc_bio.specs.Windows.{IsRequest, NamedUnit};
 ghost use Rattle.bc_bio.specs.Requests.{tagged_bios};
 ghost use Rattle.bc_disk.specs.Pieces.{CarriesPieces, GoesByDevices, pieces_in};
+ghost use Rattle.bc_disk.specs.Told.{Tells};
 
 use crate::DeviceAccess;
 use bc_bio::Request;
@@ -31,6 +32,11 @@ pub fn carry_out_pieces<R, P, A: DeviceAccess<R, P>>(
     ensures ready { A.is_ready access.now pass.new }
     ensures carries { CarriesPieces A.exact keys.now.keys stack.now.targets (A.facts access.now pass.old)
         (A.facts access.now pass.new) request.old request.new 0 (pieces_in keys.now.keys stack.now.targets request.old) }
+    ensures tells { Tells (A.facts access.now pass.old) (A.facts access.now pass.new) }
+    ensures bios { tagged_bios request.new.bios ≡ tagged_bios request.old.bios }
+    ensures room { (rest : List (List NamedUnit)) →
+        A.affords access.now pass.old (pieces_in keys.now.keys stack.now.targets request.old ++ rest) →
+        A.affords access.now pass.new rest }
 {
     let units = request.units();
     let mut first = 0;

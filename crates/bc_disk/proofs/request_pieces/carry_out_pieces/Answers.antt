@@ -1,10 +1,11 @@
-use Rattle.std.proofs.Common.{◌≡◌, ◌+◌, List, drop, sym, ap, subst, arith}
+use Rattle.std.proofs.Common.{◌≡◌, ◌+◌, List, drop, sym, ap, subst, arith, ◌++◌}
 use Rattle.bc_bio.specs.Windows.{NamedUnit, count_units, units_of_request}
 use Rattle.bc_bio.specs.Requests.{tagged_bios}
 use Rattle.bc_stack.specs.declared.target.Target.{Target}
 use Rattle.bc_stack.specs.Pieces.{pieces_of}
 use Rattle.bc_disk.specs.Pieces.{IsOnDevice, units_in}
-use Rattle.bc_disk.proofs.Walk.{carried_none, carried_more, carried_all, length-units_of_request, next_piece, on_device, still_performable}
+use Rattle.bc_disk.proofs.Walk.{carried_none, carried_more, carried_all, drop_all, length-units_of_request, next_piece, on_device, still_performable}
+use Rattle.bc_disk.proofs.Telling.{pieces_tell}
 use Rattle.bc_disk.proofs.request_pieces.carry_out_pieces.Goals as goal
 
 pub loop-first-init : goal.loop-first-init
@@ -12,6 +13,7 @@ loop-first-init g c = record {
   ready = c.requires.ready;
   carried = carried_none g.A.DeviceAccess.exact c.args.keys.now.keys c.args.stack.now.targets (g.A.DeviceAccess.facts c.args.access.now c.args.pass.now) c.args.request.now c.requires.keys c.requires.targets;
   room = c.requires.room;
+  leaves = λ rest has. has;
 }
 
 pub carry_out-requires-clause-on_device : goal.carry_out-requires-clause-on_device
@@ -47,6 +49,8 @@ loop-first-preserved g c =
           c.args.request.now c.loop-first.request c.carry_out.new.request c.loop-first.first cut.result.0 cut.result.1 carried cut.ensures.piece cut.ensures.device cut.ensures.most c.carry_out.ensures.carries c.carry_out.ensures.exact;
       room = c.carry_out.ensures.room (pieces_of targets (drop (c.loop-first.first + cut.result.1) (units_in keys c.args.request.now)))
           (subst (λ (ps : List (List NamedUnit)). g.A.DeviceAccess.affords c.args.access.now c.loop-first.pass ps) next c.loop-first.invariant.room);
+      leaves = λ rest has. c.carry_out.ensures.room (pieces_of targets (drop (c.loop-first.first + cut.result.1) (units_in keys c.args.request.now)) ++ rest)
+          (subst (λ (ps : List (List NamedUnit)). g.A.DeviceAccess.affords c.args.access.now c.loop-first.pass (ps ++ rest)) next (c.loop-first.invariant.leaves rest has));
     }
 
 pub returns-clause-carries : goal.returns-clause-carries
@@ -54,3 +58,20 @@ returns-clause-carries g c =
     let past = c.loop-first-test.false in
     carried_all g.A.DeviceAccess.exact c.args.keys.now.keys c.args.stack.now.targets (g.A.DeviceAccess.facts c.args.access.now c.args.pass.now) (g.A.DeviceAccess.facts c.args.access.now c.loop-first.pass) c.args.request.now c.loop-first.request c.loop-first.first c.loop-first.invariant.carried
     (omega (arith, past, c.units-units.ensures))
+
+pub returns-clause-tells : goal.returns-clause-tells
+returns-clause-tells g c =
+    let old = g.A.DeviceAccess.facts c.args.access.now c.args.pass.now in
+    let new = g.A.DeviceAccess.facts c.args.access.now c.loop-first.pass in
+    let carried = c.loop-first.invariant.carried in
+    pieces_tell g.A.DeviceAccess.exact c.args.keys.now.keys c.args.stack.now.targets old new c.args.request.now c.loop-first.request 0 carried.done carried.carried
+
+pub returns-clause-bios : goal.returns-clause-bios
+returns-clause-bios g c = c.loop-first.invariant.carried.bios
+
+pub returns-clause-room : goal.returns-clause-room
+returns-clause-room g c rest has =
+    let past = c.loop-first-test.false in
+    let units = length-units_of_request c.args.keys.now.keys (tagged_bios c.args.request.now.bios) in
+    let none = drop_all (units_in c.args.keys.now.keys c.args.request.now) c.loop-first.first (omega (arith, past, units, c.units-units.ensures)) in
+    subst (λ (us : List NamedUnit). g.A.DeviceAccess.affords c.args.access.now c.loop-first.pass (pieces_of c.args.stack.now.targets us ++ rest)) none (c.loop-first.invariant.leaves rest has)
