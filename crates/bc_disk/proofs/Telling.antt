@@ -1,5 +1,5 @@
 -- What pieces tell together.
-use Rattle.std.proofs.Common.{ℕ, ◌+◌, List, [], ◌∷◌, ◌++◌, length, append-nil, append_assoc, refl, sym, ap, subst, ◌∙◌}
+use Rattle.std.proofs.Common.{suc, ℕ, ◌+◌, List, [], ◌∷◌, ◌++◌, length, append-nil, append_assoc, refl, sym, ap, subst, ◌∙◌}
 use Rattle.std.specs.Prelude.{filter}
 use Rattle.std.specs.List.{AllZip}
 use Rattle.std.proofs.lemmas.List.{map-append}
@@ -17,10 +17,11 @@ use Rattle.bc_profile.specs.declared.event.Event.{Event}
 use Rattle.bc_profile.specs.declared.noted.Noted.{Noted}
 use Rattle.bc_profile.specs.Story.{author_of, note, notes}
 use Rattle.bc_stack.specs.declared.target.Target.{Target}
+use Rattle.bc_queue.specs.RequestUnits.{attempted_in}
 use Rattle.bc_queue.specs.Carrying.{IsCarried}
 use Rattle.bc_queue.specs.Queues.{IsUnderKey}
 use Rattle.bc_disk.specs.Pieces.{DeviceFacts, CarriesPiece, CarriesPieces, NotesOn, access_by, at_device}
-use Rattle.bc_disk.specs.Told.{HasHoldBetween, Tells}
+use Rattle.bc_disk.specs.Told.{HasHoldBetween, Tells, events_on}
 
 begins_itself : {E : Type 0} (xs : List E) → StartsWith xs xs
 begins_itself xs = ([], sym (append-nil xs))
@@ -77,53 +78,45 @@ held_more slots older old new newer before after e h = record {
   holds = h.holds;
 }
 
--- one piece
-piece_tells : (old new : DeviceFacts) (before after : RequestParts) (first device count : ℕ) → CarriesPiece old new before after first device count → Tells old new
-piece_tells old new before after first device count p = record {
-  same = p.same;
-  made = p.carries.made;
-  events = at_device device p.made;
-  grows = p.carries.grows;
-  notes = p.notes;
-  held = entries _ p.carries.made p.carries.carried p.keyed;
-}
-  where
-    entries : (numbers : List ℕ) (es : List Entry) → AllZip (IsCarried (access_by (ways.Inline device p.slot p.epoch) old) new.access.seen before.bios after.bios) numbers es → Each (IsUnderKey p.under.key.0) es → Each (HasHoldBetween old.slots old.noted new.noted) es
-    entries [] [] all keyed = tt
-    entries [] (e ∷ es) all keyed = absurd all
-    entries (n ∷ numbers) [] all keyed = absurd all
-    entries (n ∷ numbers) (e ∷ es) all keyed = (
-      record {
-        device = device;
-        slot = p.slot;
-        epoch = p.epoch;
-        key = p.under.key.0;
-        way = all.0.way;
-        under = keyed.0;
-        front = p.front;
-        begins = p.begins;
-        seen = p.seen;
-        holds = p.holds;
-      },
-      entries numbers es all.1 keyed.1,
-    )
+-- the entries of one piece
+entries_held : (old new : DeviceFacts) (before after : RequestParts) (first device count : ℕ) (p : CarriesPiece old new before after first device count) (numbers : List ℕ) (es : List Entry)
+    → AllZip (IsCarried (access_by (ways.Inline device p.slot p.epoch) old) new.access.seen before.bios after.bios) numbers es → Each (IsUnderKey p.under.key.0) es → Each (HasHoldBetween old.slots old.noted new.noted) es
+entries_held old new before after first device count p [] [] all keyed = tt
+entries_held old new before after first device count p [] (e ∷ es) all keyed = absurd all
+entries_held old new before after first device count p (n ∷ numbers) [] all keyed = absurd all
+entries_held old new before after first device count p (n ∷ numbers) (e ∷ es) all keyed = (
+  record {
+    device = device;
+    slot = p.slot;
+    epoch = p.epoch;
+    key = p.under.key.0;
+    way = all.0.way;
+    under = keyed.0;
+    front = p.front;
+    begins = p.begins;
+    seen = p.seen;
+    holds = p.holds;
+  },
+  entries_held old new before after first device count p numbers es all.1 keyed.1,
+)
 
-tells_none : (facts : DeviceFacts) → Tells facts facts
+tells_none : (facts : DeviceFacts) → Tells facts facts []
 tells_none facts = record {
   same = record { keys = refl; shards = refl; caller = refl; targets = refl; slots = refl };
   made = [];
-  events = λ device. [];
+  holds = [];
+  one_for_each = refl;
   grows = grows_none facts.access.shards facts.access.caller facts.access.seen;
   notes = λ device. record { front = begins_itself (list_at facts.noted device); adds = sym (append-nil (own author_of facts.access.caller (list_at facts.noted device))) };
   held = tt;
 }
 
-tells_append : (old mid new : DeviceFacts) → Tells old mid → Tells mid new → Tells old new
-tells_append old mid new p q =
+tells_more : (old mid new : DeviceFacts) (before after : RequestParts) (first device count : ℕ) (piece : List NamedUnit) (pieces : List (List NamedUnit)) → CarriesPiece old mid before after first device count → Tells mid new pieces → Tells old new (piece ∷ pieces)
+tells_more old mid new before after first device count piece pieces p q =
     let grows : Grows old.access.shards old.access.caller mid.access.seen new.access.seen q.made =
     subst (λ c. Grows old.access.shards c mid.access.seen new.access.seen q.made) p.same.caller (subst (λ k. Grows k mid.access.caller mid.access.seen new.access.seen q.made) p.same.shards q.grows) in
-    let noted : (device : ℕ) → NotesOn old.access.caller (list_at mid.noted device) (list_at new.noted device) (q.events device) =
-    λ device. subst (λ c. NotesOn c (list_at mid.noted device) (list_at new.noted device) (q.events device)) p.same.caller (q.notes device) in
+    let noted : (device : ℕ) → NotesOn old.access.caller (list_at mid.noted device) (list_at new.noted device) (events_on q.holds device) =
+    λ device. subst (λ c. NotesOn c (list_at mid.noted device) (list_at new.noted device) (events_on q.holds device)) p.same.caller (q.notes device) in
     let held : Each (HasHoldBetween old.slots mid.noted new.noted) q.made = subst (λ (s : ℕ → ℕ). Each (HasHoldBetween s mid.noted new.noted) q.made) p.same.slots q.held in record {
       same = record {
         keys = q.same.keys ∙ p.same.keys;
@@ -132,18 +125,19 @@ tells_append old mid new p q =
         targets = q.same.targets ∙ p.same.targets;
         slots = q.same.slots ∙ p.same.slots;
       };
-      made = p.made ++ q.made;
-      events = λ device. p.events device ++ q.events device;
-      grows = grows_append old.access.shards old.access.caller old.access.seen mid.access.seen new.access.seen p.made q.made p.grows grows;
-      notes = λ device. notes_append old.access.caller (list_at old.noted device) (list_at mid.noted device) (list_at new.noted device) (p.events device) (q.events device) (p.notes device) (noted device);
-      held = each_append (HasHoldBetween old.slots old.noted new.noted) p.made q.made
+      made = p.carries.made ++ q.made;
+      holds = record { device = device; key = p.under.key.0; slot = p.slot; made = p.made; is = p.one_hold } ∷ q.holds;
+      one_for_each = ap suc q.one_for_each;
+      grows = grows_append old.access.shards old.access.caller old.access.seen mid.access.seen new.access.seen p.carries.made q.made p.carries.grows grows;
+      notes = λ other. notes_append old.access.caller (list_at old.noted other) (list_at mid.noted other) (list_at new.noted other) (at_device device p.made other) (events_on q.holds other) (p.notes other) (noted other);
+      held = each_append (HasHoldBetween old.slots old.noted new.noted) p.carries.made q.made
           (each_more (HasHoldBetween old.slots old.noted mid.noted) (HasHoldBetween old.slots old.noted new.noted)
-          (held_more old.slots old.noted old.noted mid.noted new.noted (λ device. begins_itself (list_at old.noted device)) (λ device. (q.notes device).front)) p.made p.held)
+          (held_more old.slots old.noted old.noted mid.noted new.noted (λ device. begins_itself (list_at old.noted device)) (λ device. (q.notes device).front)) p.carries.made (entries_held old mid before after first device count p (attempted_in after.bios first count) p.carries.made p.carries.carried p.keyed))
           (each_more (HasHoldBetween old.slots mid.noted new.noted) (HasHoldBetween old.slots old.noted new.noted)
           (held_more old.slots old.noted mid.noted new.noted new.noted (λ device. (p.notes device).front) (λ device. begins_itself (list_at new.noted device))) q.made held);
     }
 
-pub pieces_tell : (Exact : DeviceFacts → DeviceFacts → ℕ → List NamedUnit → Type 0) (keys : List KeyData) (targets : List Target) (old new : DeviceFacts) (before after : RequestParts) (first : ℕ) (pieces : List (List NamedUnit)) → CarriesPieces Exact keys targets old new before after first pieces → Tells old new
-pieces_tell Exact keys targets old new before after first [] p = subst (λ f. Tells old f) (sym p.0) (tells_none old)
+pub pieces_tell : (Exact : DeviceFacts → DeviceFacts → ℕ → List NamedUnit → Type 0) (keys : List KeyData) (targets : List Target) (old new : DeviceFacts) (before after : RequestParts) (first : ℕ) (pieces : List (List NamedUnit)) → CarriesPieces Exact keys targets old new before after first pieces → Tells old new pieces
+pieces_tell Exact keys targets old new before after first [] p = subst (λ f. Tells old f []) (sym p.0) (tells_none old)
 pieces_tell Exact keys targets old new before after first (piece ∷ pieces) p =
-    tells_append old p.0 new (piece_tells old p.0 before p.1 first p.2.device (length piece) p.2.carries) (pieces_tell Exact keys targets p.0 new p.1 after (first + length piece) pieces p.3)
+    tells_more old p.0 new before p.1 first p.2.device (length piece) piece pieces p.2.carries (pieces_tell Exact keys targets p.0 new p.1 after (first + length piece) pieces p.3)

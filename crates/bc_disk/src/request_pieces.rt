@@ -31,8 +31,10 @@ pub fn carry_out_pieces<R, P, A: DeviceAccess<R, P>>(
     requires room { A.affords access.now pass.old (pieces_in keys.now.keys stack.now.targets request.old) }
     ensures ready { A.is_ready access.now pass.new }
     ensures carries { CarriesPieces A.exact keys.now.keys stack.now.targets (A.facts access.now pass.old)
-        (A.facts access.now pass.new) request.old request.new 0 (pieces_in keys.now.keys stack.now.targets request.old) }
-    ensures tells { Tells (A.facts access.now pass.old) (A.facts access.now pass.new) }
+        (A.facts access.now pass.new) request.old request.new 0
+        (pieces_in keys.now.keys stack.now.targets request.old) }
+    ensures tells { Tells (A.facts access.now pass.old) (A.facts access.now pass.new)
+        (pieces_in keys.now.keys stack.now.targets request.old) }
     ensures bios { tagged_bios request.new.bios ≡ tagged_bios request.old.bios }
     ensures room { (rest : List (List NamedUnit)) →
         A.affords access.now pass.old (pieces_in keys.now.keys stack.now.targets request.old ++ rest) →

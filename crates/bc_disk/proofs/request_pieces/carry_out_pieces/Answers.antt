@@ -3,7 +3,7 @@ use Rattle.bc_bio.specs.Windows.{NamedUnit, count_units, units_of_request}
 use Rattle.bc_bio.specs.Requests.{tagged_bios}
 use Rattle.bc_stack.specs.declared.target.Target.{Target}
 use Rattle.bc_stack.specs.Pieces.{pieces_of}
-use Rattle.bc_disk.specs.Pieces.{IsOnDevice, units_in}
+use Rattle.bc_disk.specs.Pieces.{IsOnDevice, units_in, pieces_in}
 use Rattle.bc_disk.proofs.Walk.{carried_none, carried_more, carried_all, drop_all, length-units_of_request, next_piece, on_device, still_performable}
 use Rattle.bc_disk.proofs.Telling.{pieces_tell}
 use Rattle.bc_disk.proofs.request_pieces.carry_out_pieces.Goals as goal
@@ -61,10 +61,11 @@ returns-clause-carries g c =
 
 pub returns-clause-tells : goal.returns-clause-tells
 returns-clause-tells g c =
+    let past = c.loop-first-test.false in
     let old = g.A.DeviceAccess.facts c.args.access.now c.args.pass.now in
     let new = g.A.DeviceAccess.facts c.args.access.now c.loop-first.pass in
-    let carried = c.loop-first.invariant.carried in
-    pieces_tell g.A.DeviceAccess.exact c.args.keys.now.keys c.args.stack.now.targets old new c.args.request.now c.loop-first.request 0 carried.done carried.carried
+    pieces_tell g.A.DeviceAccess.exact c.args.keys.now.keys c.args.stack.now.targets old new c.args.request.now c.loop-first.request 0 (pieces_in c.args.keys.now.keys c.args.stack.now.targets c.args.request.now)
+    (carried_all g.A.DeviceAccess.exact c.args.keys.now.keys c.args.stack.now.targets old new c.args.request.now c.loop-first.request c.loop-first.first c.loop-first.invariant.carried (omega (arith, past, c.units-units.ensures)))
 
 pub returns-clause-bios : goal.returns-clause-bios
 returns-clause-bios g c = c.loop-first.invariant.carried.bios
