@@ -4,6 +4,9 @@ pub mod Command
 pub mod Statuses
 pub mod Laws
 pub mod Stages
+pub mod Uses
 pub mod Sections
+pub mod Keyslots
 pub mod Standing
 pub mod Reached
+pub mod InTurn

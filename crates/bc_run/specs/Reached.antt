@@ -5,22 +5,27 @@ use Rattle.std.specs.Option.{option_map_or}
 use Rattle.bc_base.specs.Lists.{Each, list_at}
 use Rattle.bc_base.specs.Story.{StartsWith}
 use Rattle.bc_key.specs.declared.keys.KeyNo.{KeyNo}
+use Rattle.bc_bio.specs.Windows.{TaggedBio}
 use Rattle.bc_medium.specs.declared.entry.Entry.{Entry}
 use Rattle.bc_medium.specs.Growth.{Grows, Attempts}
 use Rattle.bc_profile.specs.declared.event.Event.{Event}
 use Rattle.bc_script.specs.declared.op.Op.{Op}
 use Rattle.bc_script.specs.declared.op.Op.TheVariants as ops
-use Rattle.bc_script.specs.Script.{Script, unit_count_of_section}
+use Rattle.bc_script.specs.Script.{Script}
 use Rattle.bc_script.specs.Bios.{bio_of, refusal_of}
 use Rattle.bc_script.specs.Plan.{units_of}
+use Rattle.bc_script.specs.Windows.{Step, Turn, step_of, turns_from}
+use Rattle.bc_script.specs.Windows as turns
 use Rattle.bc_report.specs.declared.answer.Answer.{Answer}
 use Rattle.bc_report.specs.Evictions.{Eviction, IsEvictionAnswer}
 use Rattle.bc_report.specs.Programmings.{passes}
 use Rattle.bc_report.specs.Report.{IsAnswer}
+use Rattle.bc_report.specs.SerialRun.{DeviceUse, uses_of_turn, uses_of_section}
 use Rattle.bc_compose.specs.SectionDone.{SaysItsWay, Bounds, IsReply, SectionDone}
 use Rattle.bc_compose.specs.Ordered.{Pairs, Notes, GoesInline, IsTakenOut, Held}
 use Rattle.bc_compose.specs.Acted.{is_act, Acted}
-use Rattle.bc_run.specs.Sections.{DeviceData, Carries, GoOnBy, units_in}
+use Rattle.bc_run.specs.Sections.{DeviceData, GoOnBy, journal_seen, cost_in, cost_of_section}
+use Rattle.bc_run.specs.Uses.{MakesUses, bios_of}
 
 -- ---- operations by their numbers
 
@@ -60,6 +65,12 @@ evictions_before thread section op answers =
 
 -- ---- what calls of a device tell
 
+-- the device made the uses of a turn, where no other thread comes between
+abbrev pub MakesTurn : DeviceData → DeviceData → Turn → List Entry → Type 0
+MakesTurn old new turn made =
+    IsTrue old.alone → MakesUses old.script (journal_seen old) (journal_seen new)
+    (λ device. uses_of_turn old.script device old.thread turn) made
+
 -- the operation has its answer
 pub record Settled (device : DeviceData) (section : List Op) (answers : List (Option Answer)) (op : ℕ) : Type 0 where
   pub operation : Op
@@ -78,7 +89,7 @@ pub record Submitted (old new : DeviceData) (acts : List (ℕ × Op)) : Type 0 w
   pub made : List Entry
   pub events : ℕ → List Event
   pub same : SeesMore old new
-  pub spare : old.spare ≤ new.spare + units_in acts
+  pub spare : old.spare ≤ new.spare + cost_in acts
   pub grows : Grows old.shards old.thread old.seen new.seen made
   pub alone : IsTrue old.alone → GoOnBy old.shards old.seen new.seen made
   pub attempts : Attempts old.thread [] (flat_map (units_of old.script) acts) made
@@ -86,12 +97,13 @@ pub record Submitted (old new : DeviceData) (acts : List (ℕ × Op)) : Type 0 w
   pub notes : Notes old.thread old.noted new.noted events
   pub bounds : Bounds old.script acts [] events
   pub held : Held old.script old.noted new.noted made
+  pub uses : MakesTurn old new (turns.Window (bios_of acts)) made
 
 -- a key was evicted with this answer, as operation number op
 pub record Evicted (old new : DeviceData) (op : ℕ) (key : KeyNo) (answer : Answer) : Type 0 where
   pub events : ℕ → List Event
   pub same : SeesMore old new
-  pub spare : old.spare ≤ new.spare
+  pub spare : old.spare ≤ new.spare + 1
   pub grows : Grows old.shards old.thread old.seen new.seen []
   pub alone : IsTrue old.alone → GoOnBy old.shards old.seen new.seen []
   pub notes : Notes old.thread old.noted new.noted events
@@ -100,36 +112,59 @@ pub record Evicted (old new : DeviceData) (op : ℕ) (key : KeyNo) (answer : Ans
   pub valid : IsEvictionAnswer old.script key.0 answer
   pub gone : (device : ℕ) → IsTrue (passes device answer) → GoesInline old.script key.0
       → IsTakenOut old.script old.noted new.noted device key.0
+  pub uses : MakesTurn old new (turns.Evict key) []
 
 -- a device was reset, as operation number op
 pub record HasReset (old new : DeviceData) (op device : ℕ) : Type 0 where
   pub events : ℕ → List Event
   pub same : SeesMore old new
-  pub spare : old.spare ≤ new.spare
+  pub spare : old.spare ≤ new.spare + 1
   pub grows : Grows old.shards old.thread old.seen new.seen []
   pub alone : IsTrue old.alone → GoOnBy old.shards old.seen new.seen []
   pub notes : Notes old.thread old.noted new.noted events
   pub bounds : Bounds old.script ((op, ops.Reset device) ∷ []) [] events
-
--- the first bios of a window were performed with these answers, one after the other
-pub record InWindow (start now : DeviceData) (section : List Op) (window : List ℕ) (n : ℕ)
-    (old answers : List (Option Answer)) : Type 0 where
-  pub told : List Answer
-  pub carried : Carries start now (numbered section (take n window)) told
-  pub settled : Each (Settled now section answers) (take n window)
-  pub long : length answers ≡ length old
-  pub others : (o : ℕ) → list_any (λ w. w == o) window ≡ false → slice_get answers o ≡ slice_get old o
+  pub uses : MakesTurn old new (turns.Reset device) []
 
 -- ---- the loop
 
--- operations below `op` were acted on, are held back, or are answered by themselves
-pub record Reached (start now : DeviceData) (section : List Op) (op : ℕ) (pending : List ℕ)
+-- what operations from number op on mean for windows
+abbrev pub steps_from : Script → List Op → ℕ → List Step
+steps_from script section op = filter_map (step_of script) (enumerate_from op (drop op section))
+
+-- the turns that are left, where these bios are held back: in a plug more may be held back with them
+abbrev pub turns_left : Bool → List TaggedBio → List Step → List Turn
+turns_left true bios steps = turns_from (Some bios) steps
+turns_left false bios steps = turns.Window bios ∷ turns_from None steps
+
+-- the uses that they make of a device
+abbrev pub uses_left : Script → ℕ → ℕ → Bool → List TaggedBio → List Step → List DeviceUse
+uses_left script device thread plugged bios steps =
+    flat_map (uses_of_turn script device thread) (turns_left plugged bios steps)
+
+-- what is held back is submitted now, before these steps: whatever follows begins another window
+abbrev pub WindowEnds : Script → ℕ → Bool → List TaggedBio → List Step → Type 0
+WindowEnds script thread plugged bios steps =
+    (device : ℕ) → uses_left script device thread plugged bios steps
+    ≡ uses_of_turn script device thread (turns.Window bios) ++ uses_left script device thread plugged [] steps
+
+-- the uses of a section so far, of operations below `next`, with which those that are left are all of them
+pub record HasUsed (start now : DeviceData) (section : List Op) (op next : ℕ) (plugged : Bool) (pending : List ℕ)
+    (made : List Entry) : Type 0 where
+  pub done : ℕ → List DeviceUse
+  pub makes : MakesUses start.script (journal_seen start) (journal_seen now) done made
+  pub before : (device : ℕ) → Each (λ u. Each (λ name. name.op < next) u.units) (done device)
+  pub whole : (device : ℕ) → uses_of_section start.script device (start.thread, section)
+      ≡ done device ++ uses_left start.script device start.thread plugged (bios_of (numbered section pending))
+      (steps_from start.script section op)
+
+-- operations below `op` were acted on, are held back, or are answered by themselves; whether a plug is open then
+pub record Reached (start now : DeviceData) (section : List Op) (op : ℕ) (plugged : Bool) (pending : List ℕ)
     (answers : List (Option Answer)) : Type 0 where
   pub acts : List (ℕ × Op)
   pub next : ℕ
   pub made : List Entry
   pub same : SeesMore start now
-  pub spare : start.spare ≤ now.spare + units_in acts
+  pub spare : start.spare ≤ now.spare + cost_in acts
   pub alone : IsTrue start.alone → GoOnBy start.shards start.seen now.seen made
   pub acted : Acted start.script start.shards start.thread start.seen acts next now.seen now.noted made
       (evictions_before start.thread section op answers)
@@ -140,6 +175,7 @@ pub record Reached (start now : DeviceData) (section : List Op) (op : ℕ) (pend
   pub eviction_answers : Each (λ e. IsEvictionAnswer start.script e.key e.answer)
       (evictions_before start.thread section op answers)
   pub long : length answers ≡ length section
+  pub used : IsTrue start.alone → HasUsed start now section op next plugged pending made
   pub settled : (o : ℕ) → o < op
       → (list_any (λ held. held == o) pending ≡ true) ⊎ Settled now section answers o
 
@@ -147,8 +183,10 @@ pub record Reached (start now : DeviceData) (section : List Op) (op : ℕ) (pend
 pub record CarriesSection (old new : DeviceData) (section : List Op) (answers : List Answer) : Type 0 where
   pub made : List Entry
   pub same : SeesMore old new
-  pub spare : old.spare ≤ new.spare + unit_count_of_section section
+  pub spare : old.spare ≤ new.spare + cost_of_section section
   pub alone : IsTrue old.alone → GoOnBy old.shards old.seen new.seen made
   pub fronts : (shard : ℕ) → StartsWith (list_at new.seen shard) (list_at old.seen shard)
   pub done : SectionDone old.script old.shards old.base old.thread section new.seen new.noted answers made
+  pub uses : IsTrue old.alone → MakesUses old.script (journal_seen old) (journal_seen new)
+      (λ device. uses_of_section old.script device (old.thread, section)) made
   pub ranges : Each IsAnswer answers

@@ -4,9 +4,11 @@ use Rattle.std.specs.Prelude.{◌≡◌, ℕ, ◌+◌, ◌*◌, ◌<◌, ◌≤�
 use Rattle.std.specs.List.{range_with_len}
 use Rattle.std.specs.Option.{option_map_or}
 use Rattle.bc_base.specs.declared.place.Place.{Place}
-use Rattle.bc_base.specs.Lists.{AllAt, ChangesAt, list_at}
+use Rattle.bc_base.specs.Lists.{Each, AllAt, ChangesAt, list_at}
 use Rattle.bc_base.specs.Memory.{no_calls}
 use Rattle.bc_base.specs.RamStores.{RamData, IsShardOf, owns, contents}
+use Rattle.bc_base.specs.Story.{StartsWith}
+use Rattle.bc_key.specs.declared.keys.KeyNo.{KeyNo}
 use Rattle.bc_key.specs.KeyData.{KeyData}
 use Rattle.bc_bio.specs.declared.access.Access.TheVariants.{Read, Write}
 use Rattle.bc_bio.specs.declared.context.Context.{Context}
@@ -18,7 +20,6 @@ use Rattle.bc_bio.specs.PlannedUnit.{PlannedUnit}
 use Rattle.bc_medium.specs.declared.entry.Entry.{Entry}
 use Rattle.bc_medium.specs.declared.unit_at.UnitAt.{UnitAt}
 use Rattle.bc_medium.specs.declared.via.Via.{Via}
-use Rattle.bc_medium.specs.declared.via.Via.TheVariants as vias
 use Rattle.bc_medium.specs.Places.{shard_of}
 use Rattle.bc_medium.specs.KeyedDisk.{Sectors, image_sectors, UnitAnswer, Faulted, Written, Text as Answered}
 use Rattle.bc_medium.specs.Entries.{name_of_entry, told_by, IsTold, written_entry, read_entry, failed_entry}
@@ -26,15 +27,18 @@ use Rattle.bc_medium.specs.Growth.{IsEntryOf, Knows}
 use Rattle.bc_medium.specs.Outcome.{is_fault}
 use Rattle.bc_medium.specs.ShardOrder.{ShardData, HasKeys}
 use Rattle.bc_medium.specs.Shards.{orders_of, Adds}
+use Rattle.bc_profile.specs.declared.event.Event.{Event}
+use Rattle.bc_profile.specs.declared.uses.Use.TheVariants as uses
 use Rattle.bc_script.specs.declared.op.Op.{Op}
 use Rattle.bc_script.specs.declared.op.Text.{Text}
 use Rattle.bc_script.specs.declared.op.Text.TheVariants.{Fill, Bytes}
-use Rattle.bc_script.specs.Script.{Script, IsScript, keys_of, sectors_in, max_units, max_bio_units, max_bio_sectors}
-use Rattle.bc_script.specs.Bios.{refusal_of}
+use Rattle.bc_script.specs.Script.{Script, IsScript, keys_of, sectors_in, max_ops, max_units, max_bio_units, max_bio_sectors}
+use Rattle.bc_script.specs.Bios.{is_inline, refusal_of}
 use Rattle.bc_script.specs.Plan.{unit_at}
 use Rattle.bc_compose.specs.SectionDone.{SaysItsWay}
-use Rattle.bc_run.specs.Built.{IsBuilt}
 use Rattle.bc_run.specs.Sections.{DeviceData, GoOnBy}
+use Rattle.bc_run.specs.declared.open_hold.OpenHold.{OpenHold}
+use Rattle.bc_run.specs.Keyslots.{KeyslotsData, max_events, stories_of, used_at, used_each}
 
 -- ---- stores
 
@@ -62,32 +66,41 @@ pub record Stands (script : Script) (shards left shard : ℕ) (s : ShardData Ram
   pub blocks : s.start.blocks ≡ script.blocks
   pub planned : s.start.calls ≡ no_calls (planned_on script.faults shard)
   pub spare : left ≤ s.spare
-  pub few : length s.entries + s.spare ≤ max_units
+  pub few : length s.entries + s.spare ≤ max_units + max_ops
 
 -- each shard is such
 abbrev pub AllStand : Script → ℕ → List (ShardData RamData) → Type 0
 AllStand script left shards = (shard : ℕ) → AllAt shards shard (Stands script (length shards) left shard)
 
--- a script is being carried out: with its keys' ciphers, over shards of its disk, each with room for so many entries more
-pub record IsCourse (script : Script) (keys : List KeyData) (shards : List (ShardData RamData)) (left : ℕ)
-    : Type 0 where
+-- each device may still record two events for each of so many data units, evictions and resets
+abbrev pub HaveRoom : ℕ → List (List Event) → Type 0
+HaveRoom left journals = Each (λ journal. length journal + 2 * left ≤ max_events) journals
+
+-- a script is being carried out: with its keys' ciphers, over shards of its disk, each with room for so many entries more, and
+-- over its devices, each with room for as many holds
+pub record IsCourse (script : Script) (keys : List KeyData) (shards : List (ShardData RamData)) (keyslots : KeyslotsData)
+    (left : ℕ) : Type 0 where
   pub rules : IsScript script
-  pub built : IsBuilt script
   pub keys_are : keys ≡ keys_of script
   pub some : 1 ≤ length shards
   pub stand : AllStand script left shards
+  pub same_script : keyslots.script ≡ script
+  pub room : HaveRoom left keyslots.journals
 
 -- the sectors of each shard at the opening
 abbrev pub sectors_at : List (ShardData RamData) → ℕ → Sectors
 sectors_at shards shard = option_map_or (λ s. contents s.start) (slice_get shards shard) (λ sector. [])
 
--- a script that is being carried out by one caller: over which shards, whose section it is, and how many data units more
--- may be attempted
+-- a script that is being carried out by one caller: over which shards, whose section it is, how many data units, evictions and
+-- resets more fit, the journals of the devices and what they were when the section began, and the hold that is open
 pub record CourseData : Type 0 where
   pub script : Script
   pub shards : List (ShardData RamData)
   pub thread : ℕ
   pub left : ℕ
+  pub journals : List (List Event)
+  pub begun : List (List Event)
+  pub opened : Option OpenHold
 
 -- the same as the device of the thread whose section it is
 abbrev pub device_of : CourseData → DeviceData
@@ -97,7 +110,7 @@ device_of course = record {
   base = sectors_at course.shards;
   thread = course.thread;
   seen = orders_of course.shards;
-  noted = [];
+  noted = stories_of course.thread course.begun course.journals;
   alone = true;
   spare = course.left;
 }
@@ -122,29 +135,24 @@ HasUnit (Bytes bytes) size i = size * i + size ≤ length bytes
 abbrev pub first_units : List KeyData → ℕ → Op → Extent → ℕ → List PlannedUnit
 first_units keys op operation bio n = map (unit_at keys op operation bio) (range_with_len 0 n)
 
--- how a unit with this context goes where there is no device: by software, or in the clear
-abbrev pub via_of : Option Context → Via
-via_of None = vias.Plain
-via_of (Some context) = vias.Soft
-
 -- a thread's unit, where it lies
 abbrev pub at_of : ℕ → PlannedUnit → UnitAt
 at_of thread u = record { caller = thread; tag = u.tag; unit = u.unit; sector = u.sector; context = u.context }
 
--- the entry of a write that met no fault, or that met one
-abbrev pub entry_of_write : UnitAt → List ℕ → Bool → Entry
-entry_of_write at plain true = written_entry at (via_of at.context) plain
-entry_of_write at plain false = failed_entry Write at (via_of at.context)
+-- the entry of a write that went so, with no fault or with one
+abbrev pub entry_of_write : UnitAt → Via → List ℕ → Bool → Entry
+entry_of_write at via plain true = written_entry at via plain
+entry_of_write at via plain false = failed_entry Write at via
 
 -- what it is answered
 abbrev pub answer_of_write : Bool → UnitAnswer
 answer_of_write true = Written
 answer_of_write false = Faulted
 
--- the entry of a read that met no fault, or that met one
-abbrev pub entry_of_read : UnitAt → Bool → Entry
-entry_of_read at true = read_entry at (via_of at.context)
-entry_of_read at false = failed_entry Read at (via_of at.context)
+-- the entry of a read that went so, with no fault or with one
+abbrev pub entry_of_read : UnitAt → Via → Bool → Entry
+entry_of_read at via true = read_entry at via
+entry_of_read at via false = failed_entry Read at via
 
 -- what it is answered
 abbrev pub answer_of_read : List ℕ → Bool → UnitAnswer
@@ -167,6 +175,33 @@ pub record Attempted (keys : List KeyData) (old new : List (ShardData RamData)) 
   pub told : AllAt new place.shard
       (λ s. IsTold (told_by keys (contents s.start) s.entries) (name_of_entry e) answer)
 
+-- each shard has room for one entry more than what fits
+abbrev pub HasEntries : CourseData → Type 0
+HasEntries course = AllStand course.script (course.left + 1) course.shards
+
+-- each journal begins as it did when the section began
+pub record HasBegun (begun journals : List (List Event)) : Type 0 where
+  pub count : length begun ≡ length journals
+  pub each : (device : ℕ) → StartsWith (list_at journals device) (list_at begun device)
+
+-- ---- evictions and resets
+
+-- a key was taken out of the keyslots of all devices, where it goes inline, and another key out of none
+pub record EvictsKey (old new : CourseData) (key : KeyNo) : Type 0 where
+  pub left : old.left ≡ new.left + 1
+  pub same : new ≡ record old { left = new.left; journals = new.journals; opened = new.opened }
+  pub inline : is_inline old.script key ≡ true
+      → new.journals ≡ used_each old.script (uses.Evict key) old.journals
+  pub soft : is_inline old.script key ≡ false → new.journals ≡ old.journals
+
+-- a device programmed its keyslots again
+pub record ResetsDevice (old new : CourseData) (device : ℕ) : Type 0 where
+  pub left : old.left ≡ new.left + 1
+  pub same : new ≡ record old { left = new.left; journals = new.journals; opened = new.opened }
+  pub reset : new.journals ≡ used_at old.script device uses.Reset old.journals
+
+-- ---- attempts
+
 -- one data unit was attempted, and its thread knows what it was answered
 pub record AttemptsUnit (old new : DeviceData) (u : PlannedUnit) (answer : UnitAnswer) : Type 0 where
   pub entry : Entry
@@ -180,10 +215,12 @@ pub record AttemptsUnit (old new : DeviceData) (u : PlannedUnit) (answer : UnitA
 
 -- ---- the whole run
 
--- a run begins: nothing was attempted yet, and each shard has its own sectors of the image
+-- a run begins: nothing was attempted or recorded yet, and each shard has its own sectors of the image
 pub record IsBegun (script : Script) (image : List ℕ) (shards : ℕ) (course : CourseData) : Type 0 where
   pub script_is : course.script ≡ script
   pub shards_are : length course.shards ≡ shards
   pub untouched : (shard : ℕ) → list_at (orders_of course.shards) shard ≡ []
   pub opening : (s : ℕ) → sectors_at course.shards (shard_of shards s) s ≡ image_sectors image s
-  pub left : course.left ≡ max_units
+  pub unused : course.journals ≡ map (λ target. []) script.targets
+  pub closed : course.opened ≡ None
+  pub left : course.left ≡ max_units + max_ops

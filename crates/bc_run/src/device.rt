@@ -9,13 +9,15 @@ ghost use Rattle.bc_medium.specs.Entries.{caller_of};
 ghost use Rattle.bc_profile.specs.Story.{author_of};
 ghost use Rattle.bc_script.specs.declared.limits.TheConstants.{MAX_PLUGGED};
 ghost use Rattle.bc_script.specs.declared.op.Op.TheVariants as ops;
-ghost use Rattle.bc_script.specs.Script.{keys_of, unit_count_of_section, IsScriptOp};
+ghost use Rattle.bc_script.specs.Script.{keys_of, IsScriptOp};
 ghost use Rattle.bc_script.specs.Bios.{bio_of, refusal_of};
 ghost use Rattle.bc_report.specs.declared.answer.Answer.{Answer};
 ghost use Rattle.bc_report.specs.Report.{IsAnswer};
 ghost use Rattle.bc_compose.specs.Ordered.{Pairs};
-ghost use Rattle.bc_run.specs.Sections.{DeviceData, units_in};
-ghost use Rattle.bc_run.specs.Reached.{numbered, MayBePlugged, Settled, Submitted, Evicted, HasReset, Reached, CarriesSection};
+ghost use Rattle.bc_run.specs.Sections.{DeviceData, cost_in, cost_of_section};
+ghost use Rattle.bc_run.specs.Uses.{bios_of};
+ghost use Rattle.bc_run.specs.Reached.{numbered, MayBePlugged, Settled, Submitted, Evicted, HasReset, CarriesSection};
+ghost use Rattle.bc_run.specs.Reached.{Reached, WindowEnds, steps_from};
 
 use crate::pending::Pending;
 use bc_bio::{Extent, Refusal};
@@ -52,7 +54,7 @@ pub(crate) trait Device<R, E> {
         requires order { Pairs (λ first second. first < second) window.now }
         requires few { length window.now ≤ MAX_PLUGGED }
         requires long { length answers.old ≡ length section.now }
-        requires spare { units_in (numbered section.now window.now) ≤ (facts self.old).spare }
+        requires spare { cost_in (numbered section.now window.now) ≤ (facts self.old).spare }
         ensures done { OnOk result (Submitted (facts self.old) (facts self.new) (numbered section.now window.now)) }
         ensures long { length answers.new ≡ length answers.old }
         ensures told { OnOk result (AllByRecursion (Settled (facts self.new) section.now answers.new) window.now) }
@@ -62,12 +64,14 @@ pub(crate) trait Device<R, E> {
     /// Takes a key out of all keyslots.
     fn evict(&mut self, rt: &R, op: u32, key: KeyNo) -> Result<Answer, E>
         requires rules { IsScriptOp (facts self.old).script (ops.Evict key) }
+        requires spare { 1 ≤ (facts self.old).spare }
         ensures done { IfOk result (Evicted (facts self.old) (facts self.new) op key) }
         ensures range { IfOk result IsAnswer };
 
     /// Has a device program its keyslots again.
     fn reset(&mut self, rt: &R, op: u32, device: u8) -> Result<(), E>
         requires rules { IsScriptOp (facts self.old).script (ops.Reset device) }
+        requires spare { 1 ≤ (facts self.old).spare }
         ensures done { OnOk result (HasReset (facts self.old) (facts self.new) op device) };
 }
 
@@ -86,7 +90,7 @@ pub(crate) fn carry_out<R, E, D: Device<R, E>>(
 ) -> Result<(), E>
     requires rules { AllByRecursion (IsScriptOp (D.facts device.old).script) section.now }
     requires few { length section.now < 2 ^ 32 }
-    requires spare { unit_count_of_section section.now ≤ (D.facts device.old).spare }
+    requires spare { cost_of_section section.now ≤ (D.facts device.old).spare }
     requires long { length answers.old ≡ length section.now }
     requires new { (shard : ℕ)
         → own caller_of (D.facts device.old).thread (list_at (D.facts device.old).seen shard) ≡ [] }
@@ -114,7 +118,16 @@ pub(crate) fn carry_out<R, E, D: Device<R, E>>(
         )?;
     }
     let op = section.len() as u32;
-    flush(rt, device, &start, section, op, &mut pending, answers)?;
+    flush(
+        rt,
+        device,
+        &start,
+        section,
+        op,
+        plugged,
+        &mut pending,
+        answers,
+    )?;
     Ok(())
 }
 
@@ -133,10 +146,11 @@ fn step<R, E, D: Device<R, E>>(
     requires operation { slice_get section.now op ≡ Some operation.now }
     requires few { length section.now < 2 ^ 32 }
     requires rules { AllByRecursion (IsScriptOp (D.facts start.now.value).script) section.now }
-    requires spare { unit_count_of_section section.now ≤ (D.facts start.now.value).spare }
-    requires reached { Reached (D.facts start.now.value) (D.facts device.old) section.now op pending.old answers.old }
-    ensures { OnOk result
-        (Reached (D.facts start.now.value) (D.facts device.new) section.now (op + 1) pending.new answers.new) }
+    requires spare { cost_of_section section.now ≤ (D.facts start.now.value).spare }
+    requires reached { Reached (D.facts start.now.value) (D.facts device.old) section.now op plugged pending.old
+        answers.old }
+    ensures { IfOk result (λ still. Reached (D.facts start.now.value) (D.facts device.new) section.now (op + 1) still
+        pending.new answers.new) }
 {
     order_laws();
     hold_laws();
@@ -154,23 +168,24 @@ fn step<R, E, D: Device<R, E>>(
             Ok(plugged)
         }
         Op::Evict(key) => {
-            flush(rt, device, start, section, op, pending, answers)?;
+            flush(rt, device, start, section, op, plugged, pending, answers)?;
             let answer = device.evict(rt, op, *key)?;
             answers[op as usize] = Some(answer);
             Ok(plugged)
         }
         Op::Reset(number) => {
-            flush(rt, device, start, section, op, pending, answers)?;
+            flush(rt, device, start, section, op, plugged, pending, answers)?;
             device.reset(rt, op, *number)?;
             answers[op as usize] = Some(Answer::Reset);
             Ok(plugged)
         }
         Op::Plug => {
+            flush(rt, device, start, section, op, plugged, pending, answers)?;
             answers[op as usize] = Some(Answer::Plug);
             Ok(true)
         }
         Op::Unplug => {
-            flush(rt, device, start, section, op, pending, answers)?;
+            flush(rt, device, start, section, op, plugged, pending, answers)?;
             answers[op as usize] = Some(Answer::Unplug);
             Ok(false)
         }
@@ -193,10 +208,11 @@ fn bio<R, E, D: Device<R, E>>(
     requires bio { IsSome (bio_of operation.now) }
     requires few { length section.now < 2 ^ 32 }
     requires rules { AllByRecursion (IsScriptOp (D.facts start.now.value).script) section.now }
-    requires spare { unit_count_of_section section.now ≤ (D.facts start.now.value).spare }
-    requires reached { Reached (D.facts start.now.value) (D.facts device.old) section.now op pending.old answers.old }
+    requires spare { cost_of_section section.now ≤ (D.facts start.now.value).spare }
+    requires reached { Reached (D.facts start.now.value) (D.facts device.old) section.now op plugged pending.old
+        answers.old }
     ensures { OnOk result
-        (Reached (D.facts start.now.value) (D.facts device.new) section.now (op + 1) pending.new answers.new) }
+        (Reached (D.facts start.now.value) (D.facts device.new) section.now (op + 1) plugged pending.new answers.new) }
 {
     order_laws();
     hold_laws();
@@ -209,12 +225,21 @@ fn bio<R, E, D: Device<R, E>>(
             Ok(())
         }
         None => {
-            make_room(rt, device, start, section, op, pending, answers)?;
+            make_room(rt, device, start, section, op, plugged, pending, answers)?;
             pending.push(op);
             if plugged {
                 return Ok(());
             }
-            flush(rt, device, start, section, op + 1, pending, answers)
+            flush(
+                rt,
+                device,
+                start,
+                section,
+                op + 1,
+                plugged,
+                pending,
+                answers,
+            )
         }
     }
 }
@@ -226,20 +251,23 @@ fn make_room<R, E, D: Device<R, E>>(
     start: &Snapshot<D>,
     section: &[Op],
     op: u32,
+    plugged: bool,
     pending: &mut Pending,
     answers: &mut [Option<Answer>],
 ) -> Result<(), E>
     requires rules { AllByRecursion (IsScriptOp (D.facts start.now.value).script) section.now }
-    requires spare { unit_count_of_section section.now ≤ (D.facts start.now.value).spare }
-    requires reached { Reached (D.facts start.now.value) (D.facts device.old) section.now op pending.old answers.old }
-    ensures room { OnOk result (length pending.new < 64) }
+    requires spare { cost_of_section section.now ≤ (D.facts start.now.value).spare }
+    requires reached { Reached (D.facts start.now.value) (D.facts device.old) section.now op plugged pending.old
+        answers.old }
+    requires bio { MayBePlugged (D.facts start.now.value).script section.now op }
+    ensures room { OnOk result (length pending.new < MAX_PLUGGED) }
     ensures reached { OnOk result
-        (Reached (D.facts start.now.value) (D.facts device.new) section.now op pending.new answers.new) }
+        (Reached (D.facts start.now.value) (D.facts device.new) section.now op plugged pending.new answers.new) }
 {
     if pending.len() < MAX_PLUGGED {
         return Ok(());
     }
-    flush(rt, device, start, section, op, pending, answers)
+    flush(rt, device, start, section, op, plugged, pending, answers)
 }
 
 /// Submits what is held back.
@@ -249,15 +277,19 @@ fn flush<R, E, D: Device<R, E>>(
     _start: &Snapshot<D>,
     section: &[Op],
     _op: u32,
+    _plugged: bool,
     pending: &mut Pending,
     answers: &mut [Option<Answer>],
 ) -> Result<(), E>
     requires rules { AllByRecursion (IsScriptOp (D.facts _start.now.value).script) section.now }
-    requires spare { unit_count_of_section section.now ≤ (D.facts _start.now.value).spare }
-    requires reached { Reached (D.facts _start.now.value) (D.facts device.old) section.now _op pending.old answers.old }
+    requires spare { cost_of_section section.now ≤ (D.facts _start.now.value).spare }
+    requires reached { Reached (D.facts _start.now.value) (D.facts device.old) section.now _op _plugged pending.old
+        answers.old }
+    requires ends { WindowEnds (D.facts _start.now.value).script (D.facts _start.now.value).thread _plugged
+        (bios_of (numbered section.now pending.old)) (steps_from (D.facts _start.now.value).script section.now _op) }
     ensures empty { OnOk result (pending.new ≡ []) }
     ensures reached { OnOk result
-        (Reached (D.facts _start.now.value) (D.facts device.new) section.now _op [] answers.new) }
+        (Reached (D.facts _start.now.value) (D.facts device.new) section.now _op _plugged [] answers.new) }
 {
     order_laws();
     hold_laws();

@@ -1,8 +1,9 @@
 //! The device of a run by one caller: operations act at once, and no other caller comes between.
 
-ghost use Rattle.std.specs.Prelude.{◌≡◌, ◌≤◌, IfOk};
+ghost use Rattle.std.specs.Prelude.{◌≡◌, ◌≤◌, None, IfOk, IfSome};
+ghost use Rattle.bc_bio.specs.Conditions.{IsPlaced};
 ghost use Rattle.bc_script.specs.Script.{keys_of, unit_count, IsScriptOp};
-ghost use Rattle.bc_run.specs.Sections.{CarriesOne};
+ghost use Rattle.bc_run.specs.InTurn.{Submits};
 ghost use Rattle.bc_run.specs.Reached.{IsAcceptedBio};
 
 use crate::course::Course;
@@ -40,23 +41,33 @@ impl Direct<'_> {
 
     /// Begins the section of a thread.
     pub(crate) fn begin(&mut self, thread: u16)
-        ensures { self.new ≡ record self.old { thread = thread } }
+        ensures { self.new ≡ record self.old { thread = thread; begun = self.old.journals; opened = None } }
     {
         self.course.begin(thread);
     }
 
-    /// Performs an operation's bio, which isn't refused.
-    fn submit(&mut self, op: u32, operation: &Op) -> Result<Answer, AllocError>
+    /// Performs an operation's bio, which isn't refused, after the one of the window before it. Its first hold is taken anew where
+    /// it doesn't run on from that one.
+    fn submit(
+        &mut self,
+        op: u32,
+        operation: &Op,
+        last: &Option<Extent>,
+    ) -> Result<Answer, AllocError>
         requires rules { IsScriptOp self.old.script operation.now }
         requires accepted { IsAcceptedBio self.old.script operation.now }
+        requires last { IfSome last.now (IsPlaced (keys_of self.old.script)) }
         requires spare { unit_count operation.now ≤ self.old.left }
-        ensures { IfOk result (CarriesOne (device_of self.old) (device_of self.new) (op, operation.now)) }
+        ensures { IfOk result (Submits self.old self.new op operation.now last.now) }
     {
         let Some(bio) = operation.bio() else {
             unreachable!()
         };
         if !self.course.accepts(&bio) {
             unreachable!()
+        }
+        if !self.course.runs_on(last, &bio) {
+            self.course.put();
         }
         match operation {
             Op::Write { text, .. } => {
@@ -85,21 +96,28 @@ impl Device<(), AllocError> for Direct<'_> {
         answers: &mut [Option<Answer>],
     ) -> Result<(), AllocError> {
         order_laws();
-        self.course.is_built();
+        self.course.has_begun();
+        self.course.put();
+        let mut last = None;
         for op in window {
-            let answer = self.submit(*op, &section[*op as usize])?;
+            let operation = &section[*op as usize];
+            let answer = self.submit(*op, operation, &last)?;
             answers[*op as usize] = Some(answer);
+            last = operation.bio();
         }
+        self.course.put();
         Ok(())
     }
 
-    fn evict(&mut self, _rt: &(), _op: u32, _key: KeyNo) -> Result<Answer, AllocError> {
-        self.course.is_built();
+    fn evict(&mut self, _rt: &(), _op: u32, key: KeyNo) -> Result<Answer, AllocError> {
+        self.course.has_begun();
+        self.course.evict(key);
         Ok(Answer::Evicted)
     }
 
-    fn reset(&mut self, _rt: &(), _op: u32, _device: u8) -> Result<(), AllocError> {
-        self.course.is_built();
+    fn reset(&mut self, _rt: &(), _op: u32, device: u8) -> Result<(), AllocError> {
+        self.course.has_begun();
+        self.course.reset(device);
         Ok(())
     }
 }

@@ -25,8 +25,12 @@ mod words;
 mod course;
 mod device;
 mod direct;
+mod keyslots;
+mod open_hold;
 mod pending;
 mod read_answer;
+mod runs_on;
+mod slot_cipher;
 mod unit_access;
 
 // all sections, one after the other

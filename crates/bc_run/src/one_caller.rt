@@ -1,26 +1,26 @@
 //! A script carried out by one caller.
 
-ghost use Rattle.std.specs.Prelude.{◌≡◌, ℕ, ◌*◌, ◌^◌, ◌<◌, ◌≤◌, [], length, map, sum_by, IfOk, List, Some};
+ghost use Rattle.std.specs.Prelude.{◌≡◌, ℕ, ◌*◌, ◌^◌, ◌<◌, ◌≤◌, [], length, map, sum_by, IfOk, List, None, Some};
 ghost use Rattle.bc_base.specs.Lists.{Each, list_at};
 ghost use Rattle.bc_base.specs.Story.{own};
 ghost use Rattle.bc_medium.specs.Entries.{caller_of};
 ghost use Rattle.bc_medium.specs.Shards.{orders_of};
 ghost use Rattle.bc_report.specs.declared.answer.Answer.{Answer};
-ghost use Rattle.bc_script.specs.Script.{IsScript, keys_of, IsScriptSection, unit_count_of_section, max_ops};
+ghost use Rattle.bc_script.specs.Script.{IsScript, keys_of, IsScriptSection, max_ops};
 ghost use Rattle.bc_report.specs.LawfulRun.{LawfulRun};
 ghost use Rattle.bc_report.specs.RunOf.{run_of};
 ghost use Rattle.bc_report.specs.SerialRun.{IsSerial};
 ghost use Rattle.bc_report.specs.Report.{IsEntry, IsPart};
 ghost use Rattle.bc_compose.specs.Closed.{line_of};
-ghost use Rattle.bc_run.specs.Sections.{SectionsDone};
+ghost use Rattle.bc_run.specs.Sections.{SectionsDone, cost_of_section};
 ghost use Rattle.bc_run.specs.Reached.{CarriesSection};
-ghost use Rattle.bc_run.specs.Built.{IsBuilt};
 ghost use Rattle.bc_run.specs.Standing.{IsBegun, device_of};
 
 use crate::ciphers::Ciphers;
 use crate::course::Course;
 use crate::device::carry_out;
 use crate::direct::Direct;
+use crate::keyslots::Keyslots;
 use crate::opening::stores_of;
 use bc_base::{Items, RamStore, SECTOR_BYTES};
 use bc_compose::{
@@ -28,7 +28,7 @@ use bc_compose::{
 };
 use bc_medium::{Entry, Shards, UnitAt, Via};
 use bc_report::{Answer, Line, Report};
-use bc_script::limits::{MAX_BIO_SECTORS, MAX_UNITS};
+use bc_script::limits::{MAX_BIO_SECTORS, MAX_OPS, MAX_UNITS};
 use bc_script::{Op, Script};
 use std::alloc::{AllocError, Global};
 
@@ -40,6 +40,9 @@ pub struct Finished {
     /// What each operation was answered, and the order of each shard.
     pub report: Report,
 }
+
+/// The most data units, evictions and resets of a script.
+const MAX_ACTIONS: u32 = MAX_UNITS + MAX_OPS;
 
 /// The most bytes that a bio has.
 const BIO_BYTES: usize = MAX_BIO_SECTORS as usize * SECTOR_BYTES;
@@ -64,7 +67,6 @@ pub fn serial(
     image: Vec<u8>,
     shards: u16,
 ) -> Result<Finished, AllocError>
-    requires built { IsBuilt script.now }
     requires length { length image.items ≡ 4096 * script.now.blocks }
     requires shards { (1 ≤ shards) × (shards ≤ 64) }
     ensures lawful { IfOk result (λ finished.
@@ -75,7 +77,10 @@ pub fn serial(
     let mut direct = begin(alloc, script, image, shards)?;
     let answers = carry_sections_out(alloc, &mut direct, script.threads())?;
     let Direct { course, .. } = direct;
-    let Course { shards, .. } = course;
+    let Course {
+        shards, keyslots, ..
+    } = course;
+    let devices = keyslots.close(alloc)?;
     let (stores, orders) = shards.close();
     let image = RamStore::join(alloc, &stores, script.blocks())?;
     let lines = lines_of_shards(alloc, orders.as_slice())?;
@@ -84,7 +89,7 @@ pub fn serial(
     serial_runs_have_known_holders();
     Ok(Finished {
         image,
-        report: Report::new(answers, lines, Items::new(alloc)),
+        report: Report::new(answers, lines, devices),
     })
 }
 
@@ -95,19 +100,19 @@ fn begin<'s>(
     image: Vec<u8>,
     shards: u16,
 ) -> Result<Direct<'s>, AllocError>
-    requires built { IsBuilt script.now }
     requires length { length image.items ≡ 4096 * script.now.blocks }
     requires shards { (1 ≤ shards) × (shards ≤ 64) }
     ensures { IfOk result (IsBegun script.now image.items shards) }
 {
     let stores = stores_of(alloc, script, image.as_slice(), shards)?;
-    let quotas = vec![in alloc; MAX_UNITS; usize::from(shards)]?;
+    let quotas = vec![in alloc; MAX_ACTIONS; usize::from(shards)]?;
     let course = Course {
         script,
         ciphers: Ciphers::of_keys(alloc, script.keys())?,
         shards: Shards::open(alloc, stores, quotas)?,
+        keyslots: Keyslots::open(alloc, script)?,
         thread: 0,
-        left: MAX_UNITS,
+        left: MAX_ACTIONS,
     };
     Ok(Direct {
         course,
@@ -125,7 +130,8 @@ fn carry_sections_out(
     requires rules { IsScript direct.old.script }
     requires sections { sections.now ≡ direct.old.script.threads }
     requires untouched { (shard : ℕ) → list_at (orders_of direct.old.shards) shard ≡ [] }
-    requires spare { sum_by unit_count_of_section sections.now ≤ direct.old.left }
+    requires unused { (device : ℕ) → list_at direct.old.journals device ≡ [] }
+    requires spare { sum_by cost_of_section sections.now ≤ direct.old.left }
     ensures { IfOk result (SectionsDone (device_of direct.old) (device_of direct.new) sections.now) }
 {
     let mut answers = Vec::with_capacity(alloc, sections.len())?;
@@ -146,9 +152,10 @@ fn carry_section_out(
     requires rules { IsScriptSection direct.old.script section.now }
     requires new { (shard : ℕ) → own caller_of thread (list_at (orders_of direct.old.shards) shard) ≡ [] }
     requires few { length section.now ≤ max_ops }
-    requires spare { unit_count_of_section section.now ≤ direct.old.left }
+    requires spare { cost_of_section section.now ≤ direct.old.left }
     ensures { IfOk result (CarriesSection
-        (device_of (record direct.old { thread = thread })) (device_of direct.new) section.now) }
+        (device_of (record direct.old { thread = thread; begun = direct.old.journals; opened = None }))
+        (device_of direct.new) section.now) }
 {
     direct.begin(thread);
     let mut noted = vec![in alloc; None; section.len()]?;

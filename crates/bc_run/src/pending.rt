@@ -43,7 +43,7 @@ impl Pending {
 
     /// Holds one more back.
     pub(crate) fn push(&mut self, number: u32)
-        requires { length self.old < 64 }
+        requires { length self.old < MAX_PLUGGED }
         ensures { self.new ≡ self.old ++ number ∷ [] }
     {
         self.numbers[self.len] = number;

@@ -255,7 +255,6 @@ fn carry_out(
     image: Vec<u8>,
     shards: u16,
 ) -> Result<Finished, Status>
-    requires built { IsBuilt script.now }
     requires length { length image.items ≡ bytes_of_disk script.now }
     requires shards { IsShardCount shards }
     ensures lawful { IfOk result (λ finished.

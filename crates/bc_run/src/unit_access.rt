@@ -5,80 +5,58 @@ ghost use Rattle.bc_base.specs.RamStores.{owns};
 ghost use Rattle.bc_key.specs.KeyData.{KeyData};
 ghost use Rattle.bc_bio.specs.Extent.{unit_sectors};
 ghost use Rattle.bc_bio.specs.Conditions.{HasKey};
-ghost use Rattle.bc_medium.specs.KeyedDisk.{deciphered};
+ghost use Rattle.bc_medium.specs.KeyedDisk.{enciphered, deciphered};
 ghost use Rattle.bc_medium.specs.Shards.{HaveKeys, Own, HasSpare};
 ghost use Rattle.bc_script.specs.Plan.{text_at};
-ghost use Rattle.bc_run.specs.Standing.{HasUnit, via_of, Attempted, entry_of_write, answer_of_write, entry_of_read, answer_of_read};
+ghost use Rattle.bc_run.specs.Standing.{HasUnit, Attempted, entry_of_write, answer_of_write, entry_of_read, answer_of_read};
 
-use crate::ciphers::Ciphers;
 use bc_base::RamStore;
-use bc_bio::Context;
+use bc_key::Keys;
 use bc_medium::{Shards, UnitAt, Via};
 use bc_script::Text;
 use std::alloc::{AllocError, Global};
 
-/// Writes a data unit, whose bytes in the clear are `plain`; `place` has room for as many. Tells whether it met no fault.
+/// Writes a data unit, whose bytes in the clear are `plain` and enciphered `cipher`. Tells whether it met no fault.
 pub(crate) fn write_unit(
     shards: &mut Shards<RamStore>,
-    ciphers: &Ciphers,
+    keys: &Keys,
     at: UnitAt,
+    via: Via,
     plain: Vec<u8>,
-    place: &mut [u8],
+    cipher: &[u8],
 ) -> bool
-    requires key { HasKey ciphers.now at.context }
-    requires keys { HaveKeys ciphers.now shards.old }
-    requires length { length plain.items ≡ 512 * unit_sectors ciphers.now at.context }
-    requires room { length place.old ≡ 512 * unit_sectors ciphers.now at.context }
-    requires sectors { Own owns shards.old at.sector (unit_sectors ciphers.now at.context) }
+    requires key { HasKey keys.now.keys at.context }
+    requires keys { HaveKeys keys.now.keys shards.old }
+    requires length { length plain.items ≡ 512 * unit_sectors keys.now.keys at.context }
+    requires cipher { cipher.now ≡ enciphered keys.now.keys at.context plain.items }
+    requires sectors { Own owns shards.old at.sector (unit_sectors keys.now.keys at.context) }
     requires spare { HasSpare shards.old at.sector }
-    ensures { Attempted ciphers.now shards.old shards.new (entry_of_write at plain.items result)
+    ensures { Attempted keys.now.keys shards.old shards.new (entry_of_write at via plain.items result)
         (answer_of_write result) }
 {
-    place.copy_from_slice(&plain);
-    ciphers.encipher(at.context, place);
-    let via = via_of(at.context);
-    match shards.write_unit(ciphers.keys(), at, via, plain, place) {
+    match shards.write_unit(keys, at, via, plain, cipher) {
         Ok(_) => return true,
         Err(_) => return false,
     }
 }
 
-/// Reads a data unit, deciphered, into its place. Tells whether it met no fault; where it met one the bytes of the place
-/// mean nothing.
+/// Reads a data unit as it stands. Tells whether it met no fault; where it met one the bytes of the place mean nothing.
 pub(crate) fn read_unit(
     shards: &mut Shards<RamStore>,
-    ciphers: &Ciphers,
     at: &UnitAt,
+    via: Via,
     place: &mut [u8],
 ) -> bool
-    requires key { HasKey ciphers.now at.now.context }
-    requires keys { HaveKeys ciphers.now shards.old }
-    requires room { length place.old ≡ 512 * unit_sectors ciphers.now at.now.context }
-    requires sectors { Own owns shards.old at.now.sector (unit_sectors ciphers.now at.now.context) }
-    requires spare { HasSpare shards.old at.now.sector }
-    ensures length { length place.new ≡ length place.old }
-    ensures attempted { Attempted ciphers.now shards.old shards.new (entry_of_read at.now result)
-        (answer_of_read place.new result) }
-{
-    if !read_raw(shards, at, place) {
-        return false;
-    }
-    ciphers.decipher(at.context, place);
-    true
-}
-
-/// Reads a data unit as it stands. Tells whether it met no fault.
-fn read_raw(shards: &mut Shards<RamStore>, at: &UnitAt, place: &mut [u8]) -> bool
     requires whole { length place.old ≡ 512 * (length place.old / 512) }
     requires sectors { Own owns shards.old at.now.sector (length place.old / 512) }
     requires spare { HasSpare shards.old at.now.sector }
     ensures length { length place.new ≡ length place.old }
     ensures attempted { (keys : List KeyData) → HaveKeys keys shards.old
         → length place.old ≡ 512 * unit_sectors keys at.now.context
-        → Attempted keys shards.old shards.new (entry_of_read at.now result)
+        → Attempted keys shards.old shards.new (entry_of_read at.now via result)
         (answer_of_read (deciphered keys at.now.context place.new) result) }
 {
-    match shards.read_unit(*at, via_of(at.context), place) {
+    match shards.read_unit(*at, via, place) {
         Ok(_) => return true,
         Err(_) => return false,
     }
@@ -113,14 +91,4 @@ fn copy_unit(alloc: Global, bytes: &[u8], size: usize, unit: usize) -> Result<Ve
 {
     let start = size * unit;
     Ok(bytes[start..start + size].to_vec(alloc)?)
-}
-
-/// How a data unit under this context goes where there is no device.
-fn via_of(context: Option<Context>) -> Via
-    ensures { result ≡ via_of context }
-{
-    match context {
-        Some(_) => Via::Soft,
-        None => Via::Plain,
-    }
 }
