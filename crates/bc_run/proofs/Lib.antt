@@ -7,6 +7,7 @@ pub mod Placing
 pub mod Ready
 pub mod Ordering
 pub mod Using
+pub mod Left
 pub mod Acting
 pub mod Reaching
 pub mod Stepping
