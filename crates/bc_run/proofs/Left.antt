@@ -1,6 +1,6 @@
 -- The uses of a section so far, and those that are left, operation by operation.
-use Rattle.std.proofs.Common.{◌≡◌, ℕ, zero, suc, ◌+◌, ◌<◌, ◌≤◌, Bool, true, false, cond, List, [], ◌∷◌, ◌++◌, length, drop, append-nil, append_assoc, refl, sym, ap, subst, ◌∙◌, arith, Option, Some, None}
-use Rattle.std.specs.Prelude.{◌==◌, filter_map, flat_map, slice_get, IsSomeAnd, is_none, option_map, if◌then◌else◌}
+use Rattle.std.proofs.Common.{◌≡◌, ℕ, zero, suc, ◌+◌, ◌<◌, ◌≤◌, Bool, true, false, List, [], ◌∷◌, ◌++◌, length, drop, append-nil, append_assoc, refl, sym, ap, subst, ◌∙◌, arith, Option, Some, None}
+use Rattle.std.specs.Prelude.{filter_map, flat_map, slice_get, IsSomeAnd, is_none, option_map, if◌then◌else◌}
 use Rattle.std.specs.Option.{option_map_or}
 use Rattle.std.specs.List.{AllByRecursion, cons_option, enumerate_from, list_any}
 use Rattle.std.proofs.lemmas.Bool.{eq-eqb, ne_eqb}
@@ -9,7 +9,6 @@ use Rattle.std.proofs.lemmas.List.Elements.{filter_map-append}
 use Rattle.bc_key.specs.declared.keys.KeyNo.{KeyNo}
 use Rattle.bc_bio.specs.declared.extent.Extent.{Extent}
 use Rattle.bc_bio.specs.declared.refusal.Refusal.{Refusal}
-use Rattle.bc_bio.specs.PlannedUnit.{PlannedUnit}
 use Rattle.bc_bio.specs.Windows.{TaggedBio}
 use Rattle.bc_medium.specs.declared.entry.Entry.{Entry}
 use Rattle.bc_medium.specs.declared.unit_name.UnitName.{UnitName}
@@ -27,7 +26,7 @@ use Rattle.bc_script.specs.Windows as turns
 use Rattle.bc_report.specs.SerialRun.{DeviceUse, uses_of_turn, uses_of_section}
 use Rattle.bc_run.specs.Sections.{DeviceData, journal_seen}
 use Rattle.bc_run.specs.Uses.{tagged_bio, bios_of, is_for, MakesUses}
-use Rattle.bc_run.specs.Reached.{numbered, IsAcceptedBio, MayBePlugged, steps_from, turns_left, uses_left, WindowEnds, HasUsed, HoldsNone}
+use Rattle.bc_run.specs.Reached.{numbered, IsAcceptedBio, MayBePlugged, steps_from, uses_left, WindowEnds, HasUsed, HoldsNone}
 use Rattle.bc_run.proofs.Lists.{In, in_of_filter, in_of_flat_map, beside, all_at, all_from_in, all_of, all_append}
 use Rattle.bc_run.proofs.Carrying.{op_of_unit}
 use Rattle.bc_run.proofs.Using.{none_for, other_op, uses_none, uses_same, uses_append, units_of_window}

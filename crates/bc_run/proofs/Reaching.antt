@@ -1,6 +1,6 @@
 -- One operation more: held back, submitted with what is held back, answered by itself, evicted, reset.
 use Rattle.std.proofs.Common.{◌≡◌, ℕ, zero, suc, ◌+◌, ◌<◌, ◌≤◌, ◌⊎◌, inl, inr, Bool, true, false, cond, List, [], ◌∷◌, ◌++◌, length, map, take, get_or, append-nil, append_assoc, refl, sym, ap, subst, ◌∙◌, arith, Option, Some, None}
-use Rattle.std.specs.Prelude.{◌≢◌, ◌==◌, filter, filter_map, flat_map, slice_get, slice_set, IsSomeAnd, IsSome, IsTrue, zip}
+use Rattle.std.specs.Prelude.{◌≢◌, ◌==◌, filter, filter_map, slice_get, slice_set, IsSomeAnd, zip}
 use Rattle.std.specs.List.{enumerate_from, AllByRecursion, AllZip, cons_option, list_any}
 use Rattle.std.specs.Option.{option_map_or}
 use Rattle.std.proofs.Math.Logic.{⊎_elim}
@@ -16,26 +16,21 @@ use Rattle.bc_bio.specs.declared.extent.Extent.{Extent}
 use Rattle.bc_medium.specs.declared.entry.Entry.{Entry}
 use Rattle.bc_medium.specs.KeyedDisk.{Sectors}
 use Rattle.bc_medium.specs.Entries.{caller_of}
-use Rattle.bc_medium.specs.Growth.{Grows}
 use Rattle.bc_medium.specs.Laws.{KnownStays}
-use Rattle.bc_profile.specs.declared.event.Event.{Event}
 use Rattle.bc_profile.specs.declared.noted.Noted.{Noted}
-use Rattle.bc_profile.specs.Story.{author_of, events_of}
+use Rattle.bc_profile.specs.Story.{author_of}
 use Rattle.bc_profile.specs.Laws.{ProgrammingsStay, LaterHoldsNameLater, HoldsBehindEvictions}
 use Rattle.bc_script.specs.declared.op.Op.{Op}
 use Rattle.bc_script.specs.declared.op.Op.TheVariants as ops
 use Rattle.bc_script.specs.declared.limits.TheConstants.{MAX_PLUGGED}
 use Rattle.bc_script.specs.Script.{Script}
 use Rattle.bc_script.specs.Bios.{bio_of, refusal_of}
-use Rattle.bc_script.specs.Plan.{units_of}
 use Rattle.bc_script.specs.Windows as turns
 use Rattle.bc_report.specs.declared.answer.Answer.{Answer}
 use Rattle.bc_report.specs.declared.answer.Answer.TheVariants as report_answers
 use Rattle.bc_report.specs.Evictions.{Eviction, eviction_in, evictions_in, IsEvictionAnswer}
-use Rattle.bc_report.specs.Programmings.{passes}
 use Rattle.bc_report.specs.Report.{IsAnswer}
-use Rattle.bc_compose.specs.SectionDone.{own_events, Bounds, IsReply, SectionDone}
-use Rattle.bc_compose.specs.Ordered.{Pairs, Notes, GoesInline, IsTakenOut}
+use Rattle.bc_compose.specs.SectionDone.{IsReply}
 use Rattle.bc_compose.specs.Acted.{is_act, Acted}
 use Rattle.bc_run.specs.Sections.{DeviceData, GoOnBy, cost, cost_in, cost_of_section}
 use Rattle.bc_run.specs.Uses.{bios_of}

@@ -1,12 +1,7 @@
-use Rattle.std.proofs.Common.{sym, subst, ◌≡◌, ◌∙◌, ◌++◌, ◌∷◌, ◌+◌, ◌<◌, ℕ, List, [], ap, Some, None, arith, length, Option}
-use Rattle.std.specs.Prelude.{slice_get}
-use Rattle.bc_bio.specs.declared.extent.Extent.{Extent}
-use Rattle.bc_bio.specs.declared.refusal.Refusal.{Refusal}
+use Rattle.std.proofs.Common.{sym, subst, ◌≡◌, ◌∙◌, ◌+◌, ℕ, List, Some, None, arith}
 use Rattle.bc_script.specs.Bios.{bio_of, refusal_of}
-use Rattle.bc_script.specs.Script.{Script}
 use Rattle.bc_report.specs.declared.answer.Answer.TheVariants as answers
-use Rattle.bc_run.specs.Sections.{DeviceData}
-use Rattle.bc_run.specs.Reached.{Reached, SeesMore}
+use Rattle.bc_run.specs.Reached.{Reached}
 use Rattle.bc_run.proofs.Reaching.{reached_pend, reached_quiet}
 use Rattle.bc_run.proofs.Left.{left_quiet, step_refused}
 use Rattle.bc_run.proofs.Stepping.{within, accepted, is_accepted, refused, refused_reply, key_of_bio, refusal_at}

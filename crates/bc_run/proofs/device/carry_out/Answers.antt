@@ -1,12 +1,8 @@
-use Rattle.std.proofs.Common.{sym, subst, ◌≡◌, ◌∙◌, ◌∷◌, ◌+◌, ◌<◌, ℕ, List, [], ap, refl, Some, arith, length, map, false}
+use Rattle.std.proofs.Common.{sym, subst, ℕ, List, [], refl, arith, length, false}
 use Rattle.std.proofs.lemmas.Option.{slice_get_read}
-use Rattle.bc_base.specs.Lists.{list_at}
-use Rattle.bc_base.specs.Story.{own}
-use Rattle.bc_medium.specs.Entries.{caller_of}
-use Rattle.bc_report.specs.declared.answer.Answer.{Answer}
 use Rattle.bc_run.specs.Sections.{DeviceData}
 use Rattle.bc_run.specs.Uses.{bios_of}
-use Rattle.bc_run.specs.Reached.{Reached, CarriesSection, WindowEnds, numbered}
+use Rattle.bc_run.specs.Reached.{Reached, WindowEnds, numbered}
 use Rattle.bc_run.proofs.Left.{steps_last, ends_last}
 use Rattle.bc_run.proofs.Reaching.{reached_none, reached_all}
 use Rattle.bc_run.proofs.device.carry_out.Goals as goal

@@ -1,4 +1,4 @@
-use Rattle.std.proofs.Common.{sym, subst, ◌≡◌, ℕ, List, [], ap, false, Option, ◌<◌, ◌≤◌, length}
+use Rattle.std.proofs.Common.{sym, subst, ◌≡◌, ℕ, List, false, ◌≤◌}
 use Rattle.std.specs.Prelude.{◌==◌, slice_get}
 use Rattle.std.specs.List.{AllByRecursion, list_any}
 use Rattle.bc_run.specs.Sections.{cost_in}

@@ -1,6 +1,6 @@
-use Rattle.std.proofs.Common.{sym, subst, ◌≡◌, ◌∙◌, ◌∷◌, ◌+◌, ℕ, List, [], ap, refl, true, false, Some, ◌<◌, length, arith}
+use Rattle.std.proofs.Common.{sym, subst, ◌∙◌, ◌+◌, ℕ, List, [], ap, refl, true, false, Some, arith}
 use Rattle.std.specs.Prelude.{slice_set}
-use Rattle.bc_script.specs.Script.{Script, IsScriptOp, keys_of}
+use Rattle.bc_script.specs.Script.{IsScriptOp}
 use Rattle.bc_script.specs.declared.op.Op.{Op}
 use Rattle.bc_script.specs.declared.op.Op.TheVariants as ops
 use Rattle.bc_report.specs.declared.answer.Answer.TheVariants as report_answers
