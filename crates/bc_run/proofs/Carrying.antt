@@ -109,18 +109,28 @@ module _ (stays : KnownStays) (script : Script) (shards : ℕ) (base : ℕ → S
 
 -- ---- operations one after the other
 
+-- operations were carried out, and these entries were made
+abbrev pub CarriesBy : DeviceData → DeviceData → List (ℕ × Op) → List Answer → List Entry → Type 0
+CarriesBy a c xs told made = (p : Carries a c xs told) × (p.made ≡ made)
+
+pub carries_none_by : (d : DeviceData) → CarriesBy d d [] [] []
+carries_none_by d = (
+  record {
+    made = [];
+    same = refl;
+    spare = omega arith;
+    grows = grows_none d.shards d.thread d.seen;
+    alone = λ _. goes_none d.shards d.thread d.seen;
+    attempts = tt;
+    ways = tt;
+    replies = tt;
+    ranges = tt;
+  },
+  refl,
+)
+
 pub carries_none : (d : DeviceData) → Carries d d [] []
-carries_none d = record {
-  made = [];
-  same = refl;
-  spare = omega arith;
-  grows = grows_none d.shards d.thread d.seen;
-  alone = λ _. goes_none d.shards d.thread d.seen;
-  attempts = tt;
-  ways = tt;
-  replies = tt;
-  ranges = tt;
-}
+carries_none d = (carries_none_by d).0
 
 module _ (stays : KnownStays) (a : DeviceData) (seen seen' : List (List Entry)) (noted noted' : List (List Noted)) (spare spare' : ℕ) where
   abbrev b : DeviceData
@@ -153,14 +163,22 @@ module _ (stays : KnownStays) (a : DeviceData) (seen seen' : List (List Entry)) 
         ranges = all_append IsAnswer told told' p.ranges q.ranges;
       }
 
+pub carries_append_by : KnownStays → (a b c : DeviceData) (xs ys : List (ℕ × Op)) (told told' : List Answer) (made made' : List Entry)
+    → ((x y : ℕ × Op) → In x xs → In y ys → x.0 ≡ y.0 → ⊥)
+    → CarriesBy a b xs told made → CarriesBy b c ys told' made' → CarriesBy a c (xs ++ ys) (told ++ told') (made ++ made')
+unfolding append
+carries_append_by stays a b c xs ys told told' made made' other p q =
+    let same : c ≡ record a { seen = c.seen; noted = c.noted; spare = c.spare } = q.0.same ∙ ap (λ (d : DeviceData). record d { seen = c.seen; noted = c.noted; spare = c.spare }) p.0.same in
+    let p1 = subst (λ (d : DeviceData). CarriesBy a d xs told made) p.0.same p in
+    let q1 = subst (λ (d : DeviceData). CarriesBy b d ys told' made') q.0.same q in
+    let q2 = subst (λ (d : DeviceData). CarriesBy d (record d { seen = c.seen; noted = c.noted; spare = c.spare }) ys told' made') p.0.same q1 in
+    subst (λ (d : DeviceData). CarriesBy a d (xs ++ ys) (told ++ told') (made ++ made')) (sym same)
+    (append stays a b.seen c.seen b.noted c.noted b.spare c.spare xs ys told told' other p1.0 q2.0, ap (λ l. l ++ q2.0.made) p1.1 ∙ ap (λ l. made ++ l) q2.1)
+
 pub carries_append : KnownStays → (a b c : DeviceData) (xs ys : List (ℕ × Op)) (told told' : List Answer) → ((x y : ℕ × Op) → In x xs → In y ys → x.0 ≡ y.0 → ⊥)
     → Carries a b xs told → Carries b c ys told' → Carries a c (xs ++ ys) (told ++ told')
 carries_append stays a b c xs ys told told' other p q =
-    let same : c ≡ record a { seen = c.seen; noted = c.noted; spare = c.spare } = q.same ∙ ap (λ (d : DeviceData). record d { seen = c.seen; noted = c.noted; spare = c.spare }) p.same in
-    let q1 = subst (λ (d : DeviceData). Carries b d ys told') q.same q in
-    let q2 = subst (λ (d : DeviceData). Carries d (record d { seen = c.seen; noted = c.noted; spare = c.spare }) ys told') p.same q1 in
-    subst (λ (d : DeviceData). Carries a d (xs ++ ys) (told ++ told')) (sym same)
-    (append stays a b.seen c.seen b.noted c.noted b.spare c.spare xs ys told told' other (subst (λ (d : DeviceData). Carries a d xs told) p.same p) q2)
+    (carries_append_by stays a b c xs ys told told' p.made q.made other (p, refl) (q, refl)).0
 
 -- ---- operations without a unit
 

@@ -9,6 +9,7 @@ use Rattle.bc_bio.specs.declared.extent.Extent.{Extent}
 use Rattle.bc_bio.specs.Extent.{sector_at}
 use Rattle.bc_bio.specs.BackRuns.{back_runs_on}
 use Rattle.bc_bio.specs.Chunks.{joins_last}
+use Rattle.bc_bio.specs.Conditions.{IsPlaced}
 use Rattle.bc_bio.specs.PlannedUnit.{PlannedUnit}
 use Rattle.bc_bio.specs.Windows.{TaggedBio, NamedUnit, joins, requests_of, units_of_request}
 use Rattle.bc_key.specs.declared.keys.KeyNo.{KeyNo}
@@ -171,6 +172,7 @@ pub record Submits (old new : CourseData) (op : ℕ) (operation : Op) (last : Op
   pub mid : CourseData
   pub bio : Extent
   pub is_bio : bio_of operation ≡ Some bio
+  pub placed : IsPlaced (keys_of old.script) bio
   pub goes_on : option_map_or (λ first. back_runs_on (keys_of old.script) first bio) last false ≡ true → mid ≡ old
   pub starts : option_map_or (λ first. back_runs_on (keys_of old.script) first bio) last false ≡ false
       → mid ≡ record old { opened = None }
