@@ -24,3 +24,7 @@ pub mod Texts
 pub mod Complete
 pub mod Ends
 pub mod Stories
+pub mod Chunks
+pub mod Ascending
+pub mod Holding
+pub mod Counting
