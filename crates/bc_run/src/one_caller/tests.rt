@@ -4,7 +4,6 @@
 ghost use Rattle.std.specs.Prelude.{◌≤◌};
 
 use super::*;
-use crate::built::unbuilt_line;
 use bc_report::print;
 use bc_script::parse;
 use sha2::{Digest, Sha256};
@@ -15,9 +14,6 @@ fn finished(alloc: Global, text: &[u8], shards: u16) -> Result<Finished, Fail>
     requires { (1 ≤ shards) × (shards ≤ 64) }
 {
     let script = parse(alloc, text)?;
-    let None = unbuilt_line(&script) else {
-        return Err(Fail::from(AllocError));
-    };
     let image = vec![in alloc; 0; 4096 * script.blocks() as usize]?;
     Ok(serial(alloc, &script, image, shards)?)
 }
@@ -428,6 +424,92 @@ fn faults_meet_their_own_shard_and_place(rt: HostRuntime) -> Result<(), Fail> {
         assert!(rt; 1 <= shards && shards <= 64);
         let finished = finished(rt.alloc(), text, shards)?;
         assert_eq!(rt; print(rt.alloc(), &finished.report)?.as_slice(), wanted);
+    }
+    Ok(())
+}
+
+// ---- keyslots
+
+/// Keys a, b and c, which are numbers 0, 1 and 2.
+const THREE_KEYS: &[u8] = b"\
+    key a aes-256-xts 512 8 000102030405060708090a0b0c0d0e0f101112131415161718191a1b1c1d1e1f202122232425262728292a2b2c2d2e2f303132333435363738393a3b3c3d3e3f\n\
+    key b aes-256-xts 512 8 404142434445464748494a4b4c4d4e4f505152535455565758595a5b5c5d5e5f606162636465666768696a6b6c6d6e6f707172737475767778797a7b7c7d7e7f\n\
+    key c aes-256-xts 512 8 808182838485868788898a8b8c8d8e8f909192939495969798999a9b9c9d9e9fa0a1a2a3a4a5a6a7a8a9aaabacadaeafb0b1b2b3b4b5b6b7b8b9babbbcbdbebf\n";
+
+/// The text of the report of a script over one shard, whose keys stand between its head and its section.
+fn report_with_keys(alloc: Global, head: &[u8], section: &[u8]) -> Result<Vec<u8>, Fail> {
+    let mut text = head.to_vec(alloc)?;
+    text.extend_from_slice(THREE_KEYS)?;
+    text.extend_from_slice(section)?;
+    report_of(alloc, text.as_slice())
+}
+
+// No slot has the key: the one that has been idle for longest is programmed. Else nothing is.
+#[test]
+fn slots_are_taken_as_they_became_idle(rt: HostRuntime) -> Result<(), Fail> {
+    let head = b"blkcrypt 1\ndisk 1\nfallback off\ndevice 0 1 2 1 0 8\n";
+    for (section, wanted) in [
+        (
+            b"thread\nwrite a 0 1 0 fill 00\nwrite b 0 1 0 fill 00\nwrite c 0 1 0 fill 00\nwrite a 0 1 0 fill 00\nend\n".as_slice(),
+            b"report 1\nthread 0\ndone\ndone\ndone\ndone\nshard 0 4\n0 0 0 inline 0 0 0\n0 1 0 inline 0 1 2\n\
+            0 2 0 inline 0 0 4\n0 3 0 inline 0 1 6\ndevice 0 8\nprogram 0 0\nidle 0\nprogram 1 1\nidle 1\n\
+            program 0 2\nidle 0\nprogram 1 0\nidle 1\nend\n".as_slice(),
+        ),
+        (
+            b"thread\nwrite a 0 1 0 fill 00\nwrite b 0 1 0 fill 00\nwrite a 0 1 0 fill 00\nwrite c 0 1 0 fill 00\nend\n",
+            b"report 1\nthread 0\ndone\ndone\ndone\ndone\nshard 0 4\n0 0 0 inline 0 0 0\n0 1 0 inline 0 1 2\n\
+            0 2 0 inline 0 0 0\n0 3 0 inline 0 1 5\ndevice 0 7\nprogram 0 0\nidle 0\nprogram 1 1\nidle 1\nidle 0\n\
+            program 1 2\nidle 1\nend\n",
+        ),
+        (
+            b"thread\nwrite a 0 1 0 fill 00\nevict a\nevict b\nend\n",
+            b"report 1\nthread 0\ndone\nevicted\nevicted\nshard 0 1\n0 0 0 inline 0 0 0\ndevice 0 3\nprogram 0 0\n\
+            idle 0\nevict 0 0\nend\n",
+        ),
+        (
+            b"thread\nwrite a 0 1 0 fill 00\nreset 0\nread a 0 1 0\nend\n",
+            b"report 1\nthread 0\ndone\nreset\ndone fill 00\nshard 0 2\n0 0 0 inline 0 0 0\n0 2 0 inline 0 0 0\n\
+            device 0 4\nprogram 0 0\nidle 0\nreset\nidle 0\nend\n",
+        ),
+        (
+            b"thread\nplug\nwrite a 0 1 7 fill 01\nwrite a 1 1 8 fill 02\nunplug\nend\n",
+            b"report 1\nthread 0\nplug\ndone\ndone\nunplug\nshard 0 2\n0 1 0 inline 0 0 0\n0 2 0 inline 0 0 0\n\
+            device 0 2\nprogram 0 0\nidle 0\nend\n",
+        ),
+        (
+            b"thread\nplug\nwrite a 0 1 7 fill 01\nwrite a 1 1 9 fill 02\nunplug\nend\n",
+            b"report 1\nthread 0\nplug\ndone\ndone\nunplug\nshard 0 2\n0 1 0 inline 0 0 0\n0 2 0 inline 0 0 0\n\
+            device 0 3\nprogram 0 0\nidle 0\nidle 0\nend\n",
+        ),
+    ] {
+        let report = report_with_keys(rt.alloc(), head.as_slice(), section)?;
+        assert_eq!(rt; report.as_slice(), wanted);
+    }
+    Ok(())
+}
+
+// Units 0 and 1 lie on the first device, units 2 and 3 on the second one.
+#[test]
+fn a_bio_is_cut_where_the_device_changes(rt: HostRuntime) -> Result<(), Fail> {
+    let section = b"thread\nwrite a 6 4 0 fill 07\nend\n".as_slice();
+    for (head, wanted) in [
+        (
+            b"blkcrypt 1\ndisk 2\nfallback on\ndevice 0 1 1 1 0 8\ndevice 1 1 1 1 0 8\n".as_slice(),
+            b"report 1\nthread 0\ndone\nshard 0 4\n0 0 0 inline 0 0 0\n0 0 1 inline 0 0 0\n0 0 2 inline 1 0 0\n\
+            0 0 3 inline 1 0 0\ndevice 0 2\nprogram 0 0\nidle 0\ndevice 1 2\nprogram 0 0\nidle 0\nend\n".as_slice(),
+        ),
+        (
+            b"blkcrypt 1\ndisk 2\nfallback on\ndevice 0 1 1 9 0 8\ndevice 1 1 1 8 0 8\n",
+            b"report 1\nthread 0\ndone\nshard 0 4\n0 0 0 soft\n0 0 1 soft\n0 0 2 soft\n0 0 3 soft\n\
+            device 0 0\ndevice 1 0\nend\n",
+        ),
+        (
+            b"blkcrypt 1\ndisk 2\nfallback off\ndevice 0 1 1 9 0 8\ndevice 1 1 1 8 0 8\n",
+            b"report 1\nthread 0\nrefused unsupported\nshard 0 0\ndevice 0 0\ndevice 1 0\nend\n",
+        ),
+    ] {
+        let report = report_with_keys(rt.alloc(), head, section)?;
+        assert_eq!(rt; report.as_slice(), wanted);
     }
     Ok(())
 }
