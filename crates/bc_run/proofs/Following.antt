@@ -1,5 +1,5 @@
 -- A bio of which no unit was gone over yet follows the others of a window: it adds nothing.
-use Rattle.std.proofs.Common.{◌≡◌, ℕ, Bool, true, false, cond, List, [], ◌∷◌, ◌++◌, map, append-nil, refl, sym, ap, subst, ◌∙◌, Option, Some, None}
+use Rattle.std.proofs.Common.{◌≡◌, ℕ, ◌≤◌, Bool, true, false, cond, List, [], ◌∷◌, ◌++◌, map, append-nil, refl, sym, ap, subst, ◌∙◌, Option, Some, None}
 use Rattle.std.specs.Prelude.{filter, flat_map, unwrap_or, option_and_then, option_map, IfSome}
 use Rattle.std.specs.Option.{option_map_or}
 use Rattle.std.specs.List.{AllByRecursion, last_or}
@@ -151,10 +151,10 @@ uses_same script old new done other made same u = record {
     all [] ns = tt
     all (e ∷ es) ns = (names e e.via ns.0, all es ns.1)
 
-pub bio_follows : (start now : CourseData) (was : Option OpenHold) (done : List TaggedBio) (op : ℕ) (bio : Extent) (made : List Entry)
+pub bio_begins : (start now : CourseData) (done : List TaggedBio) (op : ℕ) (bio : Extent) (was : Option OpenHold) (made : List Entry) → 1 ≤ bio.units
     → MayFollow start.script done (part_of op bio bio.units) was now.opened
     → InTurn start (record now { opened = was }) done made → InTurn start now (done ++ part_of op bio 0 ∷ []) made
-bio_follows start now was done op bio made follow p =
+bio_begins start now done op bio was made some follow p =
     let script = start.script in
     let next = part_of op bio 0 in
     let keys = keys_of script in
