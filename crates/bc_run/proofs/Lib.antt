@@ -25,3 +25,4 @@ pub mod Chunks
 pub mod Ascending
 pub mod Holding
 pub mod Counting
+pub mod Evicting
