@@ -29,3 +29,4 @@ pub mod Chunks
 pub mod Ascending
 pub mod Holding
 pub mod Counting
+pub mod Evicting

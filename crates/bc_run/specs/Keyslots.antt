@@ -1,6 +1,6 @@
 -- What contracts see of the keyslots of a script's devices, for one caller. A hold may be open: it was taken, and is given
 -- back by the next call that takes one. The journals are seen as they stand when the open hold is given back.
-use Rattle.std.specs.Prelude.{◌≡◌, ℕ, ◌+◌, ◌*◌, ◌≤◌, ◌==◌, ◌&&◌, Bool, false, List, [], ◌∷◌, ◌++◌, length, drop, map, zip, slice_get, slice_set, Option, Some, None, IfSome, IsSomeAnd, Ok, option_and_then, if◌then◌else◌}
+use Rattle.std.specs.Prelude.{◌≡◌, ℕ, ◌+◌, ◌*◌, ◌<◌, ◌≤◌, ◌==◌, ◌&&◌, Bool, false, List, [], ◌∷◌, ◌++◌, length, drop, map, zip, slice_get, slice_set, Option, Some, None, IfSome, IsSomeAnd, Ok, option_and_then, if◌then◌else◌}
 use Rattle.std.specs.List.{enumerate_from}
 use Rattle.std.specs.Option.{unwrap_or, option_map_or}
 use Rattle.bc_base.specs.Lists.{Each, At, AllAt, list_at}
@@ -21,6 +21,7 @@ use Rattle.bc_profile.specs.declared.uses.Use.{Use}
 use Rattle.bc_profile.specs.declared.uses.Use.TheVariants as uses
 use Rattle.bc_profile.specs.Programmings.{Holds}
 use Rattle.bc_profile.specs.Rows.{cleared}
+use Rattle.bc_profile.specs.SlotJournal.{InNoSlot, slots_after}
 use Rattle.bc_profile.specs.Solo.{SoloData}
 use Rattle.bc_script.specs.Script.{Script, keys_of, max_ops, max_units}
 use Rattle.bc_compose.specs.Ordered.{slots_of}
@@ -75,6 +76,11 @@ used_at script device use' journals =
 abbrev pub used_each : Script → Use → List (List Event) → List (List Event)
 used_each script use' journals =
     map (λ at. after_uses script at.0 at.1 (record { use' = use'; units = [] } ∷ [])) (enumerate_from 0 journals)
+
+-- no slot of a device has the key
+abbrev pub HaveNotKey : Script → List (List Event) → ℕ → Type 0
+HaveNotKey script journals key = (device : ℕ) → device < length script.targets
+    → InNoSlot (slots_after (slots_of script device) (list_at journals device)) key
 
 -- a hold of the key was taken on the device: the open one is that hold
 pub record Takes (old new : KeyslotsData) (device key : ℕ) : Type 0 where

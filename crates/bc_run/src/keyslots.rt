@@ -1,6 +1,6 @@
 //! The keyslots of a script's devices, for one caller.
 
-ghost use Rattle.std.specs.Prelude.{◌≡◌, ◌*◌, ◌<◌, ◌≤◌, true, length, map, replicate, None, Some, Ok, IfOk, IsOk, IsSome, IsSomeAnd};
+ghost use Rattle.std.specs.Prelude.{◌≡◌, ℕ, ◌*◌, ◌<◌, ◌≤◌, true, length, map, replicate, None, Some, Ok, IfOk, IsOk, IsSome, IsSomeAnd};
 ghost use Rattle.bc_bio.specs.Conditions.{HasKey};
 ghost use Rattle.bc_bio.specs.Extent.{unit_sectors};
 ghost use Rattle.bc_medium.specs.KeyedDisk.{enciphered, deciphered};
@@ -12,7 +12,7 @@ ghost use Rattle.bc_script.specs.Script.{bare_keys, keys_of};
 ghost use Rattle.bc_modes.specs.Entries.{read_words};
 ghost use Rattle.bc_stack.specs.Devices.{device_at};
 ghost use Rattle.bc_base.specs.Lists.{Each};
-ghost use Rattle.bc_run.specs.Keyslots.{HasRoom, IsCipherOf, IsOpenFor, KeepsTo, Takes, row_of_key, is_open_for, used_at, used_each, via_of};
+ghost use Rattle.bc_run.specs.Keyslots.{HasRoom, HaveNotKey, IsCipherOf, IsOpenFor, KeepsTo, Takes, row_of_key, is_open_for, used_at, used_each, via_of};
 ghost use Rattle.bc_run.specs.Standing.{HasBegun};
 
 use crate::open_hold::OpenHold;
@@ -232,10 +232,11 @@ impl<'s> Keyslots<'s> {
     pub(crate) fn evict(&mut self, key: KeyNo)
         requires key { key.0 < length (keys_of self.old.script) }
         requires room { (device : ℕ) → device < length self.old.script.targets → HasRoom self.old device 1 }
-        ensures { self.new ≡ record self.old {
+        ensures records { self.new ≡ record self.old {
           journals = used_each self.old.script (uses.Evict key) self.old.journals;
           opened = None;
         } }
+        ensures gone { HaveNotKey self.old.script self.new.journals key.0 }
     {
         self.put();
         for device in &mut self.devices {
