@@ -20,3 +20,8 @@ pub mod EqualParts
 pub mod Texts
 pub mod Complete
 pub mod Ends
+pub mod Cutting
+pub mod Using
+pub mod Pieces
+pub mod Splitting
+pub mod Turning
