@@ -30,3 +30,8 @@ pub mod Ascending
 pub mod Holding
 pub mod Counting
 pub mod Evicting
+pub mod Cutting
+pub mod Extending
+pub mod Pieces
+pub mod Splitting
+pub mod Turning
