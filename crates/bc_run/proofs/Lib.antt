@@ -10,6 +10,7 @@ pub mod Acting
 pub mod Reaching
 pub mod Stepping
 pub mod Windowing
+pub mod Sectioning
 pub mod Turns
 pub mod Openings
 pub mod Beginning
