@@ -6,6 +6,7 @@ pub mod Attempting
 pub mod Placing
 pub mod Ready
 pub mod Ordering
+pub mod Using
 pub mod Acting
 pub mod Reaching
 pub mod Stepping
