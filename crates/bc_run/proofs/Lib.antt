@@ -22,3 +22,4 @@ pub mod EqualParts
 pub mod Texts
 pub mod Complete
 pub mod Ends
+pub mod Stories
