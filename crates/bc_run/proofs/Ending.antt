@@ -43,7 +43,8 @@ use Rattle.bc_run.specs.Keyslots.{KeyslotsData}
 use Rattle.bc_run.specs.Uses.{after_uses, is_for, NamesUse, MakesUses}
 use Rattle.bc_run.specs.Standing.{planned_on, Stands, IsCourse, CourseData, HasBegun, device_of, sectors_at, IsBegun}
 use Rattle.bc_run.proofs.Lists.{In, in_append_left, in_append_right, list_at_past, in_of_filter, in_of_flat_map, all_at, all_from_in, all_slice, all_by_place, filter_all, filter_none, at_exists, at_map, at_of_map, list_at_map, by_places, same_tests}
-use Rattle.bc_run.proofs.Sectioning.{events_at, events_are, held_inside, same_by_places}
+use Rattle.bc_run.proofs.Sectioning.{events_at, events_are, same_by_places}
+use Rattle.bc_run.proofs.Using.{holds_within}
 use Rattle.bc_run.proofs.Turns.{callers_below}
 use Rattle.bc_run.proofs.Beginning.{nothing_behind}
 
@@ -166,7 +167,7 @@ names_its_hold script e vias.Soft is = tt
 names_its_hold script e (vias.Inline device slot event) is =
     let hold : DeviceUse = record { use' = uses.Hold is.under.key; units = is.units } in
     let done : List DeviceUse = is.before ++ hold ∷ [] in
-    let inside = held_inside script device (after_uses script device [] done) is.under.key.0 slot event is.holds in
+    let inside = holds_within script device (after_uses script device [] done) is.under.key.0 slot event is.holds in
     let target = at_exists script.targets device inside in
     let through : uses_through script device (name_of_entry e) ≡ done =
     ap (λ (l : List DeviceUse). take (position_or_len (is_for (name_of_entry e)) l + 1) l) is.among ∙ through_is (is_for (name_of_entry e)) is.before hold is.after is.for_others is.for_it in

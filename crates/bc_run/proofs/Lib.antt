@@ -11,6 +11,7 @@ pub mod Acting
 pub mod Reaching
 pub mod Stepping
 pub mod Windowing
+pub mod Stories
 pub mod Sectioning
 pub mod Turns
 pub mod Openings
@@ -22,4 +23,3 @@ pub mod EqualParts
 pub mod Texts
 pub mod Complete
 pub mod Ends
-pub mod Stories

@@ -1,7 +1,7 @@
 -- Sections that follow one another.
-use Rattle.std.proofs.Common.{◌≡◌, ℕ, zero, suc, ◌+◌, ◌<◌, ◌≤◌, List, [], ◌∷◌, ◌++◌, length, map, take, drop, drop_of_length-le, get_or, None, append-nil, refl, sym, ap, subst, ◌∙◌, arith, length-append}
+use Rattle.std.proofs.Common.{◌≡◌, ℕ, zero, suc, ◌+◌, ◌<◌, ◌≤◌, List, [], ◌∷◌, ◌++◌, length, map, take, drop, drop_of_length-le, get_or, Bool, false, None, append-nil, refl, sym, ap, subst, ◌∙◌, arith, length-append}
 use Rattle.std.specs.Prelude.{◌==◌, filter, flat_map, IsTrue, sum_by}
-use Rattle.std.specs.List.{AllByRecursion, enumerate_from}
+use Rattle.std.specs.List.{AllByRecursion, enumerate_from, list_any}
 use Rattle.std.proofs.Math.Path.{fun_ext}
 use Rattle.std.proofs.Math.Logic.{⊎_elim}
 use Rattle.std.proofs.lemmas.Bool.{eq-eqb, ne_eqb, cases_lt}
@@ -30,10 +30,12 @@ use Rattle.bc_run.specs.Sections.{DeviceData, SectionsDone, journal_seen, cost, 
 use Rattle.bc_run.specs.Reached.{CarriesSection}
 use Rattle.bc_run.specs.Keyslots.{stories_of}
 use Rattle.bc_run.specs.Standing.{CourseData, HasBegun, device_of}
-use Rattle.bc_run.specs.Uses.{MakesUses}
+use Rattle.bc_run.specs.Uses.{MakesUses, is_for}
 use Rattle.bc_run.proofs.Lists.{In, in_of_filter, in_of_flat_map, all_at, all_from_in, all_append, from_append, filter_none, filter_all, list_at_left, list_at_last, take_next, enumerate_push}
 use Rattle.bc_run.proofs.Growing.{begins_itself, begins_trans, made_by}
-use Rattle.bc_run.proofs.Sectioning.{begun_itself, same_section, list_at_each, length-each, same_by_places, others_of_notes, told_on, story_at, events_at, events_are, told_are, told_same, told_own, told_front, told_below, uses_append, not_of_sections}
+use Rattle.bc_run.proofs.Sectioning.{begun_itself, same_section, list_at_each, length-each, same_by_places, told_on, events_at, events_are, told_are, told_same, told_own, told_front, told_below, not_of_sections}
+use Rattle.bc_run.proofs.Stories.{own_notes_other, story_at}
+use Rattle.bc_run.proofs.Using.{uses_append}
 
 pub sections_none : (d : CourseData) → HasBegun d.begun d.journals → ((shard : ℕ) → list_at (orders_of d.shards) shard ≡ []) → ((device : ℕ) → list_at d.journals device ≡ []) → SectionsDone (device_of d) (device_of d) [] []
 sections_none d has untouched unused = record {
@@ -154,11 +156,13 @@ module _ (a : DeviceData) (alone : IsTrue a.alone) (thread thread' : ℕ) (seen 
     uses = subst (λ (done : ℕ → List DeviceUse). MakesUses a.script (λ device. []) (journal_seen new) done (flat_map (λ es. es) (p.made ++ q.made ∷ []))) (sym (fun_ext all_uses))
         (subst (λ (es : List Entry). MakesUses a.script (λ device. []) (journal_seen new) (λ device. of_sections device ++ uses_of_section a.script device (thread', section)) es) (sym all_made)
         (uses_append a.script (λ device. []) (journal_seen begun) (journal_seen new) of_sections (λ device. uses_of_section a.script device (thread', section)) (flat_map (λ es. es) p.made) q.made
-        (subst (λ (mid : ℕ → List Event). MakesUses a.script (λ device. []) mid of_sections (flat_map (λ es. es) p.made)) between p.uses)
-        (q.uses alone)
-        (λ device e at.
+        (λ device.
+        all_from_in (λ e. list_any (is_for (name_of_entry e)) (of_sections device) ≡ false) q.made
+        (λ e at.
         not_of_sections a.script device 0 (name_of_entry e) sections
-        (let by = made_by thread' [] (units_of_section a.script section) q.made q.done.attempts e at in let far : 0 + length sections ≤ caller_of e = omega (arith, by, turn) in far))));
+        (let by = made_by thread' [] (units_of_section a.script section) q.made q.done.attempts e at in omega (arith, by, turn))))
+        (subst (λ (mid : ℕ → List Event). MakesUses a.script (λ device. []) mid of_sections (flat_map (λ es. es) p.made)) between p.uses)
+        (q.uses alone)));
     ranges = all_append (AllByRecursion IsAnswer) answers (told ∷ []) p.ranges (q.ranges, tt);
   }
     where
@@ -217,9 +221,9 @@ new_thread a b sections answers thread shard turn p =
 -- no event of the next thread
 pub no_events : (thread : ℕ) (journals : List (List Event)) (device : ℕ) → own author_of thread (list_at (stories_of thread journals journals) device) ≡ []
 no_events thread journals device =
-    ap (own author_of thread) (story_at thread journals journals (begun_itself journals) device)
+    ap (own author_of thread) (story_at thread journals journals device refl)
     ∙ filter-append (λ n. author_of n == thread) (notes (thread + 1) (list_at journals device)) (notes thread (drop (length (list_at journals device)) (list_at journals device)))
-    ∙ ap (λ l. l ++ own author_of thread (notes thread (drop (length (list_at journals device)) (list_at journals device)))) (others_of_notes (thread + 1) thread (list_at journals device) (λ same. omega arith))
+    ∙ ap (λ l. l ++ own author_of thread (notes thread (drop (length (list_at journals device)) (list_at journals device)))) (own_notes_other thread (thread + 1) (list_at journals device) (λ same. omega arith))
     ∙ ap (λ l. own author_of thread (notes thread l)) (drop_of_length-le (list_at journals device) (length (list_at journals device)) (omega arith))
 
 -- the same of courses
