@@ -109,7 +109,7 @@ abbrev pub told_on : ℕ → List (List Noted) → List (List Event) → List (L
 told_on thread stories begun journals = map (λ at. at.0 ++ notes thread at.1) (zip stories (map since (zip begun journals)))
 
 module _ (thread : ℕ) (begun journals : List (List Event)) (has : HasBegun begun journals) where
-  new_at : ℕ → List Event
+  abbrev pub new_at : ℕ → List Event
   new_at device = since (list_at begun device, list_at journals device)
 
   goes_on : (device : ℕ) → list_at journals device ≡ list_at begun device ++ new_at device

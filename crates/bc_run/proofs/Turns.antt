@@ -1,8 +1,9 @@
 -- Sections that follow one another.
-use Rattle.std.proofs.Common.{◌≡◌, ℕ, zero, suc, ◌+◌, ◌<◌, ◌≤◌, List, [], ◌∷◌, ◌++◌, length, map, take, drop, drop_of_length-le, get_or, Bool, false, None, append-nil, refl, sym, ap, subst, ◌∙◌, arith, length-append}
+use Rattle.std.proofs.Common.{◌≡◌, ℕ, zero, suc, ◌+◌, ◌<◌, ◌≤◌, List, [], ◌∷◌, ◌++◌, length, map, take, drop, get_or, Bool, false, None, append-nil, refl, sym, ap, subst, ◌∙◌, arith, length-append}
 use Rattle.std.specs.Prelude.{◌==◌, filter, flat_map, IsTrue, sum_by}
 use Rattle.std.specs.List.{AllByRecursion, enumerate_from, list_any}
 use Rattle.std.proofs.Math.Path.{fun_ext}
+use Rattle.std.proofs.Math.Seq.{drop-append_seam}
 use Rattle.std.proofs.Math.Logic.{⊎_elim}
 use Rattle.std.proofs.lemmas.Bool.{eq-eqb, ne_eqb, cases_lt}
 use Rattle.std.proofs.lemmas.List.{length-take}
@@ -166,6 +167,9 @@ module _ (a : DeviceData) (alone : IsTrue a.alone) (thread thread' : ℕ) (seen 
     ranges = all_append (AllByRecursion IsAnswer) answers (told ∷ []) p.ranges (q.ranges, tt);
   }
     where
+      zero_first : (n : ℕ) → n ≡ 0 + n
+      zero_first n = omega arith
+
       journals_before : map events_of p.stories ≡ before
       journals_before = p.journals ∙ events_are thread begun_before before has
 
@@ -191,9 +195,6 @@ module _ (a : DeviceData) (alone : IsTrue a.alone) (thread thread' : ℕ) (seen 
 
       all_made : flat_map (λ es. es) (p.made ++ q.made ∷ []) ≡ flat_map (λ es. es) p.made ++ q.made
       all_made = flat_map-append (λ (es : List Entry). es) p.made (q.made ∷ []) ∙ ap (λ l. flat_map (λ es. es) p.made ++ l) (append-nil q.made)
-
-      zero_first : (n : ℕ) → n ≡ 0 + n
-      zero_first n = omega arith
 
       longer : {X Y : Type 0} (xs : List X) (ys : List Y) (x : X) (y : Y) → length xs ≡ length ys → length (xs ++ x ∷ []) ≡ length (ys ++ y ∷ [])
       longer xs ys x y e = length-append xs (x ∷ []) ∙ ap (λ n. n + 1) e ∙ sym (length-append ys (y ∷ []))
@@ -224,7 +225,7 @@ no_events thread journals device =
     ap (own author_of thread) (story_at thread journals journals device refl)
     ∙ filter-append (λ n. author_of n == thread) (notes (thread + 1) (list_at journals device)) (notes thread (drop (length (list_at journals device)) (list_at journals device)))
     ∙ ap (λ l. l ++ own author_of thread (notes thread (drop (length (list_at journals device)) (list_at journals device)))) (own_notes_other thread (thread + 1) (list_at journals device) (λ same. omega arith))
-    ∙ ap (λ l. own author_of thread (notes thread l)) (drop_of_length-le (list_at journals device) (length (list_at journals device)) (omega arith))
+    ∙ ap (λ l. own author_of thread (notes thread l)) (ap (drop (length (list_at journals device))) (sym (append-nil (list_at journals device))) ∙ drop-append_seam (list_at journals device) [])
 
 -- the same of courses
 pub sections_more : (a b d : CourseData) (thread : ℕ) (sections : List (List Op)) (i : ℕ) (answers answers' : List (List Answer)) (section : List Op) (told : List Answer)
@@ -251,7 +252,7 @@ sections_more a b d thread sections i answers answers' section told has has' tur
     subst (λ (y : DeviceData). SectionsDone x y (take (i + 1) sections) answers') (sym new_is)
     (subst (λ l. SectionsDone x new l answers') (sym (take_next sections i section lt read))
     (subst (λ l. SectionsDone x new (take i sections ++ section ∷ []) l) (sym grown)
-    (more x tt b.thread thread (orders_of b.shards) (orders_of d.shards) b.begun b.journals d.journals b.left d.left has (subst (λ l. HasBegun l d.journals) begun_is has')
+    (more x refl b.thread thread (orders_of b.shards) (orders_of d.shards) b.begun b.journals d.journals b.left d.left has (subst (λ l. HasBegun l d.journals) begun_is has')
     (take i sections) answers section told (turn ∙ sym long)
     (subst (λ (y : DeviceData). SectionsDone x y (take i sections) answers) p.same p) q1)))
 
