@@ -1,5 +1,4 @@
 pub mod Lists
-pub mod NoDevices
 pub mod Growing
 pub mod Carrying
 pub mod Attempting
@@ -14,6 +13,8 @@ pub mod Stepping
 pub mod Windowing
 pub mod Following
 pub mod Submitting
+pub mod Stories
+pub mod Sectioning
 pub mod Turns
 pub mod Openings
 pub mod Beginning
@@ -24,7 +25,6 @@ pub mod EqualParts
 pub mod Texts
 pub mod Complete
 pub mod Ends
-pub mod Stories
 pub mod Chunks
 pub mod Ascending
 pub mod Holding
