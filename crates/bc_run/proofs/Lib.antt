@@ -35,3 +35,5 @@ pub mod Extending
 pub mod Pieces
 pub mod Splitting
 pub mod Turning
+pub mod KeptSlots
+pub mod SlotRows
