@@ -27,3 +27,6 @@ pub mod Ascending
 pub mod Holding
 pub mod Counting
 pub mod Evicting
+pub mod KeptSlots
+pub mod SlotRows
+pub mod TakenOut
