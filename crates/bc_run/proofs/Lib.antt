@@ -22,3 +22,4 @@ pub mod Complete
 pub mod Ends
 pub mod KeptSlots
 pub mod SlotRows
+pub mod OpenedSlots
