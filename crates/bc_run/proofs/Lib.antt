@@ -30,3 +30,4 @@ pub mod Evicting
 pub mod KeptSlots
 pub mod SlotRows
 pub mod TakenOut
+pub mod OpenedSlots

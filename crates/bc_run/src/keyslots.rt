@@ -152,6 +152,7 @@ impl<'s> Keyslots<'s> {
         requires room { HasRoom self.old device 2 }
         ensures { Takes self.old self.new device key.0 }
     {
+        entry_laws();
         self.put();
         let number = usize::from(device);
         let (slot, event) = self.devices[number].hold(key);
