@@ -3,6 +3,8 @@ pub mod NoDevices
 pub mod Growing
 pub mod Carrying
 pub mod Attempting
+pub mod Located
+pub mod Room
 pub mod Placing
 pub mod Ready
 pub mod Ordering
