@@ -14,6 +14,7 @@ pub mod Acting
 pub mod Reaching
 pub mod Stepping
 pub mod Windowing
+pub mod Submitting
 pub mod Turns
 pub mod Openings
 pub mod Beginning
@@ -24,3 +25,4 @@ pub mod EqualParts
 pub mod Texts
 pub mod Complete
 pub mod Ends
+pub mod Stories

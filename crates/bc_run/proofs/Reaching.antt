@@ -52,7 +52,7 @@ in_or_not o (x ∷ xs) =
     (λ (ne : x ≢ o). ⊎_elim (λ (h : In o xs). inl (inr h)) (λ (n : In o xs → ⊥). inr (λ h. ⊎_elim ne n h)) (in_or_not o xs))
     (cases_eq x o)
 
-enumerated_at : {X : Type 0} (first : ℕ) (xs : List X) (y : ℕ × X) → In y (enumerate_from first xs) → (i : ℕ) × (first + i ≡ y.0) × (slice_get xs i ≡ Some y.1)
+pub enumerated_at : {X : Type 0} (first : ℕ) (xs : List X) (y : ℕ × X) → In y (enumerate_from first xs) → (i : ℕ) × (first + i ≡ y.0) × (slice_get xs i ≡ Some y.1)
 enumerated_at first [] y h = absurd h
 enumerated_at first (x ∷ xs) y h =
     ⊎_elim

@@ -105,6 +105,14 @@ impl Course<'_> {
         self.keyslots.has_begun();
     }
 
+    /// Does nothing, and states that the script keeps its rules, and that each device has a journal.
+    pub(crate) fn has_devices(&self)
+        ensures rules { IsScript self.now.script }
+        ensures devices { length self.now.journals ≡ length self.now.script.targets }
+    {
+        self.keyslots.has_devices();
+    }
+
     /// Why a bio is refused, if it is.
     pub(crate) fn refusal(&self, bio: &Extent) -> Option<Refusal>
         requires key { HasKey (keys_of self.now.script) bio.now.context }
