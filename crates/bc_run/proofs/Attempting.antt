@@ -299,18 +299,20 @@ pub carries_made : (a b : DeviceData) (op : ℕ) (operation : Op) (bio : Extent)
     → a.spare ≤ b.spare + cost operation → Made a b made → Attempts a.thread [] (first_units (keys_of a.script) op operation bio bio.units) made
     → (outcome : BioAnswer) → IsBioAnswer a.script a.shards a.base a.thread b.seen bio.access (first_units (keys_of a.script) op operation bio bio.units) outcome
     → answer ≡ answer_of_outcome outcome → IsAnswer answer → (q : CarriesOne a b (op, operation) answer) × (q.made ≡ made)
-carries_made a b op operation bio answer made is accepted spare p attempts outcome told same range =
-    (record {
-      made = made;
-      same = p.same;
-      spare = omega (arith, spare);
-      grows = grows_alone a.shards a.thread a.seen b.seen made (made_by a.thread [] (first_units (keys_of a.script) op operation bio bio.units) made attempts) p.goes;
-      alone = λ _. p.goes;
-      attempts = subst (λ l. Attempts a.thread [] l made) (sym (units_flat a.script op operation bio is accepted)) attempts;
-      ways = p.ways;
-      replies = (reply_is a.script op operation bio is accepted a.shards a.base a.thread b.seen outcome answer told same, tt);
-      ranges = (range, tt);
-    }, refl)
+carries_made a b op operation bio answer made is accepted spare p attempts outcome told same range = (
+  record {
+    made = made;
+    same = p.same;
+    spare = omega (arith, spare);
+    grows = grows_alone a.shards a.thread a.seen b.seen made (made_by a.thread [] (first_units (keys_of a.script) op operation bio bio.units) made attempts) p.goes;
+    alone = λ _. p.goes;
+    attempts = subst (λ l. Attempts a.thread [] l made) (sym (units_flat a.script op operation bio is accepted)) attempts;
+    ways = p.ways;
+    replies = (reply_is a.script op operation bio is accepted a.shards a.base a.thread b.seen outcome answer told same, tt);
+    ranges = (range, tt);
+  },
+  refl,
+)
 
 -- no unit met a fault
 pub carries_bio : (a b : DeviceData) (op : ℕ) (operation : Op) (bio : Extent) (outcome : BioAnswer) (answer : Answer) (made : List Entry) → bio_of operation ≡ Some bio → refusal_of a.script bio ≡ None

@@ -3,7 +3,6 @@ pub mod NoDevices
 pub mod Growing
 pub mod Carrying
 pub mod Attempting
-pub mod Turning
 pub mod Performing
 pub mod Located
 pub mod Room

@@ -131,24 +131,26 @@ module _ (here : CourseData) (new : List (ShardData RamData)) (u : PlannedUnit) 
       let told = p.told s' at-new in
       let sector : e.at.sector ≡ u.sector = ap (λ (at : UnitAt). at.sector) its.unit in
       let k : p.place.shard ≡ shard_of (length old) u.sector = lies ∙ ap (shard_of (length old)) sector in
-      let name : name_of_entry e ≡ name_of here.thread u = ap unit_name its.unit in
-      (record {
-        entry = e;
-        same = ap (λ (n : ℕ). record (device_of after) { shards = n }) long
-            ∙ ap (λ (b : ℕ → Sectors). record (device_of after) { shards = length old; base = b }) base;
-        spare = omega arith;
-        grows = goes_on_by (length old) (orders_of old) (orders_of new) p.place.shard e lies p.adds.appended.ends p.adds.appended.elsewhere;
-        is_its = its;
-        way = way;
-        failed = failed;
-        known =
-            subst (λ (n : UnitName). IsTold (told_by (keys_of here.script) (sectors_at old (shard_of (length old) u.sector)) (list_at (orders_of new) (shard_of (length old) u.sector))) n answer) name
-            (subst (λ (j : ℕ). IsTold (told_by (keys_of here.script) (sectors_at old j) (list_at (orders_of new) j)) (name_of_entry e) answer) k
-            (subst (λ (b : ℕ → Sectors). IsTold (told_by (keys_of here.script) (b p.place.shard) (list_at (orders_of new) p.place.shard)) (name_of_entry e) answer) base
-            (subst (λ (d : Sectors). IsTold (told_by (keys_of here.script) d (list_at (orders_of new) p.place.shard)) (name_of_entry e) answer) (sym (sectors_of new p.place.shard s' at-new))
-            (subst (λ (l : List Entry). IsTold (told_by (keys_of here.script) (contents s'.start) l) (name_of_entry e) answer) (sym (list_at_map (λ (s : ShardData RamData). s.entries) new p.place.shard s' at-new))
-            told))));
-      }, refl)
+      let name : name_of_entry e ≡ name_of here.thread u = ap unit_name its.unit in (
+        record {
+          entry = e;
+          same = ap (λ (n : ℕ). record (device_of after) { shards = n }) long
+              ∙ ap (λ (b : ℕ → Sectors). record (device_of after) { shards = length old; base = b }) base;
+          spare = omega arith;
+          grows = goes_on_by (length old) (orders_of old) (orders_of new) p.place.shard e lies p.adds.appended.ends p.adds.appended.elsewhere;
+          is_its = its;
+          way = way;
+          failed = failed;
+          known =
+              subst (λ (n : UnitName). IsTold (told_by (keys_of here.script) (sectors_at old (shard_of (length old) u.sector)) (list_at (orders_of new) (shard_of (length old) u.sector))) n answer) name
+              (subst (λ (j : ℕ). IsTold (told_by (keys_of here.script) (sectors_at old j) (list_at (orders_of new) j)) (name_of_entry e) answer) k
+              (subst (λ (b : ℕ → Sectors). IsTold (told_by (keys_of here.script) (b p.place.shard) (list_at (orders_of new) p.place.shard)) (name_of_entry e) answer) base
+              (subst (λ (d : Sectors). IsTold (told_by (keys_of here.script) d (list_at (orders_of new) p.place.shard)) (name_of_entry e) answer) (sym (sectors_of new p.place.shard s' at-new))
+              (subst (λ (l : List Entry). IsTold (told_by (keys_of here.script) (contents s'.start) l) (name_of_entry e) answer) (sym (list_at_map (λ (s : ShardData RamData). s.entries) new p.place.shard s' at-new))
+              told))));
+        },
+        refl,
+      )
     where
       sectors_of : (xs : List (ShardData RamData)) (k : ℕ) (s : ShardData RamData) → At xs k s → sectors_at xs k ≡ contents s.start
       sectors_of xs k s at = ap (λ (o : Option (ShardData RamData)). option_map_or (λ s. contents s.start) o (λ sector. [])) at

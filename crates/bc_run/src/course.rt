@@ -356,14 +356,7 @@ impl Course<'_> {
         place.copy_from_slice(&plain);
         self.encipher(at.context, place);
         let via = self.via(at.context);
-        Ok(write_unit(
-            &mut self.shards,
-            self.ciphers.keys(),
-            at,
-            via,
-            plain,
-            place,
-        ))
+        Ok(write_unit(&mut self.shards, self.ciphers.keys(), at, via, plain, place))
     }
 
     /// Reads the data units of a bio, one after the other, until one meets a fault.

@@ -1,5 +1,7 @@
 use Rattle.std.proofs.Common.{◌≡◌, ◌∙◌, ℕ, ◌*◌, ◌-◌, ◌+◌, ◌≤◌, ◌<◌, Option, Some, None, List, [], ◌∷◌, ◌++◌, length, take, sym, ap, subst, refl, arith, rules}
 use Rattle.std.proofs.lemmas.Slice.{take-put_mid}
+use Rattle.bc_key.specs.KeyData.{KeyData}
+use Rattle.bc_bio.specs.Extent.{unit_sectors}
 use Rattle.bc_bio.specs.declared.access.Access.{Access}
 use Rattle.bc_bio.specs.declared.access.Access.TheVariants as access
 use Rattle.bc_medium.specs.KeyedDisk.{Text}
@@ -10,7 +12,7 @@ use Rattle.bc_script.specs.Bios.{bio_of}
 use Rattle.bc_script.specs.Plan.{unit_at}
 use Rattle.bc_run.specs.InTurn.{GoesOver}
 use Rattle.bc_run.specs.Standing.{CourseData, answer_of_read, device_of, first_units}
-use Rattle.bc_run.proofs.EqualParts.{next_part}
+use Rattle.bc_run.proofs.EqualParts.{next_part, part_starts}
 use Rattle.bc_run.proofs.Attempting.{NoneMet, met_read, none_met}
 use Rattle.bc_run.proofs.Performing.{GoneOver, gone_over_more, gone_over_none, performs_bio, performs_fault}
 use Rattle.bc_run.proofs.course.Course.read.Goals as goal
@@ -45,8 +47,12 @@ loop-unit-preserved c =
     let room = c.loop-unit.room in
     let part = c.read_next-fault.new.place in
     let long : length part ≡ size = search rules in
+    let starts : i * size ≤ length room =
+    subst (λ n. i * size ≤ n) (sym (c.loop-unit.invariant.room ∙ c.requires.room))
+    (part_starts i bio.units (unit_sectors (keys_of old.script) bio.context) size c.loop-unit-test.true c.requires.performable.few_sectors
+    (c.unit_bytes-size.ensures.bytes ∙ ap (λ (k : List KeyData). 512 * unit_sectors k bio.context) (c.keys.ensures ∙ c.self.invariant.keys_are ∙ ap (λ (v : CourseData). keys_of v.script) c.self.view_is))) in
     let next : (i + 1) * size ≡ i * size + size = next_part size i in
-    let joined = take-put_mid (i * size) (i * size + size - i * size) room part ((i + 1) * size) (omega arith) (search rules) in
+    let joined = take-put_mid (i * size) (i * size + size - i * size) room part ((i + 1) * size) (omega arith) starts in
     let over : GoesOver b new bio i v (answer_of_read part) c.loop-unit.fault c.read_next-fault.result =
     subst (λ (s : Script). GoesOver b new bio i (unit_at (keys_of s) c.args.op operation bio i) (answer_of_read part) c.loop-unit.fault c.read_next-fault.result)
     (ap (λ (d : CourseData). d.script) gone.same) c.read_next-fault.ensures.goes_over in record {

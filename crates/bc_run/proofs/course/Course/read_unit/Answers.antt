@@ -1,17 +1,16 @@
-use Rattle.std.proofs.Common.{◌≡◌, ◌∙◌, ℕ, ◌*◌, ◌/◌, ◌+◌, ◌≤◌, Bool, true, false, length, List, refl, sym, ap, subst}
+use Rattle.std.proofs.Common.{◌≡◌, ◌∙◌, ℕ, ◌*◌, ◌+◌, Bool, false, length, List, sym, ap, subst}
 use Rattle.bc_base.specs.RamStores.{owns}
 use Rattle.bc_key.specs.KeyData.{KeyData}
 use Rattle.bc_bio.specs.Extent.{context_after, sector_at, unit_sectors}
-use Rattle.bc_medium.specs.declared.entry.Entry.{Entry}
 use Rattle.bc_medium.specs.declared.unit_at.UnitAt.{UnitAt}
 use Rattle.bc_medium.specs.Growth.{IsEntryOf}
-use Rattle.bc_medium.specs.KeyedDisk.{UnitAnswer, Text, deciphered}
+use Rattle.bc_medium.specs.KeyedDisk.{Text, deciphered}
 use Rattle.bc_medium.specs.Shards.{Own}
 use Rattle.bc_script.specs.declared.op.Op.TheVariants as ops
 use Rattle.bc_script.specs.Script.{keys_of}
 use Rattle.bc_script.specs.Plan.{unit_at}
 use Rattle.bc_run.specs.InTurn.{AttemptsOn, HasOpenAt, via_in}
-use Rattle.bc_run.specs.Standing.{AllStand, Attempted, CourseData, IsPerformable, at_of, answer_of_read, entry_of_read}
+use Rattle.bc_run.specs.Standing.{AllStand, CourseData, IsPerformable, at_of, answer_of_read, entry_of_read}
 use Rattle.bc_run.proofs.Ready.{attempts, course_more, have_keys, key_at, open_at, own, sectors_at, spare, whole_sectors}
 use Rattle.bc_run.proofs.Placing.{read_failed, read_is_its, read_via}
 use Rattle.bc_run.proofs.course.Course.read_unit.Goals as goal
@@ -309,4 +308,3 @@ returns-clause-attempts c =
     subst (λ (v : CourseData). AttemptsOn v after (unit_at (keys_of v.script) c.args.op operation bio c.args.unit) (Text c.decipher.new.text)) c.self.view_is
     (subst (λ (l : List ℕ). AttemptsOn here after u (Text l)) same
     (subst (λ (t : Bool). AttemptsOn here after u (answer_of_read text t)) c.if-not-read_unit.false attempt))
-

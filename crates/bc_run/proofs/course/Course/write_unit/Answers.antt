@@ -1,10 +1,8 @@
-use Rattle.std.proofs.Common.{◌≡◌, ◌∙◌, ℕ, ◌*◌, ◌/◌, ◌+◌, ◌≤◌, Bool, true, false, length, List, refl, sym, ap, subst, arith, rules}
+use Rattle.std.proofs.Common.{◌≡◌, ◌∙◌, ◌*◌, ◌+◌, length, List, sym, ap, subst, rules}
 use Rattle.bc_key.specs.KeyData.{KeyData}
 use Rattle.bc_bio.specs.Extent.{context_after, sector_at, unit_sectors}
-use Rattle.bc_medium.specs.declared.entry.Entry.{Entry}
 use Rattle.bc_medium.specs.declared.unit_at.UnitAt.{UnitAt}
 use Rattle.bc_medium.specs.Growth.{IsEntryOf}
-use Rattle.bc_medium.specs.KeyedDisk.{UnitAnswer, enciphered}
 use Rattle.bc_base.specs.RamStores.{owns}
 use Rattle.bc_bio.specs.Conditions.{HasKey}
 use Rattle.bc_medium.specs.Shards.{HaveKeys, Own}
@@ -13,7 +11,6 @@ use Rattle.bc_script.specs.Script.{keys_of}
 use Rattle.bc_script.specs.Plan.{text_at, unit_at}
 use Rattle.bc_run.specs.InTurn.{AttemptsOn, HasOpenAt, via_in}
 use Rattle.bc_run.specs.Standing.{AllStand, Attempted, CourseData, HasUnit, IsPerformable, at_of, answer_of_write, entry_of_write}
-use Rattle.bc_run.proofs.Lists.{take_within}
 use Rattle.bc_run.proofs.Ready.{attempts, course_more, has_unit, have_keys, key_at, open_at, own, sectors_at, spare, text_length}
 use Rattle.bc_run.proofs.Placing.{write_failed, write_is_its, write_via}
 use Rattle.bc_run.proofs.course.Course.write_unit.Goals as goal
@@ -333,4 +330,3 @@ returns-clause-attempts c =
     (write_failed c.unit_of_bio-at.result c.via-via.result plain c.write_unit.result) opened goes in
     let after : CourseData = record here { shards = c.write_unit.new.shards } in
     subst (λ (v : CourseData). AttemptsOn v after (unit_at (keys_of v.script) c.args.op operation bio c.args.unit) (answer_of_write c.write_unit.result)) c.self.view_is attempt
-
