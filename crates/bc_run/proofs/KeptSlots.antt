@@ -7,9 +7,10 @@ use Rattle.std.proofs.Math.Logic.{⊎_elim}
 use Rattle.std.proofs.lemmas.Bool.{eq-eqb, ne_eqb, cases_eq}
 use Rattle.std.proofs.lemmas.Option.{none-some, same_Some, get_or_from_slice_get}
 use Rattle.std.proofs.lemmas.List.{append_assoc, append-nil, map-set, length-map, length-append, length-replicate}
+use Rattle.std.proofs.Math.Seq.{take-append_seam}
 use Rattle.bc_base.specs.Lists.{Each, At, AllAt, list_at}
 use Rattle.bc_base.specs.Story.{StartsWith}
-use Rattle.bc_key.specs.KeyData.{KeyData}
+use Rattle.bc_key.specs.KeyData.{KeyData, IsValid}
 use Rattle.bc_modes.specs.Capabilities.{Capabilities, capabilities_of}
 use Rattle.bc_modes.specs.UnitCipher.{parts_of}
 use Rattle.bc_stack.specs.declared.target.Target.{Target}
@@ -23,13 +24,14 @@ use Rattle.bc_profile.specs.OneCaller.{events_of_use, events_of_hold, events_of_
 use Rattle.bc_profile.specs.Programmings.{Holds, last_programming}
 use Rattle.bc_profile.specs.Solo.{SoloData, HasSpare, recorded, slots_of as slots_in}
 use Rattle.bc_profile.proofs.KeyLemmas.{last_push, slots_push, same_count, key_inside, slot_has}
-use Rattle.bc_script.specs.Script.{Script, IsScript, IsDevice, keys_of}
+use Rattle.bc_script.specs.Script.{Script, IsScript, IsDevice, IsNamedKey, keys_of}
+use Rattle.bc_script.specs.declared.named_key.NamedKey.{NamedKey}
 use Rattle.bc_report.specs.Report.{IsEvent}
 use Rattle.bc_compose.specs.Ordered.{slots_of}
 use Rattle.bc_run.specs.declared.open_hold.OpenHold.{OpenHold}
 use Rattle.bc_run.specs.Uses.{after_uses}
-use Rattle.bc_run.specs.Keyslots.{SlotCipherData, KeepsTo, IsKeyslotsOf, IsOpenHold, IsKeyslots, held_on, giving_back, journal_in, used_at, evicted, max_events}
-use Rattle.bc_run.proofs.Lists.{at_set, at_changed, at_one, at_map, at_exists, list_at_map, length-set, all_append, all_slice}
+use Rattle.bc_run.specs.Keyslots.{SlotCipherData, KeepsTo, IsKeyslotsOf, IsOpenHold, IsKeyslots, held_on, giving_back, journal_in, used_at, used_each, evicted, max_events, MayEvict, row_of_key}
+use Rattle.bc_run.proofs.Lists.{at_set, at_changed, at_one, at_map, at_of_map, at_exists, list_at_map, length-set, all_append, all_slice, all_by_place}
 
 -- ---- places
 
@@ -74,6 +76,17 @@ starts_more f (z ∷ zs) begun zero x y at more all zero =
 starts_more f (z ∷ zs) begun zero x y at more all (suc k) = all (suc k)
 starts_more f (z ∷ zs) begun (suc i) x y at more all zero = all 0
 starts_more f (z ∷ zs) begun (suc i) x y at more all (suc k) = starts_more f zs (λ j. begun (suc j)) i x y at more (λ j. all (suc j)) k
+
+-- an element that was written and read again
+pub read_back : {A : Type 0} (xs : List A) (k : ℕ) (x y z : A) → At xs k x → z ≡ get_or (slice_set xs k y) k z → z ≡ y
+read_back xs k x y z at read = read ∙ get_or_from_slice_get (slice_set xs k y) k y z (at_set xs k x y at)
+
+pub mapped_at : {V B : Type 0} (f : V → B) (xs : List V) (i n : ℕ) (x : V) → length (map f xs) ≡ n → i < n → x ≡ get_or xs i x → At (map f xs) i (f x)
+mapped_at f xs i n x long inside read = at_map f xs i x (at_read xs i x (omega (arith, inside, long, length-map xs f)) read)
+
+-- a list that was lent whole and came back
+pub written_back : {A : Type 0} (n : ℕ) (new old : List A) → length new ≡ n → take n (new ++ drop (length new) old) ≡ new
+written_back n new old many = ap (λ k. take k (new ++ drop (length new) old)) (sym many) ∙ take-append_seam new (drop (length new) old)
 
 -- ---- what a use records
 
@@ -197,6 +210,21 @@ few_of_hold slots key = by_slot (slot_with slots key)
 
 -- ---- what the calls keep
 
+-- a device and a key of the script
+pub record Chosen (script : Script) (devices : List SoloData) (i key : ℕ) (solo : SoloData) : Type 0 where
+  pub solo_at : At devices i solo
+  pub target : Target
+  pub target_at : At script.targets i target
+  pub of : IsKeyslotsOf script None i target solo
+  pub k : KeyData
+  pub is_key : slice_get (keys_of script) key ≡ Some k
+  pub valid : IsValid k.config k.raw
+
+valid_key : (script : Script) (key : ℕ) (k : KeyData) → IsScript script → slice_get (keys_of script) key ≡ Some k → IsValid k.config k.raw
+valid_key script key k rules is_key =
+    let named = at_of_map (λ (n : NamedKey). n.key) script.keys key k is_key in
+    subst (λ (z : KeyData). IsValid z.config z.raw) named.2 (all_slice IsNamedKey script.keys key named.0 rules.keys.each named.1).valid
+
 module _ (script : Script) (stack : StackParts) (caps : List Capabilities) (devices : List SoloData) (ciphers : List (List (Option SlotCipherData))) (begun : List SoloData) where
   -- a device of the script
   pub device_of : (opened : Option OpenHold) (i : ℕ) (solo : SoloData) → IsKeyslots script stack caps devices ciphers begun opened → At devices i solo
@@ -257,12 +285,54 @@ module _ (script : Script) (stack : StackParts) (caps : List Capabilities) (devi
     pub free_is : (i : ℕ) (solo : SoloData) → At devices i solo → solo.held ≡ None
     free_is i solo at = (device_of None i solo is at).2.held
 
+    pub chosen : (i key : ℕ) (solo : SoloData) → i < length script.targets → key < length (keys_of script) → solo ≡ get_or devices i solo → Chosen script devices i key solo
+    chosen i key solo inside named read =
+        let at = at_read devices i solo (let many = is.count in omega (arith, inside, many)) read in
+        let of = device_of None i solo is at in
+        let k = at_exists (keys_of script) key named in record {
+          solo_at = at;
+          target = of.0;
+          target_at = of.1;
+          of = of.2;
+          k = k.0;
+          is_key = k.1;
+          valid = valid_key script key k.0 is.rules k.1;
+        }
+
+    pub has_row : (i key : ℕ) (solo : SoloData) → Chosen script devices i key solo → key < length (keys_of script) → key < length solo.rows
+    has_row i key solo it inside =
+        let rows : length solo.rows ≡ length (keys_of script) = ap length it.of.rows ∙ length-map (keys_of script) (row_of_key (capabilities_of it.target.caps)) in
+        omega (arith, inside, rows)
+
+    pub caps_is : (i : ℕ) (target : Target) (cap : Capabilities) → At script.targets i target → cap ≡ get_or caps i cap → cap ≡ capabilities_of target.caps
+    caps_is i target cap target_at read =
+        read ∙ get_or_from_slice_get caps i (capabilities_of target.caps) cap
+        (subst (λ l. At l i (capabilities_of target.caps)) (sym is.caps_are) (at_map (λ (t : Target). capabilities_of t.caps) script.targets i target target_at))
+
     -- the room that is left of a device's journal
     pub has_spare : (i n : ℕ) (solo : SoloData) → At devices i solo → length (list_at (map journal_in devices) i) + n ≤ max_events → HasSpare solo n
     has_spare i n solo at room =
         let journal : length (list_at (map journal_in devices) i) ≡ length solo.journal = ap length (list_at_map journal_in devices i solo at ∙ free_journal solo (free_is i solo at)) in
         let quota = (device_of None i solo is at).2.quota in
         omega (arith, journal, room, quota)
+
+    -- a key may be taken out of each device
+    pub may_evict : (key : ℕ) → key < length (keys_of script) → ((i : ℕ) → i < length script.targets → length (list_at (map journal_in devices) i) + 1 ≤ max_events) → Each (MayEvict key) devices
+    may_evict key inside room = all_by_place (MayEvict key) devices (λ k solo at.
+        let of = device_of None k solo is at in
+        let below = at_below script.targets k of.0 of.1 in record {
+          free = of.2.held;
+          row =
+              let rows : length solo.rows ≡ length (keys_of script) = ap length of.2.rows ∙ length-map (keys_of script) (row_of_key (capabilities_of of.0.caps)) in
+              omega (arith, inside, rows);
+          spare = has_spare k 1 solo at (room k below);
+        })
+
+    pub evict_uses : (key : ℕ) → map journal_in (map (evicted key) devices) ≡ used_each script (uses.Evict (record { 0 = key })) (map journal_in devices)
+    evict_uses key = use_of_each script key 0 devices (λ k solo at.
+        let of = device_of None k solo is at in
+        let none_before : k ≡ 0 + k = omega arith in
+        subst (λ d. IsFree script d solo) none_before (of.2.count ∙ sym (slots_are script k of.0 of.1), of.2.held))
 
     -- a section begins
     pub begin_keeps : IsKeyslots script stack caps devices ciphers devices None

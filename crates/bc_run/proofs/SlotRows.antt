@@ -1,5 +1,6 @@
 -- The row of an inline key is its entry, which every device reads as the key's cipher. And the stack of a script's devices.
-use Rattle.std.proofs.Common.{◌≡◌, ◌≢◌, ℕ, zero, suc, ◌+◌, ◌<◌, ◌≤◌, Bool, true, false, cond, List, [], ◌∷◌, ◌++◌, length, map, get_or, refl, sym, ap, subst, ◌∙◌, arith, Option, Some, None, Ok, All}
+use Rattle.std.proofs.Common.{◌≡◌, ◌≢◌, ℕ, zero, suc, ◌+◌, ◌<◌, ◌≤◌, Bool, true, false, cond, List, [], ◌∷◌, ◌++◌, length, map, get_or, refl, sym, ap, subst, ◌∙◌, arith, Option, Some, None, Result, Ok, All}
+use Rattle.std.specs.Result.{result_ok}
 use Rattle.std.specs.Prelude.{◌==◌, ◌&&◌, nat_lt, nat_le, slice_get, position, IfSome, IsSomeAnd, IsOk, unwrap_or, bit_and}
 use Rattle.std.specs.List.{list_all, position_or_len}
 use Rattle.std.specs.Option.{option_map, option_map_or}
@@ -20,7 +21,7 @@ use Rattle.bc_key.specs.KeyData.{KeyData, IsValid}
 use Rattle.bc_modes.specs.declared.ufs_caps.Capability.{Capability}
 use Rattle.bc_modes.specs.Capabilities.{Capabilities, capabilities_of, present, serves, index_for}
 use Rattle.bc_modes.specs.Entries.{entry_words, entry_bytes, words_of_bytes, read_words}
-use Rattle.bc_modes.specs.UnitCipher.{parts_of}
+use Rattle.bc_modes.specs.UnitCipher.{CipherParts, parts_of}
 use Rattle.bc_modes.specs.Laws.{EntriesReadBack}
 use Rattle.bc_stack.specs.declared.target.Target.{Target}
 use Rattle.bc_stack.specs.Devices.{all_support, end_of_target}
@@ -33,7 +34,7 @@ use Rattle.bc_profile.specs.Programmings.{Holds}
 use Rattle.bc_profile.specs.Solo.{SoloData, row_in}
 use Rattle.bc_script.specs.Script.{Script, keys_of}
 use Rattle.bc_script.specs.Bios.{is_inline}
-use Rattle.bc_run.specs.Keyslots.{row_of_key, rows_of}
+use Rattle.bc_run.specs.Keyslots.{SlotCipherData, KeepsTo, row_of_key, rows_of}
 use Rattle.bc_run.proofs.Lists.{at_map}
 
 -- ---- which keys a device supports
@@ -157,3 +158,16 @@ no_refusal targets blocks Memory is refusal other = other refl
 no_refusal targets blocks Gap is refusal other = none-some Gap (sym (passes targets blocks is) ∙ refusal)
 no_refusal targets blocks Empty is refusal other = none-some Empty (sym (passes targets blocks is) ∙ refusal)
 no_refusal targets blocks TooMany is refusal other = none-some TooMany (sym (passes targets blocks is) ∙ refusal)
+
+-- ---- the cipher that is kept
+
+same_Ok : {E : Type 0} (x y : CipherParts) → (one : Result CipherParts E) → one ≡ Ok x → one ≡ Ok y → x ≡ y
+same_Ok {E} x y one first second = same_Some x y (ap (λ (r : Result CipherParts E). result_ok r) (sym first ∙ second))
+
+-- the cipher of words that are read as a key's cipher
+pub kept_means : (caps own : Capabilities) (words : List ℕ) (kept : Option SlotCipherData) (k : KeyData) → caps ≡ own
+    → IsSomeAnd kept (λ c. (c.words ≡ words) × (read_words words caps ≡ Ok c.parts)) → read_words words caps ≡ Ok (parts_of k)
+    → KeepsTo own kept × IsSomeAnd kept (λ c. c.parts ≡ parts_of k)
+kept_means caps own words None k same has reads = absurd has
+kept_means caps own words (Some c) k same has reads =
+    (ap (λ w. read_words w own) has.0 ∙ ap (read_words words) (sym same) ∙ has.1, same_Ok c.parts (parts_of k) (read_words words caps) has.1 reads)

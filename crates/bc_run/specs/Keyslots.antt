@@ -130,6 +130,10 @@ pub record MayEvict (key : ℕ) (solo : SoloData) : Type 0 where
   pub row : key < length solo.rows
   pub spare : HasSpare solo 1
 
+-- no slot of the device has the key
+abbrev pub IsRidOf : ℕ → SoloData → Type 0
+IsRidOf key solo = InNoSlot (slots_in solo) key
+
 -- the device after a key was taken out
 abbrev pub evicted : ℕ → SoloData → SoloData
 evicted key solo = recorded solo (events_of_eviction (slots_in solo) key) None

@@ -12,7 +12,7 @@ ghost use Rattle.bc_script.specs.Script.{bare_keys, keys_of};
 ghost use Rattle.bc_modes.specs.Entries.{read_words};
 ghost use Rattle.bc_stack.specs.Devices.{device_at};
 ghost use Rattle.bc_base.specs.Lists.{Each};
-ghost use Rattle.bc_run.specs.Keyslots.{MayEvict, evicted, HasRoom, HaveNotKey, IsCipherOf, IsOpenFor, KeepsTo, Takes};
+ghost use Rattle.bc_run.specs.Keyslots.{IsRidOf, MayEvict, evicted, HasRoom, HaveNotKey, IsCipherOf, IsOpenFor, KeepsTo, Takes};
 ghost use Rattle.bc_run.specs.Keyslots.{row_of_key, is_open_for, used_at, used_each, via_of};
 ghost use Rattle.bc_run.specs.Standing.{HasBegun};
 
@@ -153,6 +153,7 @@ impl<'s> Keyslots<'s> {
         requires room { HasRoom self.old device 2 }
         ensures { Takes self.old self.new device key.0 }
     {
+        entry_laws();
         self.put();
         let number = usize::from(device);
         let (slot, event) = self.devices[number].hold(key);
@@ -279,7 +280,8 @@ const MAX_EVENTS: u32 = 2 * (MAX_UNITS + MAX_OPS);
 /// Takes the key out of the keyslots of each of these devices, on which no slot is held.
 fn evict_from(devices: &mut [Solo], key: KeyNo)
     requires { Each (MayEvict key.0) devices.old }
-    ensures { devices.new ≡ map (evicted key.0) devices.old }
+    ensures records { devices.new ≡ map (evicted key.0) devices.old }
+    ensures gone { Each (IsRidOf key.0) devices.new }
 {
     for device in devices.iter_mut() {
         device.evict(key);
