@@ -1,6 +1,6 @@
 -- What the calls on the keyslots of a script's devices keep of them.
-use Rattle.std.proofs.Common.{◌≡◌, ◌≢◌, ℕ, zero, suc, ◌+◌, ◌<◌, ◌≤◌, Bool, true, false, cond, List, [], ◌∷◌, ◌++◌, length, map, take, drop, get_or, refl, sym, ap, subst, ◌∙◌, arith, Option, Some, None}
-use Rattle.std.specs.Prelude.{◌==◌, slice_get, slice_set, IfSome, IsSomeAnd, is_some, unwrap_or, ◌^◌, fold}
+use Rattle.std.proofs.Common.{◌≡◌, ◌≢◌, ℕ, zero, suc, ◌+◌, ◌<◌, ◌≤◌, Bool, cond, List, [], ◌∷◌, ◌++◌, length, map, take, drop, get_or, refl, sym, ap, subst, ◌∙◌, arith, Option, Some, None}
+use Rattle.std.specs.Prelude.{slice_get, slice_set, IsSomeAnd, is_some, unwrap_or, ◌^◌}
 use Rattle.std.specs.List.{AllByRecursion, enumerate_from}
 use Rattle.std.specs.Option.{option_map_or}
 use Rattle.std.proofs.Math.Logic.{⊎_elim}
@@ -21,7 +21,7 @@ use Rattle.bc_profile.specs.declared.uses.Use.{Use}
 use Rattle.bc_profile.specs.declared.uses.Use.TheVariants as uses
 use Rattle.bc_profile.specs.SlotJournal.{Slots, opening, after_event, after_events, slots_after, key_of}
 use Rattle.bc_profile.specs.OneCaller.{events_of_use, events_of_hold, events_of_eviction, journal_of, slot_with, slot_for, first_idle}
-use Rattle.bc_profile.specs.Programmings.{Holds, last_programming}
+use Rattle.bc_profile.specs.Programmings.{Holds}
 use Rattle.bc_profile.specs.Solo.{SoloData, HasSpare, recorded, slots_of as slots_in}
 use Rattle.bc_profile.proofs.KeyLemmas.{last_push, slots_push, same_count, key_inside, slot_has}
 use Rattle.bc_script.specs.Script.{Script, IsScript, IsDevice, IsNamedKey, keys_of}

@@ -1,23 +1,21 @@
 -- The keyslots of a script's devices as they are opened, and as they are closed.
-use Rattle.std.proofs.Common.{◌≡◌, ◌≢◌, ℕ, zero, suc, ◌+◌, ◌<◌, ◌≤◌, List, [], ◌∷◌, ◌++◌, length, map, take, drop, refl, sym, ap, subst, ◌∙◌, arith, Option, Some, None}
-use Rattle.std.specs.Prelude.{slice_get, ◌^◌, replicate}
-use Rattle.std.specs.List.{AllZip, AllByRecursion}
-use Rattle.std.proofs.lemmas.Option.{none-some, same_Some}
+use Rattle.std.proofs.Common.{◌≡◌, ℕ, zero, suc, ◌<◌, List, [], ◌∷◌, length, map, refl, sym, ap, subst, ◌∙◌, arith, Option, None}
+use Rattle.std.specs.Prelude.{replicate}
+use Rattle.std.specs.List.{AllByRecursion}
+use Rattle.std.proofs.lemmas.Option.{same_Some}
 use Rattle.std.proofs.lemmas.List.{append-nil, length-map, length-replicate}
 use Rattle.bc_base.specs.Lists.{Each, At, AllAt, list_at}
-use Rattle.bc_base.specs.Story.{StartsWith}
 use Rattle.bc_modes.specs.Capabilities.{Capabilities, capabilities_of}
 use Rattle.bc_stack.specs.declared.target.Target.{Target}
-use Rattle.bc_profile.specs.declared.event.Event.{Event}
 use Rattle.bc_profile.specs.SlotJournal.{IsLawful}
 use Rattle.bc_profile.specs.Solo.{SoloData, opened}
 use Rattle.bc_report.specs.LawfulRun.{HaveLawfulJournals}
 use Rattle.bc_report.specs.Report.{IsEvent, IsPart}
-use Rattle.bc_script.specs.Script.{Script, IsScript, keys_of}
+use Rattle.bc_script.specs.Script.{Script, IsScript}
 use Rattle.bc_stack.specs.Targets.{StackParts}
 use Rattle.bc_run.specs.Keyslots.{SlotCipherData, KeepsTo, IsKeyslotsOf, IsKeyslots, journal_in, rows_of, max_events}
-use Rattle.bc_run.proofs.Lists.{at_of_map, map-map, at_exists}
-use Rattle.bc_run.proofs.KeptSlots.{at_below, free_is, free_journal, device_of}
+use Rattle.bc_run.proofs.Lists.{at_of_map, map-map}
+use Rattle.bc_run.proofs.KeptSlots.{free_is, free_journal, device_of}
 
 -- ---- opening
 

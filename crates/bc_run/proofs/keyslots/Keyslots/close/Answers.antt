@@ -1,4 +1,4 @@
-use Rattle.std.proofs.Common.{◌≡◌, ◌∙◌, map, map-id, sym, ap, subst, rules}
+use Rattle.std.proofs.Common.{◌∙◌, map, map-id, sym, ap, subst, rules}
 use Rattle.std.proofs.lemmas.Iterator.Adapters.{YieldsList-from_vec}
 use Rattle.std.proofs.lemmas.Iterator.Consumers.{YieldsList-end}
 use Rattle.bc_base.specs.Lists.{Each}

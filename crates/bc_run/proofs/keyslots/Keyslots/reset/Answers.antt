@@ -1,14 +1,13 @@
-use Rattle.std.proofs.Common.{◌≡◌, ◌∙◌, ◌+◌, ◌≤◌, ◌<◌, List, length, map, sym, ap, subst, get_or, refl, arith, Option, None, Some, [], ◌∷◌}
+use Rattle.std.proofs.Common.{◌≡◌, ◌∙◌, ◌+◌, ◌≤◌, ◌<◌, List, length, map, sym, ap, subst, get_or, refl, arith, Option, None, [], ◌∷◌}
 use Rattle.std.specs.Prelude.{slice_set}
 use Rattle.bc_base.specs.Lists.{At, list_at}
 use Rattle.bc_profile.specs.declared.event.Event.{Event}
 use Rattle.bc_profile.specs.declared.event.Event.TheVariants as events
 use Rattle.bc_profile.specs.declared.uses.Use.TheVariants as uses
-use Rattle.bc_profile.specs.Solo.{SoloData}
 use Rattle.bc_run.specs.declared.open_hold.OpenHold.{OpenHold}
 use Rattle.bc_run.specs.Keyslots.{KeyslotsData, IsKeyslots, HasRoom, journal_in, used_at, max_events}
 use Rattle.bc_run.proofs.Lists.{list_at_map}
-use Rattle.bc_run.proofs.KeptSlots.{at_read, free_is, has_spare, free_journal, next_keeps, use_of_one, device_of}
+use Rattle.bc_run.proofs.KeptSlots.{at_read, free_is, has_spare, next_keeps, use_of_one, device_of}
 use Rattle.bc_run.proofs.keyslots.Keyslots.reset.Goals as goal
 
 pub reset-requires-clause-free : goal.reset-requires-clause-free
