@@ -365,7 +365,7 @@ module _ (script : Script) (rules : IsScript script) (image : List ℕ) (n : ℕ
           let target = at_exists script.targets device inside in
           sym (events_at v1.thread v1.begun v1.journals has device) ∙ made_uses.journals device inside
           ∙ ap (λ (n : ℕ). journal_of (opening n) (map (λ u. u.use') (uses_of script device))) (slots_at script.targets device target.0 target.1)
-          ∙ sym (numbered_at (serial_journal script) 0 script.targets device target.0 target.1))
+          ∙ ap (λ (n : ℕ). serial_journal script (n, target.0)) (zero_first device) ∙ sym (numbered_at (serial_journal script) 0 script.targets device target.0 target.1))
           (λ (outside : length script.targets ≤ device).
           let one = zip_length (λ target events. IsLawful target.slots events) script.targets v1.journals lawful in
           let other = length_numbered (serial_journal script) 0 script.targets in
@@ -375,6 +375,9 @@ module _ (script : Script) (rules : IsScript script) (image : List ℕ) (n : ℕ
           all_from_in (NamesItsHold script) (made_of t)
           (λ e at. names_its_hold script e e.via (all_at (λ e. NamesUse script (λ device. []) (uses_of script) e e.via) (flat_map (λ es. es) done.made) e made_uses.holds (in_one done.made t e at)));
     }
+      where
+        zero_first : (n : ℕ) → n ≡ 0 + n
+        zero_first n = omega arith
 
     pub are_sections : AreSectionsOf script image n report left made_of orders done.stories
     are_sections = record {
