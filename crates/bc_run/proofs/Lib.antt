@@ -1,5 +1,4 @@
 pub mod Lists
-pub mod NoDevices
 pub mod Growing
 pub mod Carrying
 pub mod Attempting
