@@ -1,6 +1,6 @@
 //! Scripts that are carried out. What they answer and list follows from the rules of scripts; the digests of what is
-//! read and left were made by another implementation of both modes, Python's `cryptography`, and the reports of devices by a model in
-//! Python.
+//! read and left were made by another implementation of both modes, Python's `cryptography`, and the reports of devices by
+//! a model in Python.
 
 ghost use Rattle.std.specs.Prelude.{◌≤◌};
 
@@ -431,8 +431,8 @@ fn faults_meet_their_own_shard_and_place(rt: HostRuntime) -> Result<(), Fail> {
 
 // ---- devices
 
-// Three keys for two slots: the least recently idle slot is programmed, an eviction empties a slot and leaves the order, a plug is
-// submitted before one, and a reset programs the slots again.
+// Three keys for two slots: the least recently idle slot is programmed, an eviction empties a slot and leaves the order, what
+// is plugged is submitted before one, and a reset programs the slots again.
 #[test]
 fn a_device_programs_its_least_recently_idle_slot(rt: HostRuntime) -> Result<(), Fail> {
     let report = report_of(
@@ -457,8 +457,8 @@ fn a_device_programs_its_least_recently_idle_slot(rt: HostRuntime) -> Result<(),
     Ok(())
 }
 
-// Two devices that support two of three keys: a request across their border takes a hold on each, one that meets a fault still takes
-// its holds, and the third key is left to the fallback. With two shards.
+// Two devices that support two of three keys: a request across their border takes a hold on each, one that meets a fault
+// takes its holds too, and the third key is left to the fallback. With two shards.
 #[test]
 fn a_request_has_a_hold_for_each_piece(rt: HostRuntime) -> Result<(), Fail> {
     let finished = finished(
