@@ -6,12 +6,14 @@ pub mod Placing
 pub mod Ready
 pub mod Ordering
 pub mod Using
+pub mod Left
 pub mod Acting
 pub mod Reaching
 pub mod Stepping
 pub mod Windowing
 pub mod Stories
 pub mod Sectioning
+pub mod Submitting
 pub mod Turns
 pub mod Openings
 pub mod Beginning

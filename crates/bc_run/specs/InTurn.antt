@@ -9,6 +9,7 @@ use Rattle.bc_bio.specs.declared.extent.Extent.{Extent}
 use Rattle.bc_bio.specs.Extent.{sector_at}
 use Rattle.bc_bio.specs.BackRuns.{back_runs_on}
 use Rattle.bc_bio.specs.Chunks.{joins_last}
+use Rattle.bc_bio.specs.Conditions.{IsPlaced}
 use Rattle.bc_bio.specs.PlannedUnit.{PlannedUnit}
 use Rattle.bc_bio.specs.Windows.{TaggedBio, NamedUnit, joins, requests_of, units_of_request}
 use Rattle.bc_key.specs.declared.keys.KeyNo.{KeyNo}
@@ -150,18 +151,20 @@ pub record AttemptsOn (old new : CourseData) (u : PlannedUnit) (answer : UnitAns
 
 -- ---- bios
 
--- a bio may follow these in a window: where it doesn't run on from the last one, no hold is open
-abbrev pub MayFollow : Script → List TaggedBio → TaggedBio → Option OpenHold → Type 0
-MayFollow script done next opened =
-    joins_last (joins (keys_of script)) (last_request script done) next ≡ false → opened ≡ None
+-- A bio may follow these in a window, behind which a hold was open or none was: where it runs on from the last one, that hold is
+-- open still, and else none is.
+pub record MayFollow (script : Script) (done : List TaggedBio) (next : TaggedBio) (was opened : Option OpenHold) : Type 0 where
+  pub goes_on : joins_last (joins (keys_of script)) (last_request script done) next ≡ true → opened ≡ was
+  pub starts : joins_last (joins (keys_of script)) (last_request script done) next ≡ false → opened ≡ None
 
 -- a bio was performed, and in a window its entries and holds come after those of the bios before it
 pub record PerformsBio (old new : CourseData) (op : ℕ) (operation : Op) (bio : Extent) (answer : Answer) : Type 0 where
   pub carries : CarriesOne (standing.device_of old) (standing.device_of new) (op, operation) answer
   pub same : new ≡ record old { shards = new.shards; left = new.left; journals = new.journals; opened = new.opened }
-  pub turn : (start : CourseData) (done : List TaggedBio) (made : List Entry)
-      → Each (λ tagged. tagged.tag < op) done → MayFollow start.script done (part_of op bio bio.units) old.opened
-      → InTurn start old done made
+  pub turn : (start : CourseData) (done : List TaggedBio) (was : Option OpenHold) (made : List Entry)
+      → Each (λ tagged. tagged.tag < op) done
+      → MayFollow start.script done (part_of op bio bio.units) was old.opened
+      → InTurn start (record old { opened = was }) done made
       → InTurn start new (done ++ part_of op bio bio.units ∷ []) (made ++ carries.made)
 
 -- an operation's bio was submitted in a window, where `last` is the bio before it
@@ -169,6 +172,7 @@ pub record Submits (old new : CourseData) (op : ℕ) (operation : Op) (last : Op
   pub mid : CourseData
   pub bio : Extent
   pub is_bio : bio_of operation ≡ Some bio
+  pub placed : IsPlaced (keys_of old.script) bio
   pub goes_on : option_map_or (λ first. back_runs_on (keys_of old.script) first bio) last false ≡ true → mid ≡ old
   pub starts : option_map_or (λ first. back_runs_on (keys_of old.script) first bio) last false ≡ false
       → mid ≡ record old { opened = None }

@@ -9,7 +9,7 @@ ghost use Rattle.bc_bio.specs.Conditions.{HasKey, IsPlaced};
 ghost use Rattle.bc_bio.specs.BioUnits.{context_wrapped};
 ghost use Rattle.bc_medium.specs.KeyedDisk.{enciphered, deciphered};
 ghost use Rattle.bc_script.specs.declared.op.Op.{Op};
-ghost use Rattle.bc_script.specs.Script.{keys_of, IsText, max_bio_units, max_bio_sectors};
+ghost use Rattle.bc_script.specs.Script.{keys_of, IsScript, IsText, max_bio_units, max_bio_sectors};
 ghost use Rattle.bc_script.specs.Bios.{refusal_of, unsupported_of};
 ghost use Rattle.bc_script.specs.Plan.{unit_at};
 ghost use Rattle.bc_run.specs.Standing.{IsPerformable, HasEntries, HasBegun, EvictsKey, ResetsDevice, answer_of_write, answer_of_read, at_of};
@@ -103,6 +103,14 @@ impl Course<'_> {
         ensures { HasBegun self.now.begun self.now.journals }
     {
         self.keyslots.has_begun();
+    }
+
+    /// Does nothing, and states that the script keeps its rules, and that each device has a journal.
+    pub(crate) fn has_devices(&self)
+        ensures rules { IsScript self.now.script }
+        ensures devices { length self.now.journals ≡ length self.now.script.targets }
+    {
+        self.keyslots.has_devices();
     }
 
     /// Why a bio is refused, if it is.

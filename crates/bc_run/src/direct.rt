@@ -97,6 +97,7 @@ impl Device<(), AllocError> for Direct<'_> {
     ) -> Result<(), AllocError> {
         order_laws();
         self.course.has_begun();
+        self.course.has_devices();
         self.course.put();
         let mut last = None;
         for op in window {

@@ -110,6 +110,13 @@ impl<'s> Keyslots<'s> {
         let _ = &self.devices;
     }
 
+    /// Does nothing, and states that each device has a journal.
+    pub(crate) fn has_devices(&self)
+        ensures { length self.now.journals ≡ length self.now.script.targets }
+    {
+        let _ = &self.devices;
+    }
+
     /// Whether the key goes inline: each device supports it.
     pub(crate) fn is_inline(&self, key: KeyNo) -> bool
         requires { key.0 < length (keys_of self.now.script) }
