@@ -24,3 +24,6 @@ pub mod EqualParts
 pub mod Texts
 pub mod Complete
 pub mod Ends
+pub mod KeptSlots
+pub mod SlotRows
+pub mod OpenedSlots
