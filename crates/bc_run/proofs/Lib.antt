@@ -24,6 +24,12 @@ pub mod EqualParts
 pub mod Texts
 pub mod Complete
 pub mod Ends
+pub mod Chunks
+pub mod Ascending
+pub mod Holding
+pub mod Counting
+pub mod Evicting
 pub mod KeptSlots
 pub mod SlotRows
+pub mod TakenOut
 pub mod OpenedSlots

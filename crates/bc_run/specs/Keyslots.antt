@@ -22,6 +22,7 @@ use Rattle.bc_profile.specs.declared.uses.Use.TheVariants as uses
 use Rattle.bc_profile.specs.Programmings.{Holds}
 use Rattle.bc_profile.specs.Rows.{cleared}
 use Rattle.bc_profile.specs.OneCaller.{events_of_eviction}
+use Rattle.bc_profile.specs.SlotJournal.{InNoSlot, slots_after}
 use Rattle.bc_profile.specs.Solo.{SoloData, HasSpare, recorded, slots_of as slots_in}
 use Rattle.bc_script.specs.Script.{Script, IsScript, keys_of, max_ops, max_units}
 use Rattle.bc_report.specs.Report.{IsEvent}
@@ -78,6 +79,11 @@ abbrev pub used_each : Script → Use → List (List Event) → List (List Event
 used_each script use' journals =
     map (λ at. after_uses script at.0 at.1 (record { use' = use'; units = [] } ∷ [])) (enumerate_from 0 journals)
 
+-- no slot of a device has the key
+abbrev pub HaveNotKey : Script → List (List Event) → ℕ → Type 0
+HaveNotKey script journals key = (device : ℕ) → device < length script.targets
+    → InNoSlot (slots_after (slots_of script device) (list_at journals device)) key
+
 -- a hold of the key was taken on the device: the open one is that hold
 pub record Takes (old new : KeyslotsData) (device key : ℕ) : Type 0 where
   pub slot : ℕ
@@ -123,6 +129,10 @@ pub record MayEvict (key : ℕ) (solo : SoloData) : Type 0 where
   pub free : solo.held ≡ None
   pub row : key < length solo.rows
   pub spare : HasSpare solo 1
+
+-- no slot of the device has the key
+abbrev pub IsRidOf : ℕ → SoloData → Type 0
+IsRidOf key solo = InNoSlot (slots_in solo) key
 
 -- the device after a key was taken out
 abbrev pub evicted : ℕ → SoloData → SoloData

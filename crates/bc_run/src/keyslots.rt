@@ -12,7 +12,7 @@ ghost use Rattle.bc_script.specs.Script.{bare_keys, keys_of};
 ghost use Rattle.bc_modes.specs.Entries.{read_words};
 ghost use Rattle.bc_stack.specs.Devices.{device_at};
 ghost use Rattle.bc_base.specs.Lists.{Each};
-ghost use Rattle.bc_run.specs.Keyslots.{MayEvict, evicted, HasRoom, IsCipherOf, IsOpenFor, KeepsTo, Takes, row_of_key, is_open_for, used_at, used_each, via_of};
+ghost use Rattle.bc_run.specs.Keyslots.{IsRidOf, MayEvict, evicted, HasRoom, HaveNotKey, IsCipherOf, IsOpenFor, KeepsTo, Takes, row_of_key, is_open_for, used_at, used_each, via_of};
 ghost use Rattle.bc_run.specs.Standing.{HasBegun};
 
 use crate::open_hold::OpenHold;
@@ -233,10 +233,11 @@ impl<'s> Keyslots<'s> {
     pub(crate) fn evict(&mut self, key: KeyNo)
         requires key { key.0 < length (keys_of self.old.script) }
         requires room { (device : ℕ) → device < length self.old.script.targets → HasRoom self.old device 1 }
-        ensures { self.new ≡ record self.old {
+        ensures records { self.new ≡ record self.old {
           journals = used_each self.old.script (uses.Evict key) self.old.journals;
           opened = None;
         } }
+        ensures gone { HaveNotKey self.old.script self.new.journals key.0 }
     {
         self.put();
         evict_from(&mut self.devices, key);
@@ -278,7 +279,8 @@ const MAX_EVENTS: u32 = 2 * (MAX_UNITS + MAX_OPS);
 /// Takes the key out of the keyslots of each of these devices, on which no slot is held.
 fn evict_from(devices: &mut [Solo], key: KeyNo)
     requires { Each (MayEvict key.0) devices.old }
-    ensures { devices.new ≡ map (evicted key.0) devices.old }
+    ensures records { devices.new ≡ map (evicted key.0) devices.old }
+    ensures gone { Each (IsRidOf key.0) devices.new }
 {
     for device in devices.iter_mut() {
         device.evict(key);
