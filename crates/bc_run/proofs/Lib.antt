@@ -13,6 +13,7 @@ pub mod Stepping
 pub mod Windowing
 pub mod Stories
 pub mod Sectioning
+pub mod Following
 pub mod Submitting
 pub mod Turns
 pub mod Openings
