@@ -131,14 +131,14 @@ module _ (script : Script) (rules : IsScript script) (image : List ℕ) (n : ℕ
       → IsBegun script image n (record { script = script; shards = shards'; thread = 0; left = most; journals = journals; begun = begun; opened = opened })
   is_begun shards' journals begun opened same unused closed = subst
       (λ l. IsBegun script image n (record { script = script; shards = l; thread = 0; left = most; journals = journals; begun = begun; opened = opened })) (sym same) (record {
-    script_is = refl;
-    shards_are = long;
-    untouched = untouched stores n most;
-    opening = opening;
-    unused = unused;
-    closed = closed;
-    left = refl;
-  })
+        script_is = refl;
+        shards_are = long;
+        untouched = untouched stores n most;
+        opening = opening;
+        unused = unused;
+        closed = closed;
+        left = refl;
+      })
 
 -- no journal has an event yet
 pub no_event : (script : Script) (journals : List (List Event)) → journals ≡ map (λ target. []) script.targets → (device : ℕ) → list_at journals device ≡ []

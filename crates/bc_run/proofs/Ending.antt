@@ -20,8 +20,8 @@ use Rattle.bc_medium.specs.declared.via.Via.{Via}
 use Rattle.bc_medium.specs.declared.via.Via.TheVariants as vias
 use Rattle.bc_bio.specs.declared.context.Context.{Context}
 use Rattle.bc_profile.specs.declared.event.Event.{Event}
-use Rattle.bc_profile.specs.declared.uses.Use.TheVariants as uses
-use Rattle.bc_profile.specs.SlotJournal.{opening}
+use Rattle.bc_profile.specs.declared.uses.Use.TheVariants as made
+use Rattle.bc_profile.specs.SlotJournal.{opening, IsLawful}
 use Rattle.bc_profile.specs.OneCaller.{journal_of}
 use Rattle.bc_profile.specs.Programmings.{last_programming}
 use Rattle.bc_profile.specs.Story.{events_of}
@@ -165,7 +165,7 @@ names_its_hold : (script : Script) (e : Entry) (via : Via) → NamesUse script (
 names_its_hold script e vias.Plain is = tt
 names_its_hold script e vias.Soft is = tt
 names_its_hold script e (vias.Inline device slot event) is =
-    let hold : DeviceUse = record { use' = uses.Hold is.under.key; units = is.units } in
+    let hold : DeviceUse = record { use' = made.Hold is.under.key; units = is.units } in
     let done : List DeviceUse = is.before ++ hold ∷ [] in
     let inside = holds_within script device (after_uses script device [] done) is.under.key.0 slot event is.holds in
     let target = at_exists script.targets device inside in
@@ -179,11 +179,11 @@ names_its_hold script e (vias.Inline device slot event) is =
 
 -- ---- lists
 
-zip_length : {X Y : Type 0} {R : X → Y → Type 0} (xs : List X) (ys : List Y) → AllZip R xs ys → length ys ≡ length xs
-zip_length [] [] all = refl
-zip_length [] (y ∷ ys) all = absurd all
-zip_length (x ∷ xs) [] all = absurd all
-zip_length (x ∷ xs) (y ∷ ys) all = ap suc (zip_length xs ys all.1)
+zip_length : {X Y : Type 0} (R : X → Y → Type 0) (xs : List X) (ys : List Y) → AllZip R xs ys → length ys ≡ length xs
+zip_length R [] [] all = refl
+zip_length R [] (y ∷ ys) all = absurd all
+zip_length R (x ∷ xs) [] all = absurd all
+zip_length R (x ∷ xs) (y ∷ ys) all = ap suc (zip_length R xs ys all.1)
 
 length_numbered : {X Y : Type 0} (f : ℕ × X → Y) (n : ℕ) (xs : List X) → length (map f (enumerate_from n xs)) ≡ length xs
 length_numbered f n [] = refl
@@ -307,7 +307,7 @@ module _ (script : Script) (rules : IsScript script) (image : List ℕ) (n : ℕ
   module _ (left : List ℕ) (left_long : length left ≡ 4096 * script.blocks)
       (left_is : (s : ℕ) → s < 8 * script.blocks → AllAt stores (shard_of (length stores) s) (λ store. image_sectors left s ≡ contents store s))
       (lines : List (List Line)) (lines_are : lines ≡ map (map line_of) orders) (lines_fit : Each (IsPart IsEntry) lines)
-      (lawful : HaveLawfulJournals script.targets v1.journals) (events_fit : Each (IsPart IsEvent) v1.journals) where
+      (have_lawful : HaveLawfulJournals keyslots.script.targets v1.journals) (events_fit : Each (IsPart IsEvent) v1.journals) where
     abbrev report : Report
     report = record { threads = answers; shards = lines; devices = v1.journals }
 
@@ -340,6 +340,9 @@ module _ (script : Script) (rules : IsScript script) (image : List ℕ) (n : ℕ
             none_behind : (r : RamData) (s : ℕ) → 8 * r.blocks ≤ s → owns r s ≡ false
             none_behind r s le = and_right (shard_of r.shards s == r.shard) (nat_lt (s / 8) r.blocks) (false_from_ne_true (nat_lt (s / 8) r.blocks) (λ t. let lt = ltb-true (s / 8) r.blocks t in absurd (omega arith)))
 
+    lawful : HaveLawfulJournals script.targets v1.journals
+    lawful = subst (λ (s : Script). HaveLawfulJournals s.targets v1.journals) (course.same_script ∙ script_is) have_lawful
+
     journals_are : map events_of done.stories ≡ v1.journals
     journals_are = done.journals ∙ events_are v1.thread v1.begun v1.journals has
 
@@ -356,15 +359,15 @@ module _ (script : Script) (rules : IsScript script) (image : List ℕ) (n : ℕ
     pub uses : AreUses script (length script.threads) made_of done.stories
     uses = record {
       journals_are = journals_are ∙ same_by_places v1.journals (map (serial_journal script) (enumerate_from 0 script.targets))
-          (zip_length script.targets v1.journals lawful ∙ sym (length_numbered (serial_journal script) 0 script.targets))
+          (zip_length (λ target events. IsLawful target.slots events) script.targets v1.journals lawful ∙ sym (length_numbered (serial_journal script) 0 script.targets))
           (λ device. ⊎_elim
           (λ (inside : device < length script.targets).
           let target = at_exists script.targets device inside in
           sym (events_at v1.thread v1.begun v1.journals has device) ∙ made_uses.journals device inside
           ∙ ap (λ (n : ℕ). journal_of (opening n) (map (λ u. u.use') (uses_of script device))) (slots_at script.targets device target.0 target.1)
-          ∙ sym (numbered_at (serial_journal script) 0 script.targets device target.0 target.1))
+          ∙ ap (λ (n : ℕ). serial_journal script (n, target.0)) (zero_first device) ∙ sym (numbered_at (serial_journal script) 0 script.targets device target.0 target.1))
           (λ (outside : length script.targets ≤ device).
-          let one = zip_length script.targets v1.journals lawful in
+          let one = zip_length (λ target events. IsLawful target.slots events) script.targets v1.journals lawful in
           let other = length_numbered (serial_journal script) 0 script.targets in
           list_at_past v1.journals device (omega arith) ∙ sym (list_at_past (map (serial_journal script) (enumerate_from 0 script.targets)) device (omega arith)))
           (cases_lt device (length script.targets)));
@@ -372,6 +375,9 @@ module _ (script : Script) (rules : IsScript script) (image : List ℕ) (n : ℕ
           all_from_in (NamesItsHold script) (made_of t)
           (λ e at. names_its_hold script e e.via (all_at (λ e. NamesUse script (λ device. []) (uses_of script) e e.via) (flat_map (λ es. es) done.made) e made_uses.holds (in_one done.made t e at)));
     }
+      where
+        zero_first : (n : ℕ) → n ≡ 0 + n
+        zero_first n = omega arith
 
     pub are_sections : AreSectionsOf script image n report left made_of orders done.stories
     are_sections = record {
@@ -402,7 +408,7 @@ module _ (script : Script) (rules : IsScript script) (image : List ℕ) (n : ℕ
     is_report = record {
       few_threads = let c : length script.threads ≤ max_threads = rules.threads.count in let a = done.each_answered in omega arith;
       few_shards = omega (arith, ap length lines_are, length-map orders (map line_of), ap length orders_are, length-map v1.shards (λ (s : ShardData RamData). s.entries), count);
-      few_devices = let c = rules.devices.stack.few in let z = zip_length script.targets v1.journals lawful in omega arith;
+      few_devices = let c = rules.devices.stack.few in let z = zip_length (λ target events. IsLawful target.slots events) script.targets v1.journals lawful in omega arith;
       answers = done.ranges;
       entries = lines_fit;
       events = events_fit;

@@ -248,7 +248,7 @@ sections_more a b d thread sections i answers answers' section told has has' tur
     ∙ ap (λ (n : ℕ). record start { seen = orders_of d.shards; noted = stories_of n d.begun d.journals; spare = d.left }) thread_is
     ∙ ap (λ (l : List (List Event)). record start { seen = orders_of d.shards; noted = stories_of thread l d.journals; spare = d.left }) begun_is in
     let q1 = subst (λ (y : DeviceData). CarriesSection y new section told) start_is
-        (subst (λ (y : DeviceData). CarriesSection (device_of (record b { thread = thread; begun = b.journals; opened = None })) y section told) new_is q) in
+    (subst (λ (y : DeviceData). CarriesSection (device_of (record b { thread = thread; begun = b.journals; opened = None })) y section told) new_is q) in
     subst (λ (y : DeviceData). SectionsDone x y (take (i + 1) sections) answers') (sym new_is)
     (subst (λ l. SectionsDone x new l answers') (sym (take_next sections i section lt read))
     (subst (λ l. SectionsDone x new (take i sections ++ section ∷ []) l) (sym grown)

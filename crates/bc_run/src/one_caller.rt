@@ -76,7 +76,9 @@ pub fn serial(
     let answers = carry_sections_out(alloc, &mut direct, script.threads())?;
     let Direct { course, .. } = direct;
     let Course {
-        shards, keyslots, ..
+        shards,
+        keyslots,
+        ..
     } = course;
     let devices = keyslots.close(alloc)?;
     let (stores, orders) = shards.close();

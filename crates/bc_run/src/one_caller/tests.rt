@@ -1,5 +1,6 @@
 //! Scripts that are carried out. What they answer and list follows from the rules of scripts; the digests of what is
-//! read and left were made by another implementation of both modes, Python's `cryptography`.
+//! read and left were made by another implementation of both modes, Python's `cryptography`, and the reports of devices by
+//! a model in Python.
 
 ghost use Rattle.std.specs.Prelude.{◌≤◌};
 
