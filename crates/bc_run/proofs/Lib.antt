@@ -25,3 +25,6 @@ pub mod Using
 pub mod Pieces
 pub mod Splitting
 pub mod Turning
+pub mod OnDevice
+pub mod WindowNames
+pub mod TurningUnits
