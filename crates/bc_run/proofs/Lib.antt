@@ -13,6 +13,7 @@ pub mod Acting
 pub mod Reaching
 pub mod Stepping
 pub mod Windowing
+pub mod Following
 pub mod Submitting
 pub mod Turns
 pub mod Openings

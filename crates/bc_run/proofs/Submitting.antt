@@ -1,6 +1,6 @@
 -- What the end of a window tells: its bios were submitted.
 use Rattle.std.proofs.Common.{◌≡◌, ℕ, zero, suc, ◌+◌, ◌<◌, ◌≤◌, ◌⊎◌, inl, inr, Bool, true, false, cond, List, [], ◌∷◌, ◌++◌, length, map, drop, append_assoc, refl, sym, ap, subst, ◌∙◌, arith, Option, Some, None}
-use Rattle.std.specs.Prelude.{◌==◌, ◌||◌, filter_map, count_by, slice_get, IfSome, IsSomeAnd, IsTrue, position, unwrap_or, option_and_then, option_map}
+use Rattle.std.specs.Prelude.{◌==◌, filter_map, slice_get, IfSome, IsSomeAnd, IsTrue, position, unwrap_or, option_and_then, option_map}
 use Rattle.std.specs.Option.{option_map_or}
 use Rattle.std.specs.List.{AllByRecursion, cons_option, enumerate_from, last_or}
 use Rattle.std.proofs.Math.Logic.{⊎_elim}
@@ -8,7 +8,6 @@ use Rattle.std.proofs.Math.Seq.{drop-append_seam}
 use Rattle.std.proofs.lemmas.Bool.{true≢false, cases_lt, eqb-true}
 use Rattle.std.proofs.lemmas.List.{map-append}
 use Rattle.std.proofs.lemmas.List.Quantifiers.{position-Some}
-use Rattle.std.proofs.lemmas.List.Sums.{sum_by-cons}
 use Rattle.std.proofs.lemmas.Option.{none-some, same_Some}
 use Rattle.bc_base.specs.Lists.{Each, list_at}
 use Rattle.bc_base.specs.Story.{StartsWith}
@@ -31,26 +30,24 @@ use Rattle.bc_profile.specs.OneCaller.{events_of_use, journal_of}
 use Rattle.bc_profile.specs.Programmings.{Holds, last_programming, programming_at, programmings}
 use Rattle.bc_profile.specs.Story.{events_of, notes}
 use Rattle.bc_script.specs.declared.op.Op.{Op}
-use Rattle.bc_script.specs.declared.op.Op.TheVariants as ops
-use Rattle.bc_script.specs.Script.{Script, keys_of}
+use Rattle.bc_script.specs.Script.{Script, IsScript, keys_of}
 use Rattle.bc_script.specs.Bios.{is_inline}
 use Rattle.bc_script.specs.Way.{Way, plain, soft, inline, way_of}
 use Rattle.bc_script.specs.Windows as turns
 use Rattle.bc_report.specs.declared.answer.Answer.{Answer}
-use Rattle.bc_report.specs.Counts.{is_idle, is_programming_of, is_reset, is_reset_of, touches_any, touches_under}
-use Rattle.bc_report.specs.Evictions.{Eviction, count_answered, is_busy, is_busy_with, is_evict, names_before, names_busy, names_device}
 use Rattle.bc_report.specs.Programmings.{InlineEntry, Programs, entry_by}
 use Rattle.bc_report.specs.SerialRun.{DeviceUse, uses_of_turn}
 use Rattle.bc_report.specs.Ways.{way_in}
-use Rattle.bc_compose.specs.SectionDone.{Bounds, NamesOwn, SaysItsWay, inline_of, key_of_entry}
+use Rattle.bc_compose.specs.SectionDone.{NamesOwn, SaysItsWay, inline_of, key_of_entry}
 use Rattle.bc_compose.specs.Ordered.{GoesInline, HasHold, Held, Notes, slots_of}
 use Rattle.bc_run.specs.Keyslots.{stories_of}
 use Rattle.bc_run.specs.Sections.{Carries, journal_seen}
 use Rattle.bc_run.specs.Standing.{CourseData, HasBegun, device_of}
 use Rattle.bc_run.specs.Uses.{MakesUses, NamesOwnUse, NamesUse, after_uses, bios_of}
-use Rattle.bc_run.specs.Reached.{IsAcceptedBio, MayBePlugged, Submitted, numbered}
+use Rattle.bc_run.specs.Reached.{IsAcceptedBio, Submitted}
 use Rattle.bc_run.specs.InTurn.{InTurn}
 use Rattle.bc_run.proofs.Lists.{In, in_of_filter_map, list_at_past}
+use Rattle.bc_run.proofs.Counting.{window_bounds}
 use Rattle.bc_run.proofs.Reaching.{enumerated_at}
 use Rattle.bc_run.proofs.Stories.{GoOn, begun_more, course_journals, events_of_append, events_of_notes, seen_journals, stories_more, stories_note}
 
@@ -72,7 +69,7 @@ last_in o (y ∷ ys) x e =
 -- an event that programs a key does so in its slot
 programs_at : (key place slot event : ℕ) (e : Event) → programming_at key (place, e) ≡ Some (slot, event) → (place ≡ event) × Programs slot key e
 programs_at key place slot event (events.Program s k skipped) is =
-    (elim (k == key) as (λ (b : Bool). (k == key) ≡ b → cond b (Some (s, place)) None ≡ Some (slot, event) → (place ≡ event) × Programs slot key (events.Program s k skipped)) [
+    (elim (k == key) as (λ (b : Bool). (k == key) ≡ b → cond {A = Option (ℕ × ℕ)} b (Some (s, place)) None ≡ Some (slot, event) → (place ≡ event) × Programs slot key (events.Program s k skipped)) [
       | true ↦ λ same e. let pair : (s, place) ≡ (slot, event) = same_Some (s, place) (slot, event) e in (ap (λ (x : ℕ × ℕ). x.1) pair, (ap (λ (x : ℕ × ℕ). x.0) pair, eqb-true k key same))
       | false ↦ λ same e. absurd (none-some (slot, event) e)
     ]) refl is
@@ -132,57 +129,6 @@ way_inline script (Some under) sector device e =
           | None ↦ λ is. some
           | Some i ↦ λ is. (position-Some test (target ∷ targets) i target is).0
         ]) refl
-
--- ---- bounds
-
-pub accepted_all : (script : Script) (section : List Op) (os : List ℕ) → AllByRecursion (MayBePlugged script section) os → AllByRecursion (λ (x : ℕ × Op). IsAcceptedBio script x.1) (numbered section os)
-accepted_all script section [] all = tt
-accepted_all script section (o ∷ os) all =
-    (elim (slice_get section o) as (λ (p : Option Op). IsSomeAnd p (IsAcceptedBio script)
-    → AllByRecursion (λ (x : ℕ × Op). IsAcceptedBio script x.1) (option_map_or (λ operation. (o, operation) ∷ numbered section os) p (numbered section os))) [
-      | None ↦ λ is. absurd is
-      | Some operation ↦ λ is. (is, accepted_all script section os all.1)
-    ]) all.0
-
--- no bio is a reset
-no_resets : (script : Script) (device : ℕ) (acts : List (ℕ × Op)) → AllByRecursion (λ (x : ℕ × Op). IsAcceptedBio script x.1) acts → count_by (is_reset_of device) acts ≡ 0
-no_resets script device [] all = refl
-no_resets script device ((o, operation) ∷ acts) all =
-    sum_by-cons (λ (y : ℕ × Op). cond {A = ℕ} (is_reset_of device y) 1 0) (o, operation) acts
-    ∙ ap (λ (b : Bool). cond {A = ℕ} b 1 0 + count_by (is_reset_of device) acts) (none operation all.0)
-    ∙ plus (count_by (is_reset_of device) acts) ∙ no_resets script device acts all.1
-  where
-    plus : (n : ℕ) → 0 + n ≡ n
-    plus n = omega arith
-
-    none : (x : Op) → IsAcceptedBio script x → is_reset_of device (o, x) ≡ false
-    none (ops.Reset other) is = absurd is
-    none (ops.Evict key) is = refl
-    none (ops.Write context sector units text) is = refl
-    none (ops.Read context sector units) is = refl
-    none ops.Plug is = refl
-    none ops.Unplug is = refl
-
--- events that are bounded on the first devices, and none on the others
-bounds_within : (script : Script) (acts : List (ℕ × Op)) (n : ℕ) (f e : ℕ → List Event) → ((d : ℕ) → d < n → e d ≡ f d) → ((d : ℕ) → n ≤ d → e d ≡ [])
-    → ((d : ℕ) → count_by (is_reset_of d) acts ≡ 0) → Bounds script acts [] f → Bounds script acts [] e
-bounds_within script acts n f e same none resets b = record {
-  evicts = λ d k. at d (λ l. count_by (λ event. is_evict k event || is_busy k event) l ≤ count_by (λ (v : Eviction). v.key == k) []) (b.evicts d k) (omega arith);
-  busy = λ d k s r. none_answered k (names_busy d s r) (count_by (is_busy_with k s r) (e d));
-  further = λ d k. at d (λ l. count_by (is_busy k) l ≤ count_answered [] k (names_device d) + count_answered [] k (names_before d)) (b.further d k) (omega arith);
-  resets = λ d. at d (λ l. count_by is_reset l ≡ count_by (is_reset_of d) acts) (b.resets d) (sym (resets d));
-  programmings = λ d k. at d (λ l. count_by (is_programming_of k) l ≤ count_by (touches_under script d k) acts) (b.programmings d k) (nothing (count_by (touches_under script d k) acts));
-  idles = λ d. at d (λ l. count_by is_idle l ≤ count_by (touches_any script d) acts) (b.idles d) (nothing (count_by (touches_any script d) acts));
-}
-  where
-    nothing : (n : ℕ) → 0 ≤ n
-    nothing n = omega arith
-
-    none_answered : (key : ℕ) (test : Answer → Bool) (n : ℕ) → count_answered [] key test ≤ n
-    none_answered key test n = omega arith
-
-    at : (d : ℕ) (P : List Event → Type 0) → P (f d) → P [] → P (e d)
-    at d P here past = ⊎_elim (λ (lt : d < n). subst P (sym (same d lt)) here) (λ (ge : n ≤ d). subst P (sym (none d ge)) past) (cases_lt d n)
 
 -- ---- a window
 
@@ -312,7 +258,7 @@ module _ (start now : CourseData) (acts : List (ℕ × Op)) (told : List Answer)
       let under : w.0 ≡ n.under = same_Some w.0 n.under (sym w.1 ∙ n.has_context) in
       subst (λ (c : Option Context). IfSome (option_and_then (λ context. entry_by e.at.tag context (vias.Inline device slot event)) c) (HasHold script before after)) (sym n.has_context)
       (record {
-        is_inline = is_true (is_inline script n.under.key) (ap (λ (u : Context). is_inline script u.key) (sym under) ∙ w.2);
+        is_inline = ap (λ (u : Context). is_inline script u.key) (sym under) ∙ w.2;
         front = list_at before device ++ notes start.thread f.0;
         slot = slot;
         begins = (notes start.thread f.0, refl);
@@ -327,10 +273,6 @@ module _ (start now : CourseData) (acts : List (ℕ × Op)) (told : List Answer)
             ∙ ap (λ l. l ++ events_of (notes start.thread f.0)) (seen_journals start.thread start.begun start.journals has device)
             ∙ ap (λ l. old device ++ l) (events_of_notes start.thread f.0))) f.3;
       })
-    where
-      is_true : (b : Bool) → b ≡ true → IsTrue b
-      is_true true is = tt
-      is_true false is = absurd (true≢false (sym is))
 
   held : Held script before after p.made
   held = record {
@@ -352,8 +294,8 @@ module _ (start now : CourseData) (acts : List (ℕ × Op)) (told : List Answer)
       seen_now : (device : ℕ) → journal_seen (device_of now) device ≡ new device
       seen_now device = ap (λ (n : List (List Noted)). events_of (list_at n device)) noted_after ∙ seen_journals start.thread start.begun now.journals has_after device
 
-  pub window_submitted : AllByRecursion (λ (x : ℕ × Op). IsAcceptedBio script x.1) acts → Bounds script acts [] recorded → Submitted (device_of start) (device_of now) acts
-  window_submitted accepted bounds = record {
+  pub window_submitted : IsScript script → AllByRecursion (λ (x : ℕ × Op). IsAcceptedBio script x.1) acts → Submitted (device_of start) (device_of now) acts
+  window_submitted rules accepted = record {
     made = p.made;
     events = added;
     same = p.same;
@@ -363,7 +305,7 @@ module _ (start now : CourseData) (acts : List (ℕ × Op)) (told : List Answer)
     attempts = p.attempts;
     ways = p.ways;
     notes = subst (λ n. Notes start.thread before n added) (sym noted_after) (stories_note start.thread start.begun start.journals now.journals added has goes);
-    bounds = bounds_within script acts (length script.targets) recorded added added_is added_none (λ d. no_resets script d acts accepted) bounds;
+    bounds = window_bounds script start.thread acts rules accepted added (λ device within. (slots_after (slots_of script device) (old device), added_is device within)) added_none;
     held = subst (λ n. Held script before n p.made) (sym noted_after) held;
     uses = λ _. uses_seen;
   }

@@ -3,7 +3,7 @@ use Rattle.std.specs.Prelude.{slice_get}
 use Rattle.std.proofs.lemmas.Option.{slice_get_read}
 use Rattle.std.proofs.lemmas.List.{take_all}
 use Rattle.bc_script.specs.declared.op.Op.{Op}
-use Rattle.bc_script.specs.Script.{Script, keys_of}
+use Rattle.bc_script.specs.Script.{Script, IsScript, keys_of}
 use Rattle.bc_bio.specs.Conditions.{IsPlaced}
 use Rattle.bc_run.specs.Sections.{DeviceData}
 use Rattle.bc_run.specs.Reached.{MayBePlugged, Submitted, numbered}
@@ -11,7 +11,8 @@ use Rattle.bc_run.specs.Standing.{CourseData, HasBegun, device_of}
 use Rattle.bc_run.specs.InTurn.{InTurn, InWindow}
 use Rattle.bc_run.proofs.Lists.{all_read}
 use Rattle.bc_run.proofs.Turning.{window_begins}
-use Rattle.bc_run.proofs.Submitting.{TurnedBy, accepted_all, window_submitted}
+use Rattle.bc_run.proofs.Counting.{numbered_accepted}
+use Rattle.bc_run.proofs.Submitting.{TurnedBy, window_submitted}
 use Rattle.bc_run.proofs.Windowing.{window_none, window_more, spare_in_window, read_within, plugged_within, follows_none, follows_more}
 use Rattle.bc_run.proofs.direct.DirectDeviceUnitAllocError.window.Goals as goal
 
@@ -67,10 +68,9 @@ returns-clause-done c =
     let whole : take c.loop-op.op-index c.args.window.now ≡ c.args.window.now = take_all c.loop-op.op-index c.args.window.now (let no' = c.loop-op-test.false in omega arith) in
     let same : device_of c.put-2.new.self ≡ device_of c.loop-op.self = ap device_of (c.put-2.ensures ∙ ap (λ (m : CourseData). record m { opened = None }) c.self-2.view_is) in
     let done = subst (λ w. TurnedBy start c.loop-op.self (numbered c.args.section.now w) p.told) whole (p.carried, p.turn) in
-    let accepted = accepted_all c.args.self.now.script c.args.section.now c.args.window.now c.requires.bios in
+    let accepted = numbered_accepted c.args.self.now.script c.args.section.now c.args.window.now c.requires.bios in
     subst (λ (d : DeviceData). Submitted (device_of start) d acts) (sym same)
     (window_submitted start c.loop-op.self acts p.told
     (subst (λ (m : CourseData). length m.journals ≡ length m.script.targets) c.self.view_is c.has_devices.ensures.devices)
     (subst (λ (m : CourseData). HasBegun m.begun m.journals) c.self.view_is c.has_begun.ensures)
-    done.0 done.1 accepted
-    ?)
+    done.0 done.1 (subst (λ (m : CourseData). IsScript m.script) c.self.view_is c.has_devices.ensures.rules) accepted)
