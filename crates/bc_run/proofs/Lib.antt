@@ -26,3 +26,6 @@ pub mod Texts
 pub mod Complete
 pub mod Ends
 pub mod Stories
+pub mod KeptSlots
+pub mod SlotRows
+pub mod OpenedSlots
