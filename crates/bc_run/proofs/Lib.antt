@@ -29,3 +29,11 @@ pub mod Stories
 pub mod KeptSlots
 pub mod SlotRows
 pub mod OpenedSlots
+pub mod Cutting
+pub mod Using
+pub mod Pieces
+pub mod Splitting
+pub mod Turning
+pub mod OnDevice
+pub mod WindowNames
+pub mod TurningUnits
