@@ -34,38 +34,38 @@ last_chunk {X} together x (y ∷ ys) = let r = last_chunk together y ys in grown
     grown [] (z ∷ zs) cut ends linked =
         (elim (together x z) as (λ (b : Bool). together x z ≡ b → LastChunk X together (x ∷ y ∷ ys)) [
           | true ↦ λ is. record {
-              before = [];
-              last = x ∷ z ∷ zs;
-              cut = ap (λ (cs : List (List X)). chunks_with together x cs) cut ∙ ap (λ (b : Bool). cond b ((x ∷ z ∷ zs) ∷ []) ((x ∷ []) ∷ (z ∷ zs) ∷ [])) is;
-              ends = ends;
-              linked = (is, linked);
-            }
+            before = [];
+            last = x ∷ z ∷ zs;
+            cut = ap (λ (cs : List (List X)). chunks_with together x cs) cut ∙ ap (λ (b : Bool). cond b ((x ∷ z ∷ zs) ∷ []) ((x ∷ []) ∷ (z ∷ zs) ∷ [])) is;
+            ends = ends;
+            linked = (is, linked);
+          }
           | false ↦ λ is. record {
-              before = (x ∷ []) ∷ [];
-              last = z ∷ zs;
-              cut = ap (λ (cs : List (List X)). chunks_with together x cs) cut ∙ ap (λ (b : Bool). cond b ((x ∷ z ∷ zs) ∷ []) ((x ∷ []) ∷ (z ∷ zs) ∷ [])) is;
-              ends = ends;
-              linked = linked;
-            }
+            before = (x ∷ []) ∷ [];
+            last = z ∷ zs;
+            cut = ap (λ (cs : List (List X)). chunks_with together x cs) cut ∙ ap (λ (b : Bool). cond b ((x ∷ z ∷ zs) ∷ []) ((x ∷ []) ∷ (z ∷ zs) ∷ [])) is;
+            ends = ends;
+            linked = linked;
+          }
         ]) refl
     grown ([] ∷ before) last cut ends linked =
         record { before = (x ∷ []) ∷ [] ∷ before; last = last; cut = ap (λ (cs : List (List X)). chunks_with together x cs) cut; ends = ends; linked = linked }
     grown ((z ∷ zs) ∷ before) last cut ends linked =
         (elim (together x z) as (λ (b : Bool). together x z ≡ b → LastChunk X together (x ∷ y ∷ ys)) [
           | true ↦ λ is. record {
-              before = (x ∷ z ∷ zs) ∷ before;
-              last = last;
-              cut = ap (λ (cs : List (List X)). chunks_with together x cs) cut ∙ ap (λ (b : Bool). cond b ((x ∷ z ∷ zs) ∷ before ++ last ∷ []) ((x ∷ []) ∷ (z ∷ zs) ∷ before ++ last ∷ [])) is;
-              ends = ends;
-              linked = linked;
-            }
+            before = (x ∷ z ∷ zs) ∷ before;
+            last = last;
+            cut = ap (λ (cs : List (List X)). chunks_with together x cs) cut ∙ ap (λ (b : Bool). cond b ((x ∷ z ∷ zs) ∷ before ++ last ∷ []) ((x ∷ []) ∷ (z ∷ zs) ∷ before ++ last ∷ [])) is;
+            ends = ends;
+            linked = linked;
+          }
           | false ↦ λ is. record {
-              before = (x ∷ []) ∷ (z ∷ zs) ∷ before;
-              last = last;
-              cut = ap (λ (cs : List (List X)). chunks_with together x cs) cut ∙ ap (λ (b : Bool). cond b ((x ∷ z ∷ zs) ∷ before ++ last ∷ []) ((x ∷ []) ∷ (z ∷ zs) ∷ before ++ last ∷ [])) is;
-              ends = ends;
-              linked = linked;
-            }
+            before = (x ∷ []) ∷ (z ∷ zs) ∷ before;
+            last = last;
+            cut = ap (λ (cs : List (List X)). chunks_with together x cs) cut ∙ ap (λ (b : Bool). cond b ((x ∷ z ∷ zs) ∷ before ++ last ∷ []) ((x ∷ []) ∷ (z ∷ zs) ∷ before ++ last ∷ [])) is;
+            ends = ends;
+            linked = linked;
+          }
         ]) refl
 
 -- one more element goes with the last one

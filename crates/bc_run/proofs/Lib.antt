@@ -33,7 +33,9 @@ pub mod Cutting
 pub mod Using
 pub mod Pieces
 pub mod Splitting
-pub mod Turning
+pub mod TurnSteps
 pub mod OnDevice
 pub mod WindowNames
+pub mod OneMore
 pub mod TurningUnits
+pub mod Turning

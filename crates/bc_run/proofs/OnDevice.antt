@@ -1,6 +1,6 @@
 -- A data unit of a bio that can be performed lies on a device, where its key goes inline.
-use Rattle.std.proofs.Common.{◌≡◌, ℕ, suc, ◌+◌, ◌*◌, ◌<◌, ◌≤◌, Bool, true, false, cond, Option, Some, None, List, [], ◌∷◌, length, refl, sym, ap, ◌∙◌, arith}
-use Rattle.std.specs.Prelude.{◌&&◌, not, nat_le, nat_lt}
+use Rattle.std.proofs.Common.{◌≡◌, ℕ, suc, ◌+◌, ◌*◌, ◌<◌, ◌≤◌, Bool, true, false, cond, Option, Some, None, List, [], ◌∷◌, length, refl, sym, ap, arith}
+use Rattle.std.specs.Prelude.{not, nat_le, nat_lt}
 use Rattle.std.specs.List.{position_or_len}
 use Rattle.std.specs.Option.{option_map_or}
 use Rattle.std.proofs.Math.Logic.{⊎_elim}
@@ -28,10 +28,10 @@ covered sector first end (t ∷ ts) lie low high =
       | false ↦ λ is.
           let begins : t.first ≡ first = lie.0 in
           let past : 8 * end_of_target t ≤ sector =
-              ⊎_elim
-              (λ (before : nat_le (8 * t.first) sector ≡ false). let lt = leb-false (8 * t.first) sector before in absurd (omega arith))
-              (λ (behind : nat_lt sector (8 * end_of_target t) ≡ false). ltb-false sector (8 * end_of_target t) behind)
-              (and_cases (nat_le (8 * t.first) sector) (nat_lt sector (8 * end_of_target t)) is) in
+          ⊎_elim
+          (λ (before : nat_le (8 * t.first) sector ≡ false). let lt = leb-false (8 * t.first) sector before in absurd (omega arith))
+          (λ (behind : nat_lt sector (8 * end_of_target t) ≡ false). ltb-false sector (8 * end_of_target t) behind)
+          (and_cases (nat_le (8 * t.first) sector) (nat_lt sector (8 * end_of_target t)) is) in
           let rest = covered sector (end_of_target t) end ts lie.2 past high in
           omega arith
     ]) refl

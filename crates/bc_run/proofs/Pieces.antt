@@ -59,10 +59,12 @@ module _ (script : Script) (thread : ℕ) (key : KeyNo) where
       (or_none (device_of script.targets x == device) ∙ ap (λ (u : NamedUnit). device_of script.targets u == device) same, ap (device_of script.targets) same)
   linked_on device x (y ∷ ys) last linked ends =
       let rest = linked_on device y ys last linked.1 ends in
-      let same : device_of script.targets x ≡ device_of script.targets last = eqb-true (device_of script.targets x) (device_of script.targets y) linked.0 ∙ rest.1 in
-      (ap (λ (b : Bool). (device_of script.targets x == device) || b) rest.0
-      ∙ ap (λ (n : ℕ). (n == device) || (device_of script.targets last == device)) same
-      ∙ twice (device_of script.targets last == device), same)
+      let same : device_of script.targets x ≡ device_of script.targets last = eqb-true (device_of script.targets x) (device_of script.targets y) linked.0 ∙ rest.1 in (
+        ap (λ (b : Bool). (device_of script.targets x == device) || b) rest.0
+            ∙ ap (λ (n : ℕ). (n == device) || (device_of script.targets last == device)) same
+            ∙ twice (device_of script.targets last == device),
+        same,
+      )
 
   piece_on : (device : ℕ) (piece : List NamedUnit) (last : NamedUnit) → Linked (same_device script.targets) piece → last_or None piece ≡ Some last
       → is_on script device piece ≡ (device_of script.targets last == device)
@@ -85,7 +87,7 @@ module _ (script : Script) (thread : ℕ) (key : KeyNo) where
 
   -- a unit on the device of the last one
   module _ (units : List NamedUnit) (last u : NamedUnit) (ends : last_or None units ≡ Some last)
-    (same : (device_of script.targets last == device_of script.targets u) ≡ true) where
+      (same : (device_of script.targets last == device_of script.targets u) ≡ true) where
     cut : Joined NamedUnit (same_device script.targets) units u
     cut = joined_more (same_device script.targets) units u
         (joins_by_last (same_device script.targets) units u ∙ ap (λ (o : Option NamedUnit). option_map_or (λ l. same_device script.targets l u) o false) ends ∙ same)

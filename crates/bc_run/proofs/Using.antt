@@ -105,19 +105,19 @@ no_later_more journal more key event h =
     let le = h.2 in
     let rest = filter_map (programming_at key) (enumerate_from (length journal) more) in
     let split : last_programming key (journal ++ more) ≡ last_or (Some found) rest =
-        ap (λ (l : List (ℕ × Event)). last_or None (filter_map (programming_at key) l)) (enumerate-append 0 (length journal) journal more (omega arith))
-        ∙ ap (last_or None) (filter_map-append (programming_at key) (enumerate_from 0 journal) (enumerate_from (length journal) more))
-        ∙ last_append None (filter_map (programming_at key) (enumerate_from 0 journal)) rest
-        ∙ ap (λ (o : Option (ℕ × ℕ)). last_or o rest) h.1 in
+    ap (λ (l : List (ℕ × Event)). last_or None (filter_map (programming_at key) l)) (enumerate-append 0 (length journal) journal more (omega arith))
+    ∙ ap (last_or None) (filter_map-append (programming_at key) (enumerate_from 0 journal) (enumerate_from (length journal) more))
+    ∙ last_append None (filter_map (programming_at key) (enumerate_from 0 journal)) rest
+    ∙ ap (λ (o : Option (ℕ × ℕ)). last_or o rest) h.1 in
     let r = last_some found rest in
     let later : event ≤ r.0.1 =
-        ⊎_elim
-        (λ (e : Some found ≡ Some r.0). subst (λ (p : ℕ × ℕ). event ≤ p.1) (same_Some found r.0 e) le)
-        (λ (w : (length journal ≤ r.0.1) × (r.0.1 < length journal + length more)).
-        ⊎_elim (λ (no : None ≡ Some found). absurd (none-some found no))
-        (λ (v : (0 ≤ found.1) × (found.1 < 0 + length journal)). let a = w.0 in let b = v.1 in omega arith)
-        (last_within key 0 journal None found h.1))
-        (last_within key (length journal) more (Some found) r.0 r.1) in
+    ⊎_elim
+    (λ (e : Some found ≡ Some r.0). subst (λ (p : ℕ × ℕ). event ≤ p.1) (same_Some found r.0 e) le)
+    (λ (w : (length journal ≤ r.0.1) × (r.0.1 < length journal + length more)).
+    ⊎_elim (λ (no : None ≡ Some found). absurd (none-some found no))
+    (λ (v : (0 ≤ found.1) × (found.1 < 0 + length journal)). let a = w.0 in let b = v.1 in omega arith)
+    (last_within key 0 journal None found h.1))
+    (last_within key (length journal) more (Some found) r.0 r.1) in
     (r.0, split ∙ r.1, later)
 
 -- ---- the hold that an entry names
@@ -184,7 +184,7 @@ own_extended script journal first use' names name e device slot event o = by o.a
     by (u ∷ us) among =
         let r = pushed u us in
         let moved : first ++ old ∷ [] ≡ (o.before ++ here ∷ r.front) ++ r.last ∷ [] =
-            among ∙ ap (λ (l : List DeviceUse). o.before ++ here ∷ l) r.is ∙ sym (append_assoc o.before (here ∷ r.front) (r.last ∷ [])) in
+        among ∙ ap (λ (l : List DeviceUse). o.before ++ here ∷ l) r.is ∙ sym (append_assoc o.before (here ∷ r.front) (r.last ∷ [])) in
         let same = same_from_push first (o.before ++ here ∷ r.front) old r.last moved in
         record {
           under = o.under;

@@ -1,5 +1,5 @@
 -- The units for which a window takes holds are units of its bios.
-use Rattle.std.proofs.Common.{◌≡◌, ℕ, zero, suc, ◌+◌, ◌<◌, ◌≤◌, ◌⊎◌, inl, inr, Bool, true, false, Option, Some, None, List, [], ◌∷◌, ◌++◌, map, refl, sym, ap, subst, ◌∙◌, arith}
+use Rattle.std.proofs.Common.{◌≡◌, ℕ, zero, suc, ◌+◌, ◌<◌, true, false, Option, Some, None, List, [], ◌∷◌, ◌++◌, map, sym, ap, subst, ◌∙◌, arith}
 use Rattle.std.specs.Prelude.{◌==◌, ◌&&◌, flat_map, filter}
 use Rattle.std.specs.List.{AllByRecursion, list_any, range_with_len}
 use Rattle.std.specs.Option.{option_map_or}
@@ -14,7 +14,7 @@ use Rattle.bc_medium.specs.declared.unit_name.UnitName.{UnitName}
 use Rattle.bc_medium.specs.LawfulOrders.{is_same}
 use Rattle.bc_script.specs.Script.{Script, keys_of}
 use Rattle.bc_script.specs.Windows as turns
-use Rattle.bc_stack.specs.Pieces.{same_device, pieces_of}
+use Rattle.bc_stack.specs.Pieces.{same_device}
 use Rattle.bc_report.specs.SerialRun.{DeviceUse, inline_key, is_on, name_at, pieces_of_request, holds_for, uses_of_turn}
 use Rattle.bc_run.specs.Uses.{is_for}
 use Rattle.bc_run.specs.InTurn.{part_of}
@@ -50,12 +50,12 @@ module _ (script : Script) (device thread : ℕ) where
       of_unit : (piece : List NamedUnit) (x : NamedUnit) (n : UnitName) → In piece (pieces_of_request script request) → In x piece → name_at thread x ≡ n → is_same name n ≡ true → IsUnitOf bios name
       of_unit piece x n at-piece at-x named same =
           let in_units : In x (units_of_request keys request) =
-              subst (λ (l : List NamedUnit). In x l) (chunks_join (same_device script.targets) (units_of_request keys request)) (in_joined (pieces_of_request script request) piece x at-x at-piece) in
+          subst (λ (l : List NamedUnit). In x l) (chunks_join (same_device script.targets) (units_of_request keys request)) (in_joined (pieces_of_request script request) piece x at-x at-piece) in
           let a = in_of_flat_map (named_units keys) request x in_units in
           let b = in_of_map (named_unit keys a.0) (range_with_len 0 a.0.bio.units) x a.2 in
           let lt = in_range 0 a.0.bio.units b.0 b.1 in
           let in_bios : In a.0 bios =
-              subst (λ (l : List TaggedBio). In a.0 l) (chunks_join (joins keys) bios) (in_joined (requests_of keys bios) request a.0 a.1 at-request) in
+          subst (λ (l : List TaggedBio). In a.0 l) (chunks_join (joins keys) bios) (in_joined (requests_of keys bios) request a.0 a.1 at-request) in
           let parts = and_parts ((name.thread == n.thread) && (name.op == n.op)) (name.unit == n.unit) same in
           let op : name.op ≡ n.op = eqb-true name.op n.op (and_parts (name.thread == n.thread) (name.op == n.op) parts.0).1 in
           let unit : name.unit ≡ n.unit = eqb-true name.unit n.unit parts.1 in
