@@ -32,7 +32,8 @@ use Rattle.bc_run.specs.InTurn.{AttemptsOn, GoesOver, InTurn, MayFollow, Perform
 use Rattle.bc_run.proofs.Growing.{named}
 use Rattle.bc_run.proofs.Attempting.{Made, NoneMet, OneMet, carries_bio, carries_fault, made_more, made_none, made_reached, met_fault, met_reached, met_read, met_wrote, none_met, units_more}
 use Rattle.bc_run.proofs.Following.{bio_begins}
-use Rattle.bc_run.proofs.Turning.{in_turn_same, unit_attempted, unit_reached}
+use Rattle.bc_run.proofs.Turning.{in_turn_same}
+use Rattle.bc_run.proofs.TurningUnits.{unit_attempted, unit_reached}
 
 -- in a window, the first n units of a bio come after what was gone over before it, and these entries after those before them
 abbrev pub TurnsTo : CourseData → CourseData → ℕ → Extent → ℕ → List Entry → Type 0
