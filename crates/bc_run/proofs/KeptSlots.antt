@@ -523,9 +523,10 @@ module _ (script : Script) (stack : StackParts) (caps : List Capabilities) (devi
             → ((k : ℕ) → StartsWith (list_at (map journal_in xs) k) (seen k)) → (k : ℕ) → StartsWith (list_at (map journal_in (map (evicted key) xs)) k) (seen k)
         starts_all [] free seen all k = all k
         starts_all (x ∷ xs) free seen all zero =
-            starts_on (journal_in x) (journal_in (evicted key x)) (seen 0) (all 0)
-            (events_of_eviction (slots_in x) key,
-            append-nil (x.journal ++ events_of_eviction (slots_in x) key) ∙ ap (λ j. j ++ events_of_eviction (slots_in x) key) (sym (free_journal x (free 0 x refl))))
+            starts_on (journal_in x) (journal_in (evicted key x)) (seen 0) (all 0) (
+              events_of_eviction (slots_in x) key,
+              append-nil (x.journal ++ events_of_eviction (slots_in x) key) ∙ ap (λ j. j ++ events_of_eviction (slots_in x) key) (sym (free_journal x (free 0 x refl))),
+            )
         starts_all (x ∷ xs) free seen all (suc k) = starts_all xs (λ j. free (suc j)) (λ j. seen (suc j)) (λ j. all (suc j)) k
 
 -- ---- one more device of a list
@@ -539,6 +540,6 @@ one_evicted key i all devices solo inside is read =
         → slice_set (map (evicted key) (take i all) ++ drop i all) i (evicted key solo) ≡ map (evicted key) (take (i + 1) all) ++ drop (i + 1) all
     go i [] inside read = absurd (omega arith)
     go zero (x ∷ xs) inside read = ap (λ s. evicted key s ∷ xs) read
-    go (suc i) (x ∷ xs) inside read = 
+    go (suc i) (x ∷ xs) inside read =
         let e : suc i + 1 ≡ suc (i + 1) = omega arith in
         ap (λ l. evicted key x ∷ l) (go i xs (omega arith) read) ∙ ap (λ n. map (evicted key) (take n (x ∷ xs)) ++ drop n (x ∷ xs)) (sym e)

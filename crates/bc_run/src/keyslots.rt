@@ -1,6 +1,6 @@
 //! The keyslots of a script's devices, for one caller.
 
-ghost use Rattle.std.specs.Prelude.{◌≡◌, ℕ, ◌+◌, ◌*◌, ◌<◌, ◌≤◌, true, [], length, map, replicate, None, Some, Ok, IfOk, IsOk, IsSome, IsSomeAnd};
+ghost use Rattle.std.specs.Prelude.{◌≡◌, ℕ, ◌*◌, ◌<◌, ◌≤◌, true, [], length, map, replicate, None, Some, Ok, IfOk, IsOk, IsSome, IsSomeAnd};
 ghost use Rattle.bc_bio.specs.Conditions.{HasKey};
 ghost use Rattle.bc_bio.specs.Extent.{unit_sectors};
 ghost use Rattle.bc_medium.specs.KeyedDisk.{enciphered, deciphered};
