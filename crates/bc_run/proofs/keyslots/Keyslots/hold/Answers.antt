@@ -18,7 +18,7 @@ use Rattle.bc_compose.specs.Ordered.{slots_of}
 use Rattle.bc_run.specs.declared.open_hold.OpenHold.{OpenHold}
 use Rattle.bc_run.specs.Keyslots.{KeyslotsData, giving_back, IsKeyslots, HasRoom, KeepsTo, journal_in, used_at, max_events}
 use Rattle.bc_run.proofs.Lists.{all_read, at_set, list_at_map}
-use Rattle.bc_run.proofs.KeptSlots.{holds_idle, slots_are, use_of_one, chosen, has_row, has_spare, held_inside, read_back, mapped_at, caps_is, hold_keeps, hold_events, few_of_hold, small_slot, small_key}
+use Rattle.bc_run.proofs.KeptSlots.{holds_idle, slots_are, use_of_one, chosen, has_row, has_spare, held_inside, read_back, mapped_at, caps_is, hold_keeps, hold_events, hold_allowed, few_of_hold, small_slot, small_key}
 use Rattle.bc_run.proofs.SlotRows.{row_is, row_reads, kept_means}
 use Rattle.bc_run.proofs.keyslots.Keyslots.hold.Goals as goal
 
@@ -184,7 +184,8 @@ invariant_of-self c =
     let new_kept = c.keep_cipher.new.kept in
     let keeps = kept_means c.index-2.result.now (capabilities_of it.target.caps) c.row-words.result new_kept it.k own c.keep_cipher.ensures reads in
     let kept_is = hold_keeps _ _ _ _ _ _ is c.args.device c.args.key.0 slot c.hold-slot.result.1 it.target solo new more kept.items new_kept it.k it.target_at it.solo_at kept_at (omega (arith, slot_in, old.0))
-    c.hold-slot.ensures.records few (hold_events (slots_in solo) c.args.key.0 slot c.hold-slot.ensures.slot small (small_key s.script.now c.args.key.0 is.rules named)) small keeps.0 it.is_key holds keeps.1 in
+    c.hold-slot.ensures.records few (hold_events (slots_in solo) c.args.key.0 slot c.hold-slot.ensures.slot small (small_key s.script.now c.args.key.0 is.rules named)) small
+    (hold_allowed solo c.args.key.0 slot c.hold-slot.ensures.slot (subst (λ n. slot < n) (sym it.of.count) slot_in)) keeps.0 it.is_key holds keeps.1 in
     let hold : OpenHold = record { device = c.args.device; key = c.args.key.0; slot = slot; event = c.hold-slot.result.1 } in
     let ciphers : slice_set (map (λ v. v.items) s.ciphers.items) c.args.device (slice_set kept.items slot new_kept) ≡ map (λ v. v.items) (slice_set s.ciphers.items c.from-number.result (with_item kept c.from.result new_kept)) =
     ap (λ k. slice_set (map (λ v. v.items) s.ciphers.items) c.args.device (slice_set kept.items k new_kept)) (sym c.from.ensures)

@@ -49,7 +49,7 @@ invariant_of-self c =
     let few : length (journal_in c.index_mut.result.now) + (1 + 0) ≤ max_events = subst (λ j. length j + 1 ≤ max_events) (list_at_map journal_in s.devices.items c.args.device c.index_mut.result.now at) room in
     subst (λ (o : Option OpenHold). IsKeyslots s.script.now s.stack s.caps.items (slice_set s.devices.items c.from.result c.reset.new.self) (map (λ v. v.items) s.ciphers.items) s.begun.value.items o) (sym none)
     (subst (λ k. IsKeyslots s.script.now s.stack s.caps.items (slice_set s.devices.items k c.reset.new.self) (map (λ v. v.items) s.ciphers.items) s.begun.value.items None) (sym c.from.ensures)
-    (next_keeps _ _ _ _ _ _ is c.args.device c.index_mut.result.now c.reset.new.self (events.Reset ∷ []) at c.reset.ensures few (tt, tt)))
+    (next_keeps _ _ _ _ _ _ is c.args.device c.index_mut.result.now c.reset.new.self (events.Reset ∷ []) at c.reset.ensures few (tt, tt) (tt, tt)))
 
 pub returns : goal.returns
 returns c =
