@@ -1,4 +1,4 @@
-use Rattle.std.proofs.Common.{◌≡◌, ◌∙◌, map, take, drop, sym, ap}
+use Rattle.std.proofs.Common.{◌∙◌, sym, ap}
 use Rattle.std.specs.Prelude.{slice_set}
 use Rattle.bc_run.specs.Keyslots.{evicted}
 use Rattle.bc_run.proofs.KeptSlots.{one_evicted}
