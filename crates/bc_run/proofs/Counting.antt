@@ -1,13 +1,12 @@
 -- How many events a window, an eviction and a reset make on each device, as `Bounds` says it.
-use Rattle.std.proofs.Common.{◌≡◌, ◌≢◌, ℕ, zero, suc, ◌+◌, ◌<◌, ◌≤◌, ◌⊎◌, Bool, true, false, cond, List, [], ◌∷◌, ◌++◌, length, map, refl, sym, ap, subst, ◌∙◌, arith, Option, Some, None}
-use Rattle.std.specs.Prelude.{◌==◌, ◌&&◌, ◌||◌, count_by, sum_by, slice_get, IsSomeAnd}
+use Rattle.std.proofs.Common.{◌≡◌, ◌≢◌, ℕ, ◌+◌, ◌<◌, ◌≤◌, ◌⊎◌, Bool, true, false, cond, List, [], ◌∷◌, length, map, refl, sym, ap, subst, ◌∙◌, arith, Option, Some, None}
+use Rattle.std.specs.Prelude.{◌==◌, ◌&&◌, ◌||◌, count_by, slice_get, IsSomeAnd}
 use Rattle.std.specs.List.{AllByRecursion}
 use Rattle.std.specs.Option.{option_map_or}
 use Rattle.std.proofs.Math.Logic.{⊎_elim}
 use Rattle.std.proofs.lemmas.Bool.{eq-eqb, ne_eqb, cases_eq, cases_lt}
 use Rattle.bc_key.specs.declared.keys.KeyNo.{KeyNo}
 use Rattle.bc_bio.specs.declared.context.Context.{Context}
-use Rattle.bc_bio.specs.Windows.{TaggedBio}
 use Rattle.bc_profile.specs.declared.event.Event.{Event}
 use Rattle.bc_profile.specs.declared.event.Event.TheVariants as events
 use Rattle.bc_profile.specs.declared.uses.Use.{Use}
@@ -20,7 +19,7 @@ use Rattle.bc_script.specs.Way.{way_of}
 use Rattle.bc_script.specs.Windows as turns
 use Rattle.bc_report.specs.declared.answer.Answer.TheVariants as answers
 use Rattle.bc_report.specs.Counts.{is_reset_of, touches_under, touches_any, is_reset, is_programming_of, is_idle}
-use Rattle.bc_report.specs.Evictions.{Eviction, is_evict, is_busy, is_busy_with, names_busy, names_device, names_before, count_answered}
+use Rattle.bc_report.specs.Evictions.{Eviction, is_evict, is_busy, names_busy}
 use Rattle.bc_report.specs.Holders.{is_way_on, is_unit_under}
 use Rattle.bc_report.specs.SerialRun.{DeviceUse, uses_of_turn}
 use Rattle.bc_compose.specs.SectionDone.{Bounds}

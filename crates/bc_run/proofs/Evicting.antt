@@ -1,31 +1,28 @@
 -- What an eviction and a reset by one caller tell of its thread's device.
-use Rattle.std.proofs.Common.{◌≡◌, ◌≢◌, ℕ, zero, suc, ◌+◌, ◌<◌, ◌≤◌, ◌⊎◌, inl, inr, Bool, true, false, cond, List, [], ◌∷◌, ◌++◌, length, map, append-nil, refl, sym, ap, subst, ◌∙◌, arith, Option, Some, None}
-use Rattle.std.specs.Prelude.{◌==◌, slice_get, IsTrue}
+use Rattle.std.proofs.Common.{◌≡◌, ◌≢◌, ℕ, zero, suc, ◌+◌, ◌<◌, ◌≤◌, ◌⊎◌, inl, inr, Bool, true, false, cond, List, [], ◌∷◌, ◌++◌, length, refl, sym, ap, subst, ◌∙◌, arith, Option, Some, None}
+use Rattle.std.specs.Prelude.{slice_get}
 use Rattle.std.specs.Option.{option_map_or}
 use Rattle.std.proofs.Math.Logic.{⊎_elim}
-use Rattle.std.proofs.lemmas.Bool.{true≢false, eq-eqb, ne_eqb, cases_eq, cases_lt}
+use Rattle.std.proofs.lemmas.Bool.{eq-eqb, ne_eqb, cases_eq, cases_lt}
 use Rattle.std.proofs.lemmas.Option.{get_or_from_slice_get}
 use Rattle.bc_base.specs.Lists.{list_at}
-use Rattle.bc_base.specs.Story.{StartsWith}
 use Rattle.bc_key.specs.declared.keys.KeyNo.{KeyNo}
 use Rattle.bc_medium.specs.Shards.{orders_of}
 use Rattle.bc_stack.specs.declared.target.Target.{Target}
 use Rattle.bc_profile.specs.declared.event.Event.{Event}
 use Rattle.bc_profile.specs.declared.event.Event.TheVariants as events
-use Rattle.bc_profile.specs.declared.noted.Noted.{Noted}
 use Rattle.bc_profile.specs.declared.uses.Use.TheVariants as uses
 use Rattle.bc_profile.specs.SlotJournal.{Slots, InNoSlot, slots_after}
 use Rattle.bc_profile.specs.OneCaller.{events_of_eviction}
-use Rattle.bc_profile.specs.Story.{events_of}
 use Rattle.bc_script.specs.Script.{Script}
 use Rattle.bc_script.specs.Bios.{is_inline}
 use Rattle.bc_script.specs.Windows as turns
 use Rattle.bc_report.specs.declared.answer.Answer.TheVariants as answers
 use Rattle.bc_report.specs.SerialRun.{DeviceUse, uses_of_turn}
-use Rattle.bc_compose.specs.Ordered.{GoesInline, IsTakenOut, slots_of}
+use Rattle.bc_compose.specs.Ordered.{IsTakenOut, slots_of}
 use Rattle.bc_run.specs.declared.open_hold.OpenHold.{OpenHold}
 use Rattle.bc_run.specs.Keyslots.{stories_of, used_at, used_each}
-use Rattle.bc_run.specs.Reached.{MakesTurn, Evicted, HasReset}
+use Rattle.bc_run.specs.Reached.{Evicted, HasReset}
 use Rattle.bc_run.specs.Sections.{journal_seen}
 use Rattle.bc_run.specs.Standing.{CourseData, HasBegun, EvictsKey, ResetsDevice, device_of}
 use Rattle.bc_run.specs.Uses.{after_uses}

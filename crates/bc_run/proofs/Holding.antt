@@ -1,22 +1,20 @@
 -- How many holds a window takes on a device: at most one for each bio of it that touches the device.
-use Rattle.std.proofs.Common.{◌≡◌, ℕ, zero, suc, ◌+◌, ◌<◌, ◌≤◌, ◌⊎◌, inl, inr, Bool, true, false, cond, List, [], ◌∷◌, ◌++◌, length, map, refl, sym, ap, subst, ◌∙◌, arith, Option, Some, None}
-use Rattle.std.specs.Prelude.{◌==◌, ◌&&◌, ◌||◌, count_by, sum_by, filter, flat_map, is_none, is_some, IsSomeAnd, filter_map, nat_lt, position, unwrap_or}
+use Rattle.std.proofs.Common.{◌≡◌, ℕ, ◌+◌, ◌<◌, ◌≤◌, inl, inr, Bool, true, false, cond, List, [], ◌∷◌, ◌++◌, length, map, refl, sym, ap, subst, ◌∙◌, arith, Option, Some, None}
+use Rattle.std.specs.Prelude.{◌==◌, ◌&&◌, ◌||◌, count_by, sum_by, filter, flat_map, is_none, is_some, IsSomeAnd, unwrap_or}
 use Rattle.std.specs.List.{AllByRecursion, list_any, range_with_len, position_or_len, cons_option}
 use Rattle.std.specs.Option.{option_map, option_map_or}
 use Rattle.std.proofs.Math.Logic.{⊎_elim}
-use Rattle.std.proofs.lemmas.Bool.{true≢false, eq-eqb, eqb-true, cases_lt, lt-ltb}
+use Rattle.std.proofs.lemmas.Bool.{true≢false, eq-eqb, eqb-true, lt-ltb}
 use Rattle.std.proofs.lemmas.List.Folds.{list_any-append}
 use Rattle.std.proofs.lemmas.List.Sums.{sum_by-cons, sum_by-append}
-use Rattle.bc_key.specs.KeyData.{KeyData}
 use Rattle.bc_key.specs.declared.keys.KeyNo.{KeyNo}
 use Rattle.bc_bio.specs.declared.context.Context.{Context}
 use Rattle.bc_bio.specs.declared.extent.Extent.{Extent}
 use Rattle.bc_bio.specs.declared.refusal.Refusal.{Refusal}
-use Rattle.bc_bio.specs.Chunks.{chunk_by, Linked}
-use Rattle.bc_bio.specs.Extent.{unit_sectors, context_after}
+use Rattle.bc_bio.specs.Chunks.{Linked}
+use Rattle.bc_bio.specs.Extent.{context_after}
 use Rattle.bc_bio.specs.PlannedUnit.{PlannedUnit}
 use Rattle.bc_bio.specs.Windows.{TaggedBio, NamedUnit, named_unit, named_units, units_of_request, joins, requests_of}
-use Rattle.bc_stack.specs.declared.target.Target.{Target}
 use Rattle.bc_stack.specs.Devices.{has_sector, device_at}
 use Rattle.bc_stack.specs.Pieces.{device_of}
 use Rattle.bc_stack.specs.Targets.{IsStack}
@@ -33,16 +31,14 @@ use Rattle.bc_script.specs.Bios.{bio_of, is_inline, refusal_of}
 use Rattle.bc_script.specs.Plan.{unit_at, units_of, units_of_bio}
 use Rattle.bc_script.specs.Way.{Way, soft, inline, way_of}
 use Rattle.bc_script.specs.Windows as turns
-use Rattle.bc_report.specs.Counts.{is_reset_of, touches_under, touches_any, is_reset, is_programming_of, is_idle}
-use Rattle.bc_report.specs.Evictions.{is_evict, is_busy}
-use Rattle.bc_report.specs.Holders.{is_way_on, is_unit_under}
+use Rattle.bc_report.specs.Counts.{is_reset_of, is_programming_of, is_idle}
+use Rattle.bc_report.specs.Holders.{is_way_on}
 use Rattle.bc_report.specs.SerialRun.{DeviceUse, inline_key, is_on, name_at, pieces_of_request, holds_for, uses_of_turn}
-use Rattle.bc_compose.specs.SectionDone.{Bounds}
 use Rattle.bc_run.specs.Reached.{IsAcceptedBio}
-use Rattle.bc_run.specs.Uses.{tagged_bio, bios_of}
+use Rattle.bc_run.specs.Uses.{bios_of}
 use Rattle.bc_run.proofs.Ascending.{HasKeyOf, one_key, request_devices}
-use Rattle.bc_run.proofs.Chunks.{chunks_at, chunks_join, chunks_linked, few_chunks}
-use Rattle.bc_run.proofs.Lists.{In, all_append, any_from, any_in, in_of_map}
+use Rattle.bc_run.proofs.Chunks.{chunks_join, chunks_linked, few_chunks}
+use Rattle.bc_run.proofs.Lists.{In, any_from, any_in, in_of_map}
 
 pub count_cons : {X : Type 0} (test : X → Bool) (x : X) (xs : List X) → count_by test (x ∷ xs) ≡ cond {A = ℕ} (test x) 1 0 + count_by test xs
 count_cons test x xs = sum_by-cons (λ (y : _). cond {A = ℕ} (test y) 1 0) x xs

@@ -2,6 +2,9 @@ pub mod Lists
 pub mod Growing
 pub mod Carrying
 pub mod Attempting
+pub mod Performing
+pub mod Located
+pub mod Room
 pub mod Placing
 pub mod Ready
 pub mod Ordering

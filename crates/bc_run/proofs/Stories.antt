@@ -1,6 +1,6 @@
 -- The stories of devices for a thread whose section has begun: what they say of the journals, and what a step adds to them.
-use Rattle.std.proofs.Common.{◌≡◌, ◌≢◌, ℕ, zero, suc, ◌+◌, ◌<◌, ◌≤◌, Bool, true, false, cond, List, [], ◌∷◌, ◌++◌, length, map, drop, set, get_or, append-nil, append_assoc, length-append, refl, sym, ap, subst, ◌∙◌, arith}
-use Rattle.std.specs.Prelude.{◌==◌, filter, zip, slice_get, Option}
+use Rattle.std.proofs.Common.{◌≡◌, ◌≢◌, ℕ, zero, suc, ◌+◌, ◌<◌, Bool, cond, List, [], ◌∷◌, ◌++◌, length, map, drop, set, append-nil, append_assoc, refl, sym, ap, ◌∙◌, arith}
+use Rattle.std.specs.Prelude.{◌==◌, slice_get}
 use Rattle.std.specs.Option.{option_map_or}
 use Rattle.std.specs.List.{enumerate_from}
 use Rattle.std.proofs.Math.Seq.{drop-append_seam}
@@ -23,8 +23,7 @@ use Rattle.bc_run.specs.Keyslots.{story_of, stories_of, used_at, used_each}
 use Rattle.bc_run.specs.Sections.{journal_seen}
 use Rattle.bc_run.specs.Standing.{CourseData, HasBegun, device_of}
 use Rattle.bc_run.specs.Uses.{after_uses}
-use Rattle.bc_run.proofs.Growing.{begins_itself, begins_trans}
-use Rattle.bc_run.proofs.Lists.{list_at_past}
+use Rattle.bc_run.proofs.Growing.{begins_trans}
 
 -- ---- events and who made them
 

@@ -1,8 +1,8 @@
-use Rattle.std.proofs.Common.{◌≡◌, ◌∙◌, map, take, drop, sym, ap}
+use Rattle.std.proofs.Common.{◌∙◌, sym, ap}
 use Rattle.std.specs.Prelude.{slice_set}
 use Rattle.bc_run.specs.Keyslots.{IsRidOf, evicted}
 use Rattle.bc_run.proofs.KeptSlots.{one_evicted}
-use Rattle.bc_run.proofs.TakenOut.{each_next, none_has_key}
+use Rattle.bc_run.proofs.TakenOut.{each_next}
 use Rattle.bc_run.proofs.keyslots.evict_from.Goals as goal
 
 pub loop-device-preserved : goal.loop-device-preserved

@@ -3,7 +3,6 @@ use Rattle.std.proofs.lemmas.List.{length-map}
 use Rattle.bc_base.specs.Lists.{Each, list_at}
 use Rattle.bc_profile.specs.declared.event.Event.{Event}
 use Rattle.bc_profile.specs.declared.uses.Use.TheVariants as uses
-use Rattle.bc_profile.specs.Solo.{SoloData}
 use Rattle.bc_script.specs.Script.{keys_of}
 use Rattle.bc_run.specs.declared.open_hold.OpenHold.{OpenHold}
 use Rattle.bc_run.specs.Keyslots.{KeyslotsData, HaveNotKey, IsRidOf, IsKeyslots, HasRoom, MayEvict, evicted, journal_in, used_each, max_events}
