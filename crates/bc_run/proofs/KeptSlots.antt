@@ -1,12 +1,13 @@
 -- What the calls on the keyslots of a script's devices keep of them.
-use Rattle.std.proofs.Common.{◌≡◌, ◌≢◌, ℕ, zero, suc, ◌+◌, ◌<◌, ◌≤◌, Bool, true, false, cond, List, [], ◌∷◌, ◌++◌, length, map, take, drop, get_or, refl, sym, ap, subst, ◌∙◌, arith, Option, Some, None}
-use Rattle.std.specs.Prelude.{◌==◌, slice_get, slice_set, IfSome, IsSomeAnd, is_some, unwrap_or, ◌^◌, fold}
+use Rattle.std.proofs.Common.{◌≡◌, ◌≢◌, ℕ, zero, suc, ◌+◌, ◌<◌, ◌≤◌, Bool, cond, List, [], ◌∷◌, ◌++◌, length, map, take, drop, get_or, refl, sym, ap, subst, ◌∙◌, arith, Option, Some, None}
+use Rattle.std.specs.Prelude.{◌==◌, slice_get, slice_set, IsSomeAnd, is_some, unwrap_or, not, take_while, ◌^◌}
 use Rattle.std.specs.List.{AllByRecursion, enumerate_from}
 use Rattle.std.specs.Option.{option_map_or}
 use Rattle.std.proofs.Math.Logic.{⊎_elim}
 use Rattle.std.proofs.lemmas.Bool.{eq-eqb, ne_eqb, cases_eq}
 use Rattle.std.proofs.lemmas.Option.{none-some, same_Some, get_or_from_slice_get}
 use Rattle.std.proofs.lemmas.List.{append_assoc, append-nil, map-set, length-map, length-append, length-replicate}
+use Rattle.std.proofs.lemmas.List.Sums.{take_while-cons}
 use Rattle.std.proofs.Math.Seq.{take-append_seam}
 use Rattle.bc_base.specs.Lists.{Each, At, AllAt, list_at}
 use Rattle.bc_base.specs.Story.{StartsWith}
@@ -19,11 +20,11 @@ use Rattle.bc_profile.specs.declared.event.Event.{Event}
 use Rattle.bc_profile.specs.declared.event.Event.TheVariants as events
 use Rattle.bc_profile.specs.declared.uses.Use.{Use}
 use Rattle.bc_profile.specs.declared.uses.Use.TheVariants as uses
-use Rattle.bc_profile.specs.SlotJournal.{Slots, opening, after_event, after_events, slots_after, key_of}
+use Rattle.bc_profile.specs.SlotJournal.{Slots, opening, after_event, after_events, slots_after, key_of, idle_order, Allowed, EachEvent, IsLawful}
 use Rattle.bc_profile.specs.OneCaller.{events_of_use, events_of_hold, events_of_eviction, journal_of, slot_with, slot_for, first_idle}
-use Rattle.bc_profile.specs.Programmings.{Holds, last_programming}
+use Rattle.bc_profile.specs.Programmings.{Holds}
 use Rattle.bc_profile.specs.Solo.{SoloData, HasSpare, recorded, slots_of as slots_in}
-use Rattle.bc_profile.proofs.KeyLemmas.{last_push, slots_push, same_count, key_inside, slot_has}
+use Rattle.bc_profile.proofs.KeyLemmas.{last_push, slots_push, same_count, key_inside, slot_has, in_no_slot}
 use Rattle.bc_script.specs.Script.{Script, IsScript, IsDevice, IsNamedKey, keys_of}
 use Rattle.bc_script.specs.declared.named_key.NamedKey.{NamedKey}
 use Rattle.bc_report.specs.Report.{IsEvent}
@@ -208,6 +209,54 @@ few_of_hold slots key = by_slot (slot_with slots key)
     by_slot (Some other) = omega arith
     by_slot None = omega arith
 
+-- ---- events that may come
+
+each_append : (s : Slots) (journal more : List Event) → EachEvent Allowed s journal → EachEvent Allowed (after_events s journal) more → EachEvent Allowed s (journal ++ more)
+each_append s [] more before next = next
+each_append s (e ∷ es) more before next = (before.0, each_append (after_event s e) es more before.1 next)
+
+lawful_on : (solo : SoloData) (more : List Event) (held : Option ℕ) → solo.held ≡ None → IsLawful solo.count (journal_in solo) → EachEvent Allowed (slots_in solo) (more ++ giving_back held)
+    → IsLawful solo.count (journal_in (recorded solo more held))
+lawful_on solo more held free before next =
+    subst (IsLawful solo.count) (sym (append_assoc solo.journal more (giving_back held)))
+    (each_append (opening solo.count) solo.journal (more ++ giving_back held) (subst (IsLawful solo.count) (free_journal solo free) before) next)
+
+-- none comes before the first
+none_first : (order : List ℕ) → [] ≡ take_while (λ other. not (other == get_or order 0 0)) order
+none_first [] = refl
+none_first (x ∷ xs) =
+    sym (take_while-cons (λ other. not (other == x)) x xs ∙ ap (λ (b : Bool). cond (not b) (x ∷ take_while (λ other. not (other == x)) xs) []) (eq-eqb x x refl))
+
+eviction_allowed : (slots : Slots) (key : ℕ) → EachEvent Allowed slots (events_of_eviction slots key ++ [])
+eviction_allowed slots key = by_slot (slot_with slots key) refl
+  where
+    by_slot : (o : Option ℕ) → slot_with slots key ≡ o → EachEvent Allowed slots (option_map_or (λ slot. events.Evict slot key ∷ []) o [] ++ [])
+    by_slot None is = tt
+    by_slot (Some slot) is = ((slot_has key slots.keys slot is).1, tt)
+
+-- a hold's events may come: its slot is programmed first, where no slot has the key
+pub hold_allowed : (solo : SoloData) (key slot : ℕ) → slot ≡ slot_for (slots_in solo) key → slot < solo.count → EachEvent Allowed (slots_in solo) (events_of_hold (slots_in solo) key ++ events.Idle slot ∷ [])
+hold_allowed solo key slot is inside = by_slot (slot_with slots key) refl is
+  where
+    slots : Slots
+    slots = slots_in solo
+
+    is_slot : slot < length slots.keys
+    is_slot = let many = as_many (opening solo.count) solo.journal ∙ length-replicate {A = Option ℕ} solo.count None in omega (arith, inside, many)
+
+    by_slot : (o : Option ℕ) → slot_with slots key ≡ o → slot ≡ unwrap_or o (first_idle slots)
+        → EachEvent Allowed slots (cond (is_some o) [] (events.Program (first_idle slots) key [] ∷ []) ++ events.Idle slot ∷ [])
+    by_slot (Some other) found same = (is_slot, tt)
+    by_slot None none same = (
+      record {
+        is_slot = subst (λ n. n < length slots.keys) same is_slot;
+        key_in_no_slot = in_no_slot key slots.keys none;
+        skips_those_before = none_first (idle_order slots);
+        found_held = λ k d less. absurd (omega (arith, less));
+      },
+      (subst (λ n. slot < n) (sym (length-set slots.keys (first_idle slots) (Some key))) is_slot, tt),
+    )
+
 -- ---- what the calls keep
 
 -- a device and a key of the script
@@ -235,19 +284,19 @@ module _ (script : Script) (stack : StackParts) (caps : List Capabilities) (devi
       (target.0, target.1, is.each i target.0 target.1 solo at)
 
   pub next_each : (opened opened' : Option OpenHold) (i : ℕ) (solo : SoloData) (more : List Event) (held : Option ℕ) → At devices i solo → held ≡ held_on opened' i → length (journal_in (recorded solo more held)) ≤ max_events → Each IsEvent (journal_in (recorded solo more held))
-      → ((k : ℕ) → k ≢ i → held_on opened' k ≡ held_on opened k)
+      → IsLawful solo.count (journal_in (recorded solo more held)) → ((k : ℕ) → k ≢ i → held_on opened' k ≡ held_on opened k)
       → ((k : ℕ) → AllAt script.targets k (λ t. AllAt devices k (IsKeyslotsOf script opened k t)))
       → (k : ℕ) → AllAt script.targets k (λ t. AllAt (slice_set devices i (recorded solo more held)) k (IsKeyslotsOf script opened' k t))
-  next_each opened opened' i solo more held solo_at here within ranges others each k target target_at s s_at =
+  next_each opened opened' i solo more held solo_at here within ranges lawful others each k target target_at s s_at =
       ⊎_elim
       (λ (same : k ≡ i).
       let old = each k target target_at solo (subst (λ j. At devices j solo) (sym same) solo_at) in
       let new : recorded solo more held ≡ s =
       at_one (slice_set devices i (recorded solo more held)) i (recorded solo more held) s (at_set devices i solo (recorded solo more held) solo_at) (subst (λ j. At (slice_set devices i (recorded solo more held)) j s) same s_at) in
-      subst (IsKeyslotsOf script opened' k target) new (record { count = old.count; rows = old.rows; quota = old.quota; held = here ∙ ap (held_on opened') (sym same); within = within; ranges = ranges }))
+      subst (IsKeyslotsOf script opened' k target) new (record { count = old.count; rows = old.rows; quota = old.quota; held = here ∙ ap (held_on opened') (sym same); within = within; ranges = ranges; lawful = lawful }))
       (λ (other : k ≢ i).
       let old = each k target target_at s (at_other devices i k (recorded solo more held) s other s_at) in
-      record { count = old.count; rows = old.rows; quota = old.quota; held = old.held ∙ sym (others k other); within = old.within; ranges = old.ranges })
+      record { count = old.count; rows = old.rows; quota = old.quota; held = old.held ∙ sym (others k other); within = old.within; ranges = old.ranges; lawful = old.lawful })
       (cases_eq k i)
 
   -- the open hold is given back
@@ -272,7 +321,8 @@ module _ (script : Script) (stack : StackParts) (caps : List Capabilities) (devi
       each = subst (λ s. (k : ℕ) → AllAt script.targets k (λ t. AllAt (slice_set devices hold.device s) k (IsKeyslotsOf script None k t))) (sym next)
           (next_each (Some hold) None hold.device solo (events.Idle hold.slot ∷ []) None solo_at refl
           (subst (λ j. length j ≤ max_events) (sym put_journal) (device_of (Some hold) hold.device solo is solo_at).2.within)
-          (subst (Each IsEvent) (sym put_journal) (device_of (Some hold) hold.device solo is solo_at).2.ranges) (λ k other. sym (held_elsewhere hold k other)) is.each);
+          (subst (Each IsEvent) (sym put_journal) (device_of (Some hold) hold.device solo is solo_at).2.ranges)
+          (subst (IsLawful solo.count) (sym put_journal) (device_of (Some hold) hold.device solo is solo_at).2.lawful) (λ k other. sym (held_elsewhere hold k other)) is.each);
       cipher_count = is.cipher_count;
       each_ciphers = is.each_ciphers;
       begun_count = is.begun_count ∙ sym (length-set devices hold.device new);
@@ -350,15 +400,17 @@ module _ (script : Script) (stack : StackParts) (caps : List Capabilities) (devi
     }
 
     -- a device recorded events, and holds no slot
-    pub next_keeps : (i : ℕ) (solo new : SoloData) (more : List Event) → At devices i solo → new ≡ recorded solo more None → length (journal_in solo) + (length more + 0) ≤ max_events → Each IsEvent more → IsKeyslots script stack caps (slice_set devices i new) ciphers begun None
-    next_keeps i solo new more at next few ranges = record {
+    pub next_keeps : (i : ℕ) (solo new : SoloData) (more : List Event) → At devices i solo → new ≡ recorded solo more None → length (journal_in solo) + (length more + 0) ≤ max_events → Each IsEvent more
+        → EachEvent Allowed (slots_in solo) (more ++ []) → IsKeyslots script stack caps (slice_set devices i new) ciphers begun None
+    next_keeps i solo new more at next few ranges allowed = record {
       rules = is.rules;
       stack_is = is.stack_is;
       caps_are = is.caps_are;
       count = length-set devices i new ∙ is.count;
       each = subst (λ s. (k : ℕ) → AllAt script.targets k (λ t. AllAt (slice_set devices i s) k (IsKeyslotsOf script None k t))) (sym next)
           (next_each None None i solo more None at refl (goes_on solo more None 0 (free_is i solo at) refl few)
-          (events_on solo more None (free_is i solo at) (device_of None i solo is at).2.ranges ranges tt) (λ k other. refl) is.each);
+          (events_on solo more None (free_is i solo at) (device_of None i solo is at).2.ranges ranges tt)
+          (lawful_on solo more None (free_is i solo at) (device_of None i solo is at).2.lawful allowed) (λ k other. refl) is.each);
       cipher_count = is.cipher_count;
       each_ciphers = is.each_ciphers;
       begun_count = is.begun_count ∙ sym (length-set devices i new);
@@ -370,17 +422,19 @@ module _ (script : Script) (stack : StackParts) (caps : List Capabilities) (devi
     -- a hold is taken: the slot's cipher is the key's
     pub hold_keeps : (i key slot event : ℕ) (target : Target) (solo new : SoloData) (more : List Event) (kept : List (Option SlotCipherData)) (cipher : Option SlotCipherData) (k : KeyData)
         → At script.targets i target → At devices i solo → At ciphers i kept → slot < length kept → new ≡ recorded solo more (Some slot) → length (journal_in solo) + (length more + 1) ≤ max_events → Each IsEvent more → slot < 2 ^ 16
+        → EachEvent Allowed (slots_in solo) (more ++ events.Idle slot ∷ [])
         → KeepsTo (capabilities_of target.caps) cipher → slice_get (keys_of script) key ≡ Some k → Holds new.count new.journal key slot event
         → IsSomeAnd cipher (λ c. c.parts ≡ parts_of k)
         → IsKeyslots script stack caps (slice_set devices i new) (slice_set ciphers i (slice_set kept slot cipher)) begun (Some (record { device = i; key = key; slot = slot; event = event }))
-    hold_keeps i key slot event target solo new more kept cipher k target_at solo_at kept_at inside next few ranges small keeps is_key holds parts = record {
+    hold_keeps i key slot event target solo new more kept cipher k target_at solo_at kept_at inside next few ranges small allowed keeps is_key holds parts = record {
       rules = is.rules;
       stack_is = is.stack_is;
       caps_are = is.caps_are;
       count = length-set devices i new ∙ is.count;
       each = subst (λ s. (k : ℕ) → AllAt script.targets k (λ t. AllAt (slice_set devices i s) k (IsKeyslotsOf script (Some hold) k t))) (sym next)
           (next_each None (Some hold) i solo more (Some slot) solo_at (sym (held_here hold)) (goes_on solo more (Some slot) 1 (free_is i solo solo_at) refl few)
-          (events_on solo more (Some slot) (free_is i solo solo_at) (device_of None i solo is solo_at).2.ranges ranges (small, tt)) (λ k other. held_elsewhere hold k other) is.each);
+          (events_on solo more (Some slot) (free_is i solo solo_at) (device_of None i solo is solo_at).2.ranges ranges (small, tt))
+          (lawful_on solo more (Some slot) (free_is i solo solo_at) (device_of None i solo is solo_at).2.lawful allowed) (λ k other. held_elsewhere hold k other) is.each);
       cipher_count = length-set ciphers i (slice_set kept slot cipher) ∙ is.cipher_count;
       each_ciphers = next_ciphers;
       begun_count = is.begun_count ∙ sym (length-set devices i new);
@@ -433,7 +487,7 @@ module _ (script : Script) (stack : StackParts) (caps : List Capabilities) (devi
       each = λ k target target_at s s_at.
           let old = of_map devices k s s_at in
           let it = is.each k target target_at old.0 old.1 in
-          subst (IsKeyslotsOf script None k target) old.2 (record { count = it.count; rows = it.rows; quota = it.quota; held = refl; within = within k old.0 old.1; ranges = ranges k target target_at old.0 old.1 });
+          subst (IsKeyslotsOf script None k target) old.2 (record { count = it.count; rows = it.rows; quota = it.quota; held = refl; within = within k old.0 old.1; ranges = ranges k target target_at old.0 old.1; lawful = lawful k target target_at old.0 old.1 });
       cipher_count = is.cipher_count;
       each_ciphers = is.each_ciphers;
       begun_count = is.begun_count ∙ sym (length-map devices (evicted key));
@@ -456,6 +510,10 @@ module _ (script : Script) (stack : StackParts) (caps : List Capabilities) (devi
             events_on solo (events_of_eviction (slots_in solo) key) None (free_is i solo at) (is.each i target target_at solo at).ranges
             (evict_events script target solo i key is.rules target_at (is.each i target target_at solo at).count small (slot_with (slots_in solo) key) refl) tt
 
+        lawful : (i : ℕ) (target : Target) → At script.targets i target → (solo : SoloData) → At devices i solo → IsLawful solo.count (journal_in (evicted key solo))
+        lawful i target target_at solo at =
+            lawful_on solo (events_of_eviction (slots_in solo) key) None (free_is i solo at) (is.each i target target_at solo at).lawful (eviction_allowed (slots_in solo) key)
+
         of_map : (xs : List SoloData) (k : ℕ) (s : SoloData) → At (map (evicted key) xs) k s → (x : SoloData) × At xs k x × (evicted key x ≡ s)
         of_map [] k s at = absurd (none-some s at)
         of_map (x ∷ xs) zero s at = (x, refl, same_Some (evicted key x) s at)
@@ -465,9 +523,10 @@ module _ (script : Script) (stack : StackParts) (caps : List Capabilities) (devi
             → ((k : ℕ) → StartsWith (list_at (map journal_in xs) k) (seen k)) → (k : ℕ) → StartsWith (list_at (map journal_in (map (evicted key) xs)) k) (seen k)
         starts_all [] free seen all k = all k
         starts_all (x ∷ xs) free seen all zero =
-            starts_on (journal_in x) (journal_in (evicted key x)) (seen 0) (all 0)
-            (events_of_eviction (slots_in x) key,
-            append-nil (x.journal ++ events_of_eviction (slots_in x) key) ∙ ap (λ j. j ++ events_of_eviction (slots_in x) key) (sym (free_journal x (free 0 x refl))))
+            starts_on (journal_in x) (journal_in (evicted key x)) (seen 0) (all 0) (
+              events_of_eviction (slots_in x) key,
+              append-nil (x.journal ++ events_of_eviction (slots_in x) key) ∙ ap (λ j. j ++ events_of_eviction (slots_in x) key) (sym (free_journal x (free 0 x refl))),
+            )
         starts_all (x ∷ xs) free seen all (suc k) = starts_all xs (λ j. free (suc j)) (λ j. seen (suc j)) (λ j. all (suc j)) k
 
 -- ---- one more device of a list
@@ -481,6 +540,6 @@ one_evicted key i all devices solo inside is read =
         → slice_set (map (evicted key) (take i all) ++ drop i all) i (evicted key solo) ≡ map (evicted key) (take (i + 1) all) ++ drop (i + 1) all
     go i [] inside read = absurd (omega arith)
     go zero (x ∷ xs) inside read = ap (λ s. evicted key s ∷ xs) read
-    go (suc i) (x ∷ xs) inside read = 
+    go (suc i) (x ∷ xs) inside read =
         let e : suc i + 1 ≡ suc (i + 1) = omega arith in
         ap (λ l. evicted key x ∷ l) (go i xs (omega arith) read) ∙ ap (λ n. map (evicted key) (take n (x ∷ xs)) ++ drop n (x ∷ xs)) (sym e)

@@ -1,23 +1,21 @@
 -- The keyslots of a script's devices as they are opened, and as they are closed.
-use Rattle.std.proofs.Common.{◌≡◌, ◌≢◌, ℕ, zero, suc, ◌+◌, ◌<◌, ◌≤◌, List, [], ◌∷◌, ◌++◌, length, map, take, drop, refl, sym, ap, subst, ◌∙◌, arith, Option, Some, None}
-use Rattle.std.specs.Prelude.{slice_get, ◌^◌, replicate}
-use Rattle.std.specs.List.{AllZip, AllByRecursion}
-use Rattle.std.proofs.lemmas.Option.{none-some, same_Some}
+use Rattle.std.proofs.Common.{◌≡◌, ℕ, zero, suc, ◌<◌, List, [], ◌∷◌, length, map, refl, sym, ap, subst, ◌∙◌, arith, Option, None}
+use Rattle.std.specs.Prelude.{replicate}
+use Rattle.std.specs.List.{AllByRecursion}
+use Rattle.std.proofs.lemmas.Option.{same_Some}
 use Rattle.std.proofs.lemmas.List.{append-nil, length-map, length-replicate}
 use Rattle.bc_base.specs.Lists.{Each, At, AllAt, list_at}
-use Rattle.bc_base.specs.Story.{StartsWith}
 use Rattle.bc_modes.specs.Capabilities.{Capabilities, capabilities_of}
 use Rattle.bc_stack.specs.declared.target.Target.{Target}
-use Rattle.bc_profile.specs.declared.event.Event.{Event}
 use Rattle.bc_profile.specs.SlotJournal.{IsLawful}
 use Rattle.bc_profile.specs.Solo.{SoloData, opened}
 use Rattle.bc_report.specs.LawfulRun.{HaveLawfulJournals}
 use Rattle.bc_report.specs.Report.{IsEvent, IsPart}
-use Rattle.bc_script.specs.Script.{Script, IsScript, keys_of}
+use Rattle.bc_script.specs.Script.{Script, IsScript}
 use Rattle.bc_stack.specs.Targets.{StackParts}
 use Rattle.bc_run.specs.Keyslots.{SlotCipherData, KeepsTo, IsKeyslotsOf, IsKeyslots, journal_in, rows_of, max_events}
-use Rattle.bc_run.proofs.Lists.{at_of_map, map-map, at_exists}
-use Rattle.bc_run.proofs.KeptSlots.{at_below, free_is, free_journal, device_of}
+use Rattle.bc_run.proofs.Lists.{at_of_map, map-map}
+use Rattle.bc_run.proofs.KeptSlots.{free_is, free_journal, device_of}
 
 -- ---- opening
 
@@ -45,7 +43,7 @@ opens script stack caps devices ciphers rules stack_is caps_are devices_are ciph
       let made = at_of_map (opened_device script) script.targets k solo (subst (λ l. At l k solo) devices_are solo_at) in
       let same : made.0 ≡ target = same_Some made.0 target (sym made.1 ∙ target_at) in
       subst (IsKeyslotsOf script None k target) (ap (opened_device script) (sym same) ∙ made.2)
-      (record { count = refl; rows = refl; quota = refl; held = refl; within = omega arith; ranges = tt });
+      (record { count = refl; rows = refl; quota = refl; held = refl; within = omega arith; ranges = tt; lawful = tt });
   cipher_count = ap length ciphers_are ∙ length-map script.targets no_ciphers_of;
   each_ciphers = λ k target target_at kept kept_at.
       let made = at_of_map no_ciphers_of script.targets k kept (subst (λ l. At l k kept) ciphers_are kept_at) in
@@ -73,18 +71,16 @@ module _ (script : Script) (stack : StackParts) (caps : List Capabilities) (devi
   pub closed_journals : map (λ solo. solo.journal) devices ≡ map journal_in devices
   closed_journals = free_journals devices (λ k solo at. free_is script stack caps devices ciphers begun is k solo at)
 
-  pub closed_lawful : Each (λ solo. IsLawful solo.count solo.journal) devices → HaveLawfulJournals script.targets (map journal_in devices)
-  closed_lawful lawful =
-      zipped script.targets devices is.count (λ k target target_at solo at. (is.each k target target_at solo at).count) (λ k solo at. free_is script stack caps devices ciphers begun is k solo at) lawful
+  pub closed_lawful : HaveLawfulJournals script.targets (map journal_in devices)
+  closed_lawful = zipped script.targets devices is.count (λ k target target_at solo at. (is.each k target target_at solo at).count) (λ k target target_at solo at. (is.each k target target_at solo at).lawful)
     where
       zipped : (targets : List Target) (solos : List SoloData) → length solos ≡ length targets → ((k : ℕ) → AllAt targets k (λ t. AllAt solos k (λ s. s.count ≡ t.slots)))
-          → ((k : ℕ) (solo : SoloData) → At solos k solo → solo.held ≡ None) → Each (λ solo. IsLawful solo.count solo.journal) solos → HaveLawfulJournals targets (map journal_in solos)
-      zipped [] [] long counts free all = tt
-      zipped [] (s ∷ solos) long counts free all = absurd (omega arith)
-      zipped (t ∷ targets) [] long counts free all = absurd (omega arith)
-      zipped (t ∷ targets) (s ∷ solos) long counts free all =
-          (subst (IsLawful t.slots) (sym (free_journal s (free 0 s refl))) (subst (λ n. IsLawful n s.journal) (counts 0 t refl s refl) all.0),
-          zipped targets solos (omega arith) (λ k. counts (suc k)) (λ k solo at. free (suc k) solo at) all.1)
+          → ((k : ℕ) → AllAt targets k (λ t. AllAt solos k (λ s. IsLawful s.count (journal_in s)))) → HaveLawfulJournals targets (map journal_in solos)
+      zipped [] [] long counts lawful = tt
+      zipped [] (s ∷ solos) long counts lawful = absurd (omega arith)
+      zipped (t ∷ targets) [] long counts lawful = absurd (omega arith)
+      zipped (t ∷ targets) (s ∷ solos) long counts lawful =
+          (subst (λ n. IsLawful n (journal_in s)) (counts 0 t refl s refl) (lawful 0 t refl s refl), zipped targets solos (omega arith) (λ k. counts (suc k)) (λ k. lawful (suc k)))
 
   pub closed_ranges : Each (IsPart IsEvent) (map journal_in devices)
   closed_ranges = go devices (λ k solo at. let of = (device_of script stack caps devices ciphers begun None k solo is at).2 in record { count = let few = of.within in let small : length (journal_in solo) < 4294967296 = omega (arith, few) in small; each = of.ranges })

@@ -21,6 +21,7 @@ use Rattle.bc_profile.specs.declared.uses.Use.{Use}
 use Rattle.bc_profile.specs.declared.uses.Use.TheVariants as uses
 use Rattle.bc_profile.specs.Programmings.{Holds}
 use Rattle.bc_profile.specs.Rows.{cleared}
+use Rattle.bc_profile.specs.SlotJournal.{IsLawful}
 use Rattle.bc_profile.specs.OneCaller.{events_of_eviction}
 use Rattle.bc_profile.specs.SlotJournal.{InNoSlot, slots_after}
 use Rattle.bc_profile.specs.Solo.{SoloData, HasSpare, recorded, slots_of as slots_in}
@@ -114,7 +115,7 @@ HasRoom keyslots device events = length (list_at keyslots.journals device) + eve
 -- ---- Private: what stands behind it
 
 -- a device with its keyslots: as many as the script says, with the rows of the script's keys; one is held where a hold is open
--- on the device; its journal has no more events than may be recorded, and their numbers are in their ranges
+-- on the device; its journal is lawful, with no more events than may be recorded, and their numbers are in their ranges
 pub record IsKeyslotsOf (script : Script) (opened : Option OpenHold) (device : ℕ) (target : Target) (solo : SoloData)
     : Type 0 where
   pub count : solo.count ≡ target.slots
@@ -123,6 +124,7 @@ pub record IsKeyslotsOf (script : Script) (opened : Option OpenHold) (device : �
   pub held : solo.held ≡ held_on opened device
   pub within : length (journal_in solo) ≤ max_events
   pub ranges : Each IsEvent (journal_in solo)
+  pub lawful : IsLawful solo.count (journal_in solo)
 
 -- a key can be taken out of a device: no slot is held, the key has a row, and an event more fits
 pub record MayEvict (key : ℕ) (solo : SoloData) : Type 0 where

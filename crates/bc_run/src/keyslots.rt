@@ -1,6 +1,6 @@
 //! The keyslots of a script's devices, for one caller.
 
-ghost use Rattle.std.specs.Prelude.{◌≡◌, ℕ, ◌+◌, ◌*◌, ◌<◌, ◌≤◌, true, [], length, map, replicate, None, Some, Ok, IfOk, IsOk, IsSome, IsSomeAnd, OnOk};
+ghost use Rattle.std.specs.Prelude.{◌≡◌, ℕ, ◌*◌, ◌<◌, ◌≤◌, true, [], length, map, replicate, None, Some, Ok, IfOk, IsOk, IsSome, IsSomeAnd};
 ghost use Rattle.bc_bio.specs.Conditions.{HasKey};
 ghost use Rattle.bc_bio.specs.Extent.{unit_sectors};
 ghost use Rattle.bc_medium.specs.KeyedDisk.{enciphered, deciphered};
@@ -259,7 +259,7 @@ impl<'s> Keyslots<'s> {
     /// The journals of the devices.
     pub(crate) fn close(self, alloc: Global) -> Result<Items<Items<Event>>, AllocError>
         ensures journals { IfOk result (λ journals. journals ≡ self.entry.journals) }
-        ensures lawful { OnOk result (HaveLawfulJournals self.entry.script.targets self.entry.journals) }
+        ensures lawful { HaveLawfulJournals self.entry.script.targets self.entry.journals }
         ensures ranges { IfOk result (Each (IsPart IsEvent)) }
     {
         let mut keyslots = self;

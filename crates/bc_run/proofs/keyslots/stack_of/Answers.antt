@@ -1,4 +1,4 @@
-use Rattle.std.proofs.Common.{◌≡◌, ◌∙◌, sym, ap, subst}
+use Rattle.std.proofs.Common.{sym, subst}
 use Rattle.bc_stack.specs.Targets.{IsStack}
 use Rattle.bc_run.proofs.SlotRows.{no_refusal}
 use Rattle.bc_run.proofs.keyslots.stack_of.Goals as goal

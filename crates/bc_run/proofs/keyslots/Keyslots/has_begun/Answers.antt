@@ -1,4 +1,4 @@
-use Rattle.std.proofs.Common.{◌≡◌, ◌∙◌, map, sym, subst}
+use Rattle.std.proofs.Common.{◌∙◌, sym, subst}
 use Rattle.std.proofs.lemmas.List.{length-map}
 use Rattle.bc_run.specs.Keyslots.{KeyslotsData, journal_in}
 use Rattle.bc_run.specs.Standing.{HasBegun}

@@ -1,8 +1,7 @@
-use Rattle.std.proofs.Common.{◌≡◌, ◌∙◌, ◌<◌, List, length, map, sym, ap, subst, get_or, None, Some}
+use Rattle.std.proofs.Common.{◌≡◌, ◌∙◌, ◌<◌, List, length, map, sym, ap, subst, get_or, None}
 use Rattle.std.specs.Prelude.{slice_set}
 use Rattle.bc_base.specs.Lists.{At}
 use Rattle.bc_profile.specs.declared.event.Event.{Event}
-use Rattle.bc_profile.specs.Solo.{SoloData}
 use Rattle.bc_run.specs.Keyslots.{KeyslotsData, IsKeyslots, journal_in}
 use Rattle.bc_run.proofs.KeptSlots.{at_read, at_below, held_is, put_journals, put_keeps}
 use Rattle.bc_run.proofs.keyslots.Keyslots.put.Goals as goal

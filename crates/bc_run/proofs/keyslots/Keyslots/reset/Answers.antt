@@ -1,14 +1,13 @@
-use Rattle.std.proofs.Common.{◌≡◌, ◌∙◌, ◌+◌, ◌≤◌, ◌<◌, List, length, map, sym, ap, subst, get_or, refl, arith, Option, None, Some, [], ◌∷◌}
+use Rattle.std.proofs.Common.{◌≡◌, ◌∙◌, ◌+◌, ◌≤◌, ◌<◌, List, length, map, sym, ap, subst, get_or, refl, arith, Option, None, [], ◌∷◌}
 use Rattle.std.specs.Prelude.{slice_set}
 use Rattle.bc_base.specs.Lists.{At, list_at}
 use Rattle.bc_profile.specs.declared.event.Event.{Event}
 use Rattle.bc_profile.specs.declared.event.Event.TheVariants as events
 use Rattle.bc_profile.specs.declared.uses.Use.TheVariants as uses
-use Rattle.bc_profile.specs.Solo.{SoloData}
 use Rattle.bc_run.specs.declared.open_hold.OpenHold.{OpenHold}
 use Rattle.bc_run.specs.Keyslots.{KeyslotsData, IsKeyslots, HasRoom, journal_in, used_at, max_events}
 use Rattle.bc_run.proofs.Lists.{list_at_map}
-use Rattle.bc_run.proofs.KeptSlots.{at_read, free_is, has_spare, free_journal, next_keeps, use_of_one, device_of}
+use Rattle.bc_run.proofs.KeptSlots.{at_read, free_is, has_spare, next_keeps, use_of_one, device_of}
 use Rattle.bc_run.proofs.keyslots.Keyslots.reset.Goals as goal
 
 pub reset-requires-clause-free : goal.reset-requires-clause-free
@@ -50,7 +49,7 @@ invariant_of-self c =
     let few : length (journal_in c.index_mut.result.now) + (1 + 0) ≤ max_events = subst (λ j. length j + 1 ≤ max_events) (list_at_map journal_in s.devices.items c.args.device c.index_mut.result.now at) room in
     subst (λ (o : Option OpenHold). IsKeyslots s.script.now s.stack s.caps.items (slice_set s.devices.items c.from.result c.reset.new.self) (map (λ v. v.items) s.ciphers.items) s.begun.value.items o) (sym none)
     (subst (λ k. IsKeyslots s.script.now s.stack s.caps.items (slice_set s.devices.items k c.reset.new.self) (map (λ v. v.items) s.ciphers.items) s.begun.value.items None) (sym c.from.ensures)
-    (next_keeps _ _ _ _ _ _ is c.args.device c.index_mut.result.now c.reset.new.self (events.Reset ∷ []) at c.reset.ensures few (tt, tt)))
+    (next_keeps _ _ _ _ _ _ is c.args.device c.index_mut.result.now c.reset.new.self (events.Reset ∷ []) at c.reset.ensures few (tt, tt) (tt, tt)))
 
 pub returns : goal.returns
 returns c =
