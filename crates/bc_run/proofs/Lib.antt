@@ -9,6 +9,7 @@ pub mod Placing
 pub mod Ready
 pub mod Ordering
 pub mod Using
+pub mod Extending
 pub mod Left
 pub mod Acting
 pub mod Reaching
@@ -37,3 +38,12 @@ pub mod KeptSlots
 pub mod SlotRows
 pub mod TakenOut
 pub mod OpenedSlots
+pub mod Cutting
+pub mod Pieces
+pub mod Splitting
+pub mod TurnSteps
+pub mod OnDevice
+pub mod WindowNames
+pub mod OneMore
+pub mod TurningUnits
+pub mod Turning
