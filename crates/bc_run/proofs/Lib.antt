@@ -9,6 +9,7 @@ pub mod Placing
 pub mod Ready
 pub mod Ordering
 pub mod Using
+pub mod Extending
 pub mod Left
 pub mod Acting
 pub mod Reaching
@@ -38,7 +39,6 @@ pub mod SlotRows
 pub mod TakenOut
 pub mod OpenedSlots
 pub mod Cutting
-pub mod Extending
 pub mod Pieces
 pub mod Splitting
 pub mod TurnSteps
