@@ -8,9 +8,9 @@ use Rattle.bc_run.specs.declared.status.Status.{Status}
 use Rattle.bc_run.specs.declared.status.Status.TheVariants.{Ok, Usage, BadScript, ReadFault, WriteFault, FolderFault, ImageLength, TooLong, NoMemory, Missing}
 use Rattle.bc_script.specs.declared.script_error.ScriptError.{ScriptError}
 use Rattle.bc_run.specs.Built.{unbuilt_line, IsBuilt, IsUnbuilt}
-use Rattle.bc_run.specs.Words.{IsCommand, options_of}
+use Rattle.bc_run.specs.Words.{IsSerialCommand, options_of}
 use Rattle.bc_run.specs.Command.{HasAnotherLength, HasImageFor, IsBadScript, IsTextOf, bytes_of_disk}
-use Rattle.bc_run.specs.Statuses.{CommandRun, EndsBy, FolderRose, ReadRose, WriteRose}
+use Rattle.bc_run.specs.Statuses.{CommandRun, SerialEndsBy, FolderRose, ReadRose, WriteRose}
 use Rattle.bc_run.proofs.Texts.{NoPrefix, one_script}
 
 -- the folder has the image, so it doesn't lack it
@@ -55,7 +55,7 @@ not_unbuilt law text asked accepted built why unbuilt =
     none_some : (n : ℕ) → None ≡ Some n → ⊥
     none_some n e = cc
 
-complete_of : NoPrefix → (run : CommandRun) (status : Status) → EndsBy run status → IsCommand run.words
+complete_of : NoPrefix → (run : CommandRun) (status : Status) → SerialEndsBy run status → IsSerialCommand run.words
     → (text : List ℕ) → run.text ≡ Some text → (asked : Script) → IsTextOf text asked → IsBuilt asked
     → HasImageFor run.effects.files_before (options_of run.words).image asked
     → (ReadRose run → ⊥) → (FolderRose run.effects → ⊥) → (WriteRose run.effects → ⊥)
@@ -88,7 +88,7 @@ complete_of law run (TooLong limit) e cmd text is asked accepted built image no_
       (subst (λ l. IsSomeAnd (options_of run.words).image (λ n. HasLonger run.effects.files_before n l)) h.holds.0 h.holds.1))
 ]
 
-pub complete : NoPrefix → (run : CommandRun) (status : Status) → EndsBy run status → IsCommand run.words
+pub complete : NoPrefix → (run : CommandRun) (status : Status) → SerialEndsBy run status → IsSerialCommand run.words
     → IfSome run.text (λ text. (asked : Script) → IsTextOf text asked → IsBuilt asked
     → HasImageFor run.effects.files_before (options_of run.words).image asked
     → (ReadRose run → ⊥) → (FolderRose run.effects → ⊥) → (WriteRose run.effects → ⊥)

@@ -20,3 +20,5 @@ pub mod EqualParts
 pub mod Texts
 pub mod Complete
 pub mod Ends
+pub mod MakeWords
+pub mod MakeEnds

@@ -4,7 +4,7 @@ use Rattle.std.specs.Prelude.{◌≡◌, ℕ, List, [], ◌∷◌, Some, codes}
 use Rattle.bc_base.specs.Folders.{Files}
 use Rattle.clap.specs.Words.{fault_of}
 use Rattle.clap.specs.declared.error.kind.ErrorKind.{ErrorKind}
-use Rattle.bc_run.specs.Words.{IsCommand, Options, options_of, serial_command}
+use Rattle.bc_run.specs.Words.{IsSerialCommand, Options, options_of, serial_command}
 use Rattle.bc_run.specs.Command.{IsCarriedOut, IsScriptAnd}
 
 -- with these files and options the text was carried out, with this report and this image
@@ -26,7 +26,7 @@ with_words words = codes "serial" ∷ words
 
 -- after the command these words are taken, with these options
 abbrev pub Mean : List (List ℕ) → Options → Type 0
-Mean words options = IsCommand (with_words words) × (options_of (with_words words) ≡ options)
+Mean words options = IsSerialCommand (with_words words) × (options_of (with_words words) ≡ options)
 
 -- after the command these words are refused, by this kind of error
 abbrev pub AreRefused : List (List ℕ) → ErrorKind → Type 0

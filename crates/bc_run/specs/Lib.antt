@@ -1,6 +1,7 @@
 pub mod Words
 pub mod Built
 pub mod Command
+pub mod Making
 pub mod Statuses
 pub mod Laws
 pub mod Stages

@@ -17,6 +17,8 @@
 // a run of the program, stage by stage
 mod built;
 mod image;
+mod make;
+mod make_words;
 mod program;
 mod status;
 mod words;

@@ -11,15 +11,17 @@ ghost use Rattle.bc_report.specs.LawfulRun.{LawfulRun};
 ghost use Rattle.bc_report.specs.RunOf.{run_of};
 ghost use Rattle.bc_report.specs.SerialRun.{IsSerial};
 ghost use Rattle.bc_script.specs.declared.limits.TheConstants.{MAX_TEXT};
-ghost use Rattle.bc_run.specs.Words.{Begins, IsCommand, IsShardCount, options_of};
+ghost use Rattle.bc_run.specs.Words.{Begins, IsCommand, IsMakeCommand, IsSerialCommand, IsShardCount, NamesCommand, options_of};
 ghost use Rattle.bc_run.specs.Built.{IsBuilt};
 ghost use Rattle.bc_run.specs.Command.{HasImageFor, IsTextOf, bytes_of_disk};
-ghost use Rattle.bc_run.specs.Statuses.{ChangesOnly, EndsBy, NamesFile, ScriptEndsBy};
+ghost use Rattle.bc_run.specs.Statuses.{ChangesOnly, EndsBy, NamesFile, ScriptEndsBy, SerialEndsBy};
 ghost use Rattle.bc_run.specs.Stages.{status_of, IsNotRead, said_by};
 ghost use Rattle.bc_script.specs.Script as specs;
 
 use crate::built::unbuilt_line;
 use crate::image::{opening_image, put_image};
+use crate::make::make;
+use crate::make_words::is_make;
 use crate::one_caller::{Finished, serial};
 use crate::status::Status;
 use crate::words::{Options, options_of_words};
@@ -91,8 +93,10 @@ pub fn run<Rt, S: Source, K: Sink, F: Folder, G>(
     }) result }
     ensures usage { (IsCommand (map string_bytes words.now) → ⊥)
         → (result ≡ Status.Usage)
-        ⊎ ((result ≡ Status.NoMemory) × Begins (codes "serial") (map string_bytes words.now)) }
-    ensures end { result ≡ Status.Ok → IsAtEnd (S.left script.new) }
+        ⊎ ((result ≡ Status.NoMemory) × NamesCommand (map string_bytes words.now)) }
+    ensures end { IsSerialCommand (map string_bytes words.now) → result ≡ Status.Ok → IsAtEnd (S.left script.new) }
+    ensures make { Begins (codes "make") (map string_bytes words.now)
+        → (script.new ≡ script.old) × (folder.new ≡ folder.old) }
     ensures untouched { result ≢ Status.Ok → result ≢ Status.WriteFault
         → Keeps (K.held out.old) (K.held out.new) }
     ensures same { result ≢ Status.Ok → result ≢ Status.WriteFault → result ≢ Status.FolderFault
@@ -109,16 +113,25 @@ pub fn run<Rt, S: Source, K: Sink, F: Folder, G>(
 
     // A script within the limit that asks for nothing that isn't carried out yet is carried out over zeros or the image that
     // the folder has, unless a count of faults rose or memory ran out.
-    ensures complete { IsCommand (map string_bytes words.now)
+    ensures complete { IsSerialCommand (map string_bytes words.now)
         → IfSome (S.left script.old) (λ text. (asked : specs.Script) → IsTextOf text asked → IsBuilt asked
         → HasImageFor (F.files folder.old) (options_of (map string_bytes words.now)).image asked
         → (Rose (S.faults script.old) (S.faults script.new) → ⊥)
         → (Rose (F.faults folder.old) (F.faults folder.new) → ⊥)
         → (Rose (K.faults out.old) (K.faults out.new) → ⊥)
         → (result ≡ Status.Ok) ⊎ (result ≡ Status.NoMemory)) }
+    // And what is generated is carried out, unless the sink's count rose or memory ran out.
+    ensures make_complete { IsMakeCommand (map string_bytes words.now)
+        → (Rose (K.faults out.old) (K.faults out.new) → ⊥)
+        → (result ≡ Status.Ok) ⊎ (result ≡ Status.NoMemory) }
 {
     no_proper_prefix();
-    match stages(alloc, words, script, out, folder) {
+    let ended = if is_make(words) {
+        make(alloc, words, out)
+    } else {
+        stages(alloc, words, script, out, folder)
+    };
+    match ended {
         Ok(()) => Status::Ok,
         Err(status) => status,
     }
@@ -132,7 +145,7 @@ fn stages<S: Source, K: Sink, F: Folder>(
     out: &mut K,
     folder: &mut F,
 ) -> Result<(), Status>
-    ensures status { EndsBy (record {
+    ensures status { SerialEndsBy (record {
       words = map string_bytes words.now;
       text = S.left source.old;
       read_faults_before = S.faults source.old;
@@ -249,7 +262,7 @@ fn script_of_text(alloc: Global, text: &[u8]) -> Result<Script, Status>
 }
 
 /// Carries the script out over the image, with so many shards.
-fn carry_out(
+pub(crate) fn carry_out(
     alloc: Global,
     script: &Script,
     image: Vec<u8>,
@@ -280,8 +293,8 @@ fn text_of_report(alloc: Global, report: &Report) -> Result<Vec<u8>, Status>
     }
 }
 
-/// Writes the text of the report.
-fn write_text<K: Sink>(out: &mut K, text: &[u8]) -> Result<(), Status>
+/// Writes the text of a report, or the line of `make`.
+pub(crate) fn write_text<K: Sink>(out: &mut K, text: &[u8]) -> Result<(), Status>
     ensures ok { OnOk result (Appends (K.held out.old) (K.held out.new) text.now) }
     ensures prefix { AppendsPrefix (K.held out.old) (K.held out.new) text.now }
     ensures fault { IfErr result (λ e. e ≡ Status.WriteFault) }
