@@ -6,8 +6,6 @@ use Rattle.bc_script.specs.Script.{Script}
 use Rattle.bc_run.specs.declared.image.TheConstants.{MAX_IMAGE}
 use Rattle.bc_run.specs.declared.status.Status.{Status}
 use Rattle.bc_run.specs.declared.status.Status.TheVariants.{Ok, Usage, BadScript, ReadFault, WriteFault, FolderFault, ImageLength, TooLong, NoMemory, Missing}
-use Rattle.bc_script.specs.declared.script_error.ScriptError.{ScriptError}
-use Rattle.bc_run.specs.Built.{unbuilt_line, IsBuilt, IsUnbuilt}
 use Rattle.bc_run.specs.Words.{IsSerialCommand, options_of}
 use Rattle.bc_run.specs.Command.{HasAnotherLength, HasImageFor, IsBadScript, IsTextOf, bytes_of_disk}
 use Rattle.bc_run.specs.Statuses.{CommandRun, SerialEndsBy, FolderRose, ReadRose, WriteRose}
@@ -46,39 +44,27 @@ not_another (Some held) (Some n) script want got has another = go (held n) refl 
         let is : another.image ≡ x = cc in
         another.differ (another.want_is ∙ sym h.0 ∙ ap length (sym is) ∙ sym another.got_is)
 
--- a script that is carried out isn't answered as one that isn't yet
-not_unbuilt : NoPrefix → (text : List ℕ) (asked : Script) → IsTextOf text asked → IsBuilt asked → (why : ScriptError) → IsUnbuilt why text → ⊥
-not_unbuilt law text asked accepted built why unbuilt =
-    let same : unbuilt.script ≡ asked = one_script law text unbuilt.script asked (record { within = accepted.within; says = unbuilt.says }) accepted in
-    none_some why.line (sym built ∙ sym (ap unbuilt_line same) ∙ unbuilt.line)
-  where
-    none_some : (n : ℕ) → None ≡ Some n → ⊥
-    none_some n e = cc
-
 complete_of : NoPrefix → (run : CommandRun) (status : Status) → SerialEndsBy run status → IsSerialCommand run.words
-    → (text : List ℕ) → run.text ≡ Some text → (asked : Script) → IsTextOf text asked → IsBuilt asked
+    → (text : List ℕ) → run.text ≡ Some text → (asked : Script) → IsTextOf text asked
     → HasImageFor run.effects.files_before (options_of run.words).image asked
     → (ReadRose run → ⊥) → (FolderRose run.effects → ⊥) → (WriteRose run.effects → ⊥)
     → (status ≡ Ok) ⊎ (status ≡ NoMemory)
-complete_of law run Ok e cmd text is asked accepted built image no_read no_folder no_write = inl refl
-complete_of law run NoMemory e cmd text is asked accepted built image no_read no_folder no_write = inr refl
-complete_of law run Usage e cmd text is asked accepted built image no_read no_folder no_write = absurd (e cmd)
-complete_of law run ReadFault e cmd text is asked accepted built image no_read no_folder no_write = absurd (no_read e.1)
-complete_of law run FolderFault e cmd text is asked accepted built image no_read no_folder no_write = absurd (no_folder e.1.holds.1)
-complete_of law run WriteFault e cmd text is asked accepted built image no_read no_folder no_write = absurd (no_write e.1.holds.1)
-complete_of law run Missing e cmd text is asked accepted built image no_read no_folder no_write =
+complete_of law run Ok e cmd text is asked accepted image no_read no_folder no_write = inl refl
+complete_of law run NoMemory e cmd text is asked accepted image no_read no_folder no_write = inr refl
+complete_of law run Usage e cmd text is asked accepted image no_read no_folder no_write = absurd (e cmd)
+complete_of law run ReadFault e cmd text is asked accepted image no_read no_folder no_write = absurd (no_read e.1)
+complete_of law run FolderFault e cmd text is asked accepted image no_read no_folder no_write = absurd (no_folder e.1.holds.1)
+complete_of law run WriteFault e cmd text is asked accepted image no_read no_folder no_write = absurd (no_write e.1.holds.1)
+complete_of law run Missing e cmd text is asked accepted image no_read no_folder no_write =
     absurd (not_missing run.effects.files_before (options_of run.words).image asked image e.1.holds)
-complete_of law run (ImageLength want got) e cmd text is asked accepted built image no_read no_folder no_write =
+complete_of law run (ImageLength want got) e cmd text is asked accepted image no_read no_folder no_write =
     let same : e.1.script ≡ asked = one_script law text e.1.script asked (subst (λ o. IfSome o (λ t. IsTextOf t e.1.script)) is e.1.accepted) accepted in
     absurd (not_another run.effects.files_before (options_of run.words).image asked want got image
     (subst (λ s. HasAnotherLength run.effects.files_before (options_of run.words).image s want got) same e.1.holds))
-complete_of law run (BadScript why) e cmd text is asked accepted built image no_read no_folder no_write =
+complete_of law run (BadScript why) e cmd text is asked accepted image no_read no_folder no_write =
     let bad : IsBadScript why text = subst (λ o. IfSome o (IsBadScript why)) is e.1 in
-    elim bad.bad [
-      | inl error ↦ absurd (error.none asked accepted.says.valid accepted.says.text_is)
-      | inr unbuilt ↦ absurd (not_unbuilt law text asked accepted built why unbuilt)
-    ]
-complete_of law run (TooLong limit) e cmd text is asked accepted built image no_read no_folder no_write = elim e.1 [
+    absurd (bad.bad.none asked accepted.says.valid accepted.says.text_is)
+complete_of law run (TooLong limit) e cmd text is asked accepted image no_read no_folder no_write = elim e.1 [
   | inl h ↦
       let long : limit < length text = subst (λ o. IfSome o (λ t. limit < length t)) is h.1 in
       let u = accepted.within in
@@ -89,13 +75,13 @@ complete_of law run (TooLong limit) e cmd text is asked accepted built image no_
 ]
 
 pub complete : NoPrefix → (run : CommandRun) (status : Status) → SerialEndsBy run status → IsSerialCommand run.words
-    → IfSome run.text (λ text. (asked : Script) → IsTextOf text asked → IsBuilt asked
+    → IfSome run.text (λ text. (asked : Script) → IsTextOf text asked
     → HasImageFor run.effects.files_before (options_of run.words).image asked
     → (ReadRose run → ⊥) → (FolderRose run.effects → ⊥) → (WriteRose run.effects → ⊥)
     → (status ≡ Ok) ⊎ (status ≡ NoMemory))
 complete law run status e cmd = go run.text refl
   where
-    go : (o : Option (List ℕ)) → run.text ≡ o → IfSome o (λ text. (asked : Script) → IsTextOf text asked → IsBuilt asked
+    go : (o : Option (List ℕ)) → run.text ≡ o → IfSome o (λ text. (asked : Script) → IsTextOf text asked
         → HasImageFor run.effects.files_before (options_of run.words).image asked
         → (ReadRose run → ⊥) → (FolderRose run.effects → ⊥) → (WriteRose run.effects → ⊥)
         → (status ≡ Ok) ⊎ (status ≡ NoMemory))

@@ -1,6 +1,6 @@
 -- What the command `serial` carries out: the script that its text says, over the image that its words name or over zeros,
 -- with the shards that they say.
-use Rattle.std.specs.Prelude.{◌≡◌, ◌⊎◌, ℕ, ◌*◌, ◌≤◌, List, length, replicate, Option, Some, MatchOption, IfSome, IsSomeAnd}
+use Rattle.std.specs.Prelude.{◌≡◌, ℕ, ◌*◌, ◌≤◌, List, length, replicate, Option, Some, MatchOption, IfSome, IsSomeAnd}
 use Rattle.bc_base.specs.declared.geometry.TheConstants.{BLOCK_BYTES}
 use Rattle.bc_base.specs.Folders.{Files, Has}
 use Rattle.bc_script.specs.declared.limits.TheConstants.{MAX_TEXT}
@@ -13,7 +13,6 @@ use Rattle.bc_report.specs.ReportText.{report_text}
 use Rattle.bc_report.specs.LawfulRun.{LawfulRun}
 use Rattle.bc_report.specs.RunOf.{run_of}
 use Rattle.bc_report.specs.SerialRun.{IsSerial}
-use Rattle.bc_run.specs.Built.{IsUnbuilt}
 use Rattle.bc_run.specs.Words.{Options, IsShardCount}
 use Rattle.bc_run.specs.declared.image.TheConstants.{MAX_IMAGE}
 
@@ -31,10 +30,10 @@ pub record HasError (error : ScriptError) (text : List ℕ) : Type 0 where
   pub none : NoScriptHas text
   pub first_error : error_of text ≡ Some error
 
--- the text is within the limit, and no script's or that of one that isn't carried out yet, by this error
+-- the text is within the limit, and no script's, by this error
 pub record IsBadScript (error : ScriptError) (text : List ℕ) : Type 0 where
   pub within : IsWithinLimit text
-  pub bad : HasError error text ⊎ IsUnbuilt error text
+  pub bad : HasError error text
 
 -- how many bytes the script's disk has
 abbrev pub bytes_of_disk : Script → ℕ

@@ -23,8 +23,8 @@ use Rattle.bc_compose.specs.SectionDone.{SaysItsWay, IsReply, SectionDone}
 use Rattle.bc_run.specs.Uses.{MakesUses}
 
 -- a thread's device: of which script, over how many shards, which sectors each of them had at the opening, whose it is,
--- what its thread has seen of the orders and of the journals, whether no other thread comes between, and how many data units,
--- evictions and resets more fit
+-- what its thread has seen of the orders and of the journals, what the journals were when its section began, whether no other
+-- thread comes between, and how many data units, evictions and resets more fit
 pub record DeviceData : Type 0 where
   pub script : Script
   pub shards : ℕ
@@ -32,6 +32,7 @@ pub record DeviceData : Type 0 where
   pub thread : ℕ
   pub seen : List (List Entry)
   pub noted : List (List Noted)
+  pub begun : List (List Event)
   pub alone : Bool
   pub spare : ℕ
 
@@ -82,7 +83,13 @@ pub record SectionsDone (old now : DeviceData) (sections : List (List Op)) (answ
   pub seen : List (List (List Entry))
   pub noted : List (List (List Noted))
   pub stories : List (List Noted)
-  pub same : now ≡ record old { thread = now.thread; seen = now.seen; noted = now.noted; spare = now.spare }
+  pub same : now ≡ record old {
+    thread = now.thread;
+    seen = now.seen;
+    noted = now.noted;
+    begun = now.begun;
+    spare = now.spare;
+  }
   pub each_made : length made ≡ length sections
   pub each_seen : length seen ≡ length sections
   pub each_noted : length noted ≡ length sections

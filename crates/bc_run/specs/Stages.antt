@@ -1,6 +1,6 @@
 -- What the stages of `run` answer: the status that a stage ends with, what the options say as text, why a text was not read
 -- as a script, and why there is no image. No public contract rests on belief in these.
-use Rattle.std.specs.Prelude.{◌≡◌, ◌⊎◌, ⊤, ℕ, List, Option, Some, Result, Ok, Err, option_map, is_some, true, IsSomeAnd}
+use Rattle.std.specs.Prelude.{◌≡◌, ⊤, ℕ, List, Option, Some, Result, Ok, Err, option_map, is_some, true, IsSomeAnd}
 use Rattle.std.specs.Borrow.{Bor}
 use Rattle.bc_base.specs.Folders.{Files, HasLonger, Lacks}
 use Rattle.bc_script.specs.Script.{Script}
@@ -10,7 +10,6 @@ use Rattle.bc_run.specs.declared.image.TheConstants.{MAX_IMAGE}
 use Rattle.bc_run.specs.declared.words.Options.{Options as Read}
 use Rattle.bc_run.specs.declared.make_words.Making.{Making}
 use Rattle.bc_run.specs.Words.{MakeOptions, Options}
-use Rattle.bc_run.specs.Built.{IsUnbuilt}
 use Rattle.bc_run.specs.Command.{HasAnotherLength, HasError}
 
 -- the status of a stage: its error's, or Ok
@@ -30,9 +29,9 @@ said_by options = record { image = text_of options.image; out = text_of options.
 abbrev pub made_by : Making → MakeOptions
 made_by making = record { n = making.n; slots = making.slots; shards = making.shards }
 
--- a text was not read: no script has it, or one that isn't carried out yet, and this is its error; or there was no memory
+-- a text was not read: no script has it, and this is its error; or there was no memory
 abbrev pub IsNotRead : List ℕ → Status → Type 0
-IsNotRead text (statuses.BadScript error) = HasError error text ⊎ IsUnbuilt error text
+IsNotRead text (statuses.BadScript error) = HasError error text
 IsNotRead text statuses.NoMemory = ⊤
 IsNotRead text other = ⊥
 

@@ -111,6 +111,7 @@ device_of course = record {
   thread = course.thread;
   seen = orders_of course.shards;
   noted = stories_of course.thread course.begun course.journals;
+  begun = course.begun;
   alone = true;
   spare = course.left;
 }

@@ -15,7 +15,6 @@
 #![tactic(auto)]
 
 // a run of the program, stage by stage
-mod built;
 mod image;
 mod make;
 mod make_words;
@@ -45,7 +44,6 @@ mod ciphers;
 // the laws of runs
 mod laws;
 
-pub use built::unbuilt_line;
 pub use image::MAX_IMAGE;
 pub use laws::{serial_runs_agree, words_by_example};
 pub use one_caller::{Finished, serial};

@@ -12,13 +12,11 @@ ghost use Rattle.bc_report.specs.RunOf.{run_of};
 ghost use Rattle.bc_report.specs.SerialRun.{IsSerial};
 ghost use Rattle.bc_script.specs.declared.limits.TheConstants.{MAX_TEXT};
 ghost use Rattle.bc_run.specs.Words.{Begins, IsCommand, IsMakeCommand, IsSerialCommand, IsShardCount, NamesCommand, options_of};
-ghost use Rattle.bc_run.specs.Built.{IsBuilt};
 ghost use Rattle.bc_run.specs.Command.{HasImageFor, IsTextOf, bytes_of_disk};
 ghost use Rattle.bc_run.specs.Statuses.{ChangesOnly, EndsBy, NamesFile, ScriptEndsBy, SerialEndsBy};
 ghost use Rattle.bc_run.specs.Stages.{status_of, IsNotRead, said_by};
 ghost use Rattle.bc_script.specs.Script as specs;
 
-use crate::built::unbuilt_line;
 use crate::image::{opening_image, put_image};
 use crate::make::make;
 use crate::make_words::is_make;
@@ -28,7 +26,7 @@ use crate::words::{Options, options_of_words};
 use bc_base::{Folder, ReadError, Sink, Source, read_all, write_all};
 use bc_report::{Report, print};
 use bc_script::limits::MAX_TEXT;
-use bc_script::{ParseError, Script, ScriptError, ScriptWhy, no_proper_prefix, parse};
+use bc_script::{ParseError, Script, no_proper_prefix, parse};
 use std::alloc::{AllocError, Global};
 
 /// Runs the command that the words say, and returns how that ended. The words are those after the program's name.
@@ -54,8 +52,7 @@ use std::alloc::{AllocError, Global};
 /// - [`Status::Usage`]: the first word is no command, or clap refuses the others.
 /// - [`Status::ReadFault`]: the source failed, and its count of faults rose.
 /// - [`Status::TooLong`]: the source had more than 16 MiB, or the image has more than 64 MiB.
-/// - [`Status::BadScript`]: no script has the text; the line and the test that it fails first. Or the script has no
-///   fallback, or has devices, which isn't carried out yet: line 3, or line 4, and that it isn't built.
+/// - [`Status::BadScript`]: no script has the text; the line and the test that it fails first.
 /// - [`Status::FolderFault`]: the folder failed, and its count of faults rose. Where the image was being put, anything may
 ///   stand under the name of `--out`.
 /// - [`Status::Missing`]: the folder doesn't have the image.
@@ -111,10 +108,10 @@ pub fn run<Rt, S: Source, K: Sink, F: Folder, G>(
     ensures write_cause { HasCause (K.faults out.old) (K.faults out.new)
         (result ≡ Status.WriteFault) }
 
-    // A script within the limit that asks for nothing that isn't carried out yet is carried out over zeros or the image that
-    // the folder has, unless a count of faults rose or memory ran out.
+    // A script within the limit is carried out over zeros or the image that the folder has, unless a count of faults rose or
+    // memory ran out.
     ensures complete { IsSerialCommand (map string_bytes words.now)
-        → IfSome (S.left script.old) (λ text. (asked : specs.Script) → IsTextOf text asked → IsBuilt asked
+        → IfSome (S.left script.old) (λ text. (asked : specs.Script) → IsTextOf text asked
         → HasImageFor (F.files folder.old) (options_of (map string_bytes words.now)).image asked
         → (Rose (S.faults script.old) (S.faults script.new) → ⊥)
         → (Rose (F.faults folder.old) (F.faults folder.new) → ⊥)
@@ -191,7 +188,6 @@ fn run_script<K: Sink, F: Folder>(
     out: &mut K,
     folder: &mut F,
 ) -> Result<(), Status>
-    requires built { IsBuilt script.now }
     requires shards { IsShardCount options.shards }
     ensures status { ScriptEndsBy (record {
       files_before = F.files folder.old;
@@ -242,20 +238,13 @@ fn read_script<S: Source>(alloc: Global, source: &mut S) -> Result<Vec<u8>, Stat
     }
 }
 
-/// The script that the text says, where it asks for nothing that isn't carried out yet.
+/// The script that the text says.
 fn script_of_text(alloc: Global, text: &[u8]) -> Result<Script, Status>
     ensures ok { IfOk result (Says text.now) }
-    ensures built { IfOk result IsBuilt }
     ensures bad { IfErr result (IsNotRead text.now) }
 {
     match parse(alloc, text) {
-        Ok(script) => match unbuilt_line(&script) {
-            None => Ok(script),
-            Some(line) => Err(Status::BadScript(ScriptError {
-                line,
-                why: ScriptWhy::NotBuilt,
-            })),
-        },
+        Ok(script) => Ok(script),
         Err(ParseError::Bad(error)) => Err(Status::BadScript(error)),
         Err(ParseError::Memory) => Err(Status::NoMemory),
     }
