@@ -22,3 +22,4 @@ pub mod Complete
 pub mod Ends
 pub mod MakeWords
 pub mod MakeEnds
+pub mod MakeLines

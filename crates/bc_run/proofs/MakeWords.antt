@@ -26,9 +26,9 @@ abbrev pub nth : (x y z : Arg) → ℕ → Arg → Arg
 nth x y z k d = slice_index_or (x ∷ y ∷ z ∷ []) k d
 
 differ : (a b : List ℕ) (x y : Arg) → x.id.now ≡ a → y.id.now ≡ b → bytes_eq a b ≡ false → bytes_eq x.id.now y.id.now ≡ true → ⊥
-differ a b x y is_x is_y no same =
+differ a b x y is_x is_y other same =
     let as_is : bytes_eq a b ≡ true = rw (is_x, is_y) at same in
-    let bad : false ≡ true = sym no ∙ as_is in
+    let bad : false ≡ true = sym other ∙ as_is in
     cc
 
 -- no two of them have one id

@@ -1,6 +1,6 @@
 -- What the command `make` carries out and writes: the script that is generated for its numbers, over zeros, and one line with
 -- the digest of the image that is left.
-use Rattle.std.specs.Prelude.{ℕ, ◌*◌, List, ◌++◌, codes}
+use Rattle.std.specs.Prelude.{◌≡◌, ℕ, ◌*◌, List, ◌++◌, codes}
 use Rattle.std.specs.Fmt.{decimal}
 use Rattle.hex.specs.Hex.{encode_lower}
 use Rattle.sha2.specs.Sha256.{sha256}
@@ -10,10 +10,6 @@ use Rattle.bc_report.specs.Report.{Report}
 use Rattle.bc_report.specs.SerialRun.{IsSerialRun}
 use Rattle.bc_run.specs.Words.{MakeOptions}
 use Rattle.bc_run.specs.Command.{zeros_for}
-
--- the script of these options
-abbrev pub script_of : MakeOptions → Script
-script_of options = generated options.n options.slots
 
 -- a number behind a word
 abbrev pub counted : List ℕ → ℕ → List ℕ
@@ -34,7 +30,9 @@ line_of n left = make_line n (32 * n) (32 * n) (32 * n) 0 left
 
 -- this was done with the line of a lawful run of the generated script over zeros, section after section
 pub record IsMade (Done : List ℕ → Type 0) (options : MakeOptions) : Type 0 where
+  pub script : Script
+  pub script_is : script ≡ generated options.n options.slots
   pub report : Report
   pub left : List ℕ
-  pub run : IsSerialRun (script_of options) (zeros_for (script_of options)) options.shards report left
+  pub run : IsSerialRun script (zeros_for script) options.shards report left
   pub done : Done (line_of options.n left)

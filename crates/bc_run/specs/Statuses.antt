@@ -107,17 +107,34 @@ SerialEndsBy run (TooLong limit) =
     × (((limit ≡ MAX_TEXT) × IfSome run.text (λ text. limit < length text)) ⊎ EndsByScript run (TooLong limit))
 SerialEndsBy run status = IsSerialCommand run.words × EndsByScript run status
 
+-- what a run does to its sink: its faults, and the bytes that it holds where it says so
+pub record SinkEffects : Type 0 where
+  pub faults_before : ℕ
+  pub faults_after : ℕ
+  pub held_before : Option (List ℕ)
+  pub held_after : Option (List ℕ)
+
+-- what became of the sink
+abbrev pub sink_of : Effects → SinkEffects
+sink_of e = record {
+  faults_before = e.write_faults_before;
+  faults_after = e.write_faults_after;
+  held_before = e.held_before;
+  held_after = e.held_after;
+}
+
 -- why a run of `make` ended with this status
-abbrev pub MakeEndsBy : List (List ℕ) → Effects → Status → Type 0
+abbrev pub MakeEndsBy : List (List ℕ) → SinkEffects → Status → Type 0
 MakeEndsBy words e Usage = IsMakeCommand words → ⊥
 MakeEndsBy words e NoMemory = ⊤
 MakeEndsBy words e WriteFault =
-    IsMakeCommand words × IsMade (AppendsPrefix e.held_before e.held_after) (make_options_of words) × WriteRose e
+    IsMakeCommand words × IsMade (AppendsPrefix e.held_before e.held_after) (make_options_of words)
+    × Rose e.faults_before e.faults_after
 MakeEndsBy words e Ok =
     IsMakeCommand words × IsMade (Appends e.held_before e.held_after) (make_options_of words)
 MakeEndsBy words e other = ⊥
 
 -- why a run ended with this status: the first word says whose reason it is, and where it is no command's the words are refused
 pub record EndsBy (run : CommandRun) (status : Status) : Type 0 where
-  pub by_make : Begins (codes "make") run.words → MakeEndsBy run.words run.effects status
+  pub by_make : Begins (codes "make") run.words → MakeEndsBy run.words (sink_of run.effects) status
   pub by_serial : (Begins (codes "make") run.words → ⊥) → SerialEndsBy run status

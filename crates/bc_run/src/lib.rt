@@ -45,7 +45,7 @@ mod ciphers;
 mod laws;
 
 pub use image::MAX_IMAGE;
-pub use laws::{serial_runs_agree, words_by_example};
+pub use laws::{make_lines_agree, make_words_by_example, serial_runs_agree, words_by_example};
 pub use one_caller::{Finished, serial};
 pub use program::run;
 pub use status::Status;

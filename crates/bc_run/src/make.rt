@@ -5,13 +5,16 @@ ghost use Rattle.std.specs.String.{string_bytes};
 ghost use Rattle.std.specs.Io.KnownBytes.{Keeps};
 ghost use Rattle.bc_base.specs.Outside.{HasCause};
 ghost use Rattle.bc_script.specs.Generated.{generated};
-ghost use Rattle.bc_run.specs.Words.{AreMakeOptions, Begins};
+ghost use Rattle.bc_report.specs.SerialRun.{IsSerialRun};
+ghost use Rattle.bc_run.specs.Words.{AreMakeOptions, Begins, IsShardCount};
+ghost use Rattle.bc_run.specs.Command.{zeros_for};
 ghost use Rattle.bc_run.specs.Making.{IsMade, counted, line_of};
-ghost use Rattle.bc_run.specs.Statuses.{Effects, MakeEndsBy};
+ghost use Rattle.bc_run.specs.Statuses.{MakeEndsBy};
 ghost use Rattle.bc_run.specs.Stages.{made_by, status_of};
 
 use crate::image::zeros;
 use crate::make_words::{Making, making_of_words};
+use crate::one_caller::Finished;
 use crate::program::{carry_out, write_text};
 use crate::status::Status;
 use bc_base::Sink;
@@ -23,16 +26,35 @@ use std::alloc::{AllocError, Global};
 /// How many data units the script of `make` writes and reads for each of its number: sixteen threads write one and read it.
 const UNITS: u64 = 32;
 
-/// Runs the command `make`, which the first word names: reads the others, carries the script out, and writes the line.
-pub(crate) fn make<K: Sink>(alloc: Global, words: &[String], out: &mut K) -> Result<(), Status>
+/// Runs the command `make`, which the first word names, and returns how that ended.
+pub(crate) fn make<K: Sink>(alloc: Global, words: &[String], out: &mut K) -> Status
     requires named { Begins (codes "make") (map string_bytes words.now) }
-    ensures status { (effects : Effects)
-        → effects.write_faults_before ≡ K.faults out.old → effects.write_faults_after ≡ K.faults out.new
-        → effects.held_before ≡ K.held out.old → effects.held_after ≡ K.held out.new
-        → MakeEndsBy (map string_bytes words.now) effects (status_of result) }
+    ensures status { MakeEndsBy (map string_bytes words.now) (record {
+      faults_before = K.faults out.old;
+      faults_after = K.faults out.new;
+      held_before = K.held out.old;
+      held_after = K.held out.new;
+    }) result }
+    ensures untouched { result ≢ Status.Ok → result ≢ Status.WriteFault
+        → Keeps (K.held out.old) (K.held out.new) }
+    ensures cause { HasCause (K.faults out.old) (K.faults out.new) (result ≡ Status.WriteFault) }
+{
+    match write_line(alloc, words, out) {
+        Ok(()) => Status::Ok,
+        Err(status) => status,
+    }
+}
+
+/// Reads the words, carries the script of their numbers out, and writes the line. An `Err` is never `Ok`'s status.
+fn write_line<K: Sink>(alloc: Global, words: &[String], out: &mut K) -> Result<(), Status>
+    requires named { Begins (codes "make") (map string_bytes words.now) }
+    ensures status { MakeEndsBy (map string_bytes words.now) (record {
+      faults_before = K.faults out.old;
+      faults_after = K.faults out.new;
+      held_before = K.held out.old;
+      held_after = K.held out.new;
+    }) (status_of result) }
     ensures not_ok { IfErr result (λ status. status ≢ Status.Ok) }
-    ensures not_folder { IfErr result (λ status. status ≢ Status.FolderFault) }
-    ensures not_read { IfErr result (λ status. status ≢ Status.ReadFault) }
     ensures untouched { IfErr result (λ status. status ≢ Status.WriteFault
         → Keeps (K.held out.old) (K.held out.new)) }
     ensures cause { HasCause (K.faults out.old) (K.faults out.new) (result ≡ Err Status.WriteFault) }
@@ -49,12 +71,20 @@ fn made(alloc: Global, making: Making) -> Result<Vec<u8>, Status>
     ensures memory { IfErr result (λ e. e ≡ Status.NoMemory) }
 {
     let script = script_of(alloc, making)?;
-    let image = zeros(alloc, &script)?;
-    let finished = carry_out(alloc, &script, image, making.shards)?;
-    match line_of(alloc, making.n, &finished.image) {
-        Ok(line) => Ok(line),
-        Err(AllocError) => Err(Status::NoMemory),
-    }
+    let finished = over_zeros(alloc, &script, making.shards)?;
+    line_left(alloc, making.n, &finished.image)
+}
+
+/// Carries the script out over zeros.
+fn over_zeros(alloc: Global, script: &Script, shards: u16) -> Result<Finished, Status>
+    requires shards { IsShardCount shards }
+    ensures run { IfOk result (λ finished.
+        IsSerialRun script.now (zeros_for script.now) shards finished.report finished.image.items) }
+    ensures memory { IfErr result (λ e. e ≡ Status.NoMemory) }
+{
+    let image = zeros(alloc, script)?;
+    let finished = carry_out(alloc, script, image, shards)?;
+    Ok(finished)
 }
 
 /// The script of these numbers.
@@ -70,6 +100,18 @@ fn script_of(alloc: Global, making: Making) -> Result<Script, Status>
 }
 
 /// The line of a run that leaves this image.
+fn line_left(alloc: Global, n: u32, image: &[u8]) -> Result<Vec<u8>, Status>
+    requires { n ≤ 2048 }
+    ensures line { IfOk result (λ line. line.items ≡ line_of n image.now) }
+    ensures memory { IfErr result (λ e. e ≡ Status.NoMemory) }
+{
+    match line_of(alloc, n, image) {
+        Ok(line) => Ok(line),
+        Err(AllocError) => Err(Status::NoMemory),
+    }
+}
+
+/// The bytes of that line.
 fn line_of(alloc: Global, n: u32, image: &[u8]) -> Result<Vec<u8>, AllocError>
     requires { n ≤ 2048 }
     ensures { IfOk result (λ line. line.items ≡ line_of n image.now) }

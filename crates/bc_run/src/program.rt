@@ -123,12 +123,10 @@ pub fn run<Rt, S: Source, K: Sink, F: Folder, G>(
         → (result ≡ Status.Ok) ⊎ (result ≡ Status.NoMemory) }
 {
     no_proper_prefix();
-    let ended = if is_make(words) {
-        make(alloc, words, out)
-    } else {
-        stages(alloc, words, script, out, folder)
-    };
-    match ended {
+    if is_make(words) {
+        return make(alloc, words, out);
+    }
+    match stages(alloc, words, script, out, folder) {
         Ok(()) => Status::Ok,
         Err(status) => status,
     }
