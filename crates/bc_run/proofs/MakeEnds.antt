@@ -1,5 +1,5 @@
 -- How a run ends by its first word: of `make`, of `serial`, or of no command.
-use Rattle.std.proofs.Common.{◌≡◌, ◌⊎◌, ◌∙◌, ◌++◌, ℕ, List, [], Option, Some, None, codes, refl, sym, ap, inl, inr, subst, arith}
+use Rattle.std.proofs.Common.{◌≡◌, ◌⊎◌, ◌∙◌, ℕ, List, Option, Some, None, codes, refl, sym, ap, inl, inr, subst, arith}
 use Rattle.std.specs.Prelude.{IfErr, OnOk, Result, Ok as ok, Err as err}
 use Rattle.bc_script.specs.Script.{Script}
 use Rattle.bc_report.specs.Report.{Report}

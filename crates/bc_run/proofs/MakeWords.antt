@@ -100,9 +100,9 @@ numbers_given start one two cmd a b c m most_n most_slots most_shards first seco
     let named : HasIds first.arg second.arg third.arg = record { first = ix; second = iy; third = iz } in
     record {
       pairs = nth_given cmd m p plain none first.arg second.arg third.arg named list 0 (omega arith) (codes "n") ix
-        (λ e. cc) (λ e. cc) (λ e. cc) 1 most_n (first.rules.parser _ parser_a);
+          (λ e. cc) (λ e. cc) (λ e. cc) 1 most_n (first.rules.parser _ parser_a);
       slots = nth_given cmd m p plain none first.arg second.arg third.arg named list 1 (omega arith) (codes "slots") iy
-        (λ e. cc) (λ e. cc) (λ e. cc) 1 most_slots (second.rules.parser _ parser_b);
+          (λ e. cc) (λ e. cc) (λ e. cc) 1 most_slots (second.rules.parser _ parser_b);
       shards = nth_given cmd m p plain none first.arg second.arg third.arg named list 2 (omega arith) (codes "shards") iz
-        (λ e. cc) (λ e. cc) (λ e. cc) 1 most_shards (third.rules.parser _ parser_c);
+          (λ e. cc) (λ e. cc) (λ e. cc) 1 most_shards (third.rules.parser _ parser_c);
     }

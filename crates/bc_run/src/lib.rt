@@ -1,4 +1,5 @@
-//! Runs scripts: reads the words, the script and the image, carries it out, puts the image and writes the report.
+//! Runs scripts: reads the words, the script and the image, carries it out, puts the image and writes the report. Or makes a
+//! script, carries that out, and writes the digest of the image that is left.
 //!
 //! [`run`] does all that the program does, over a source, a sink and a folder. [`serial`] carries a script out over an image,
 //! one operation after the other. What both promise is a lawful run: the report and the image are those of a keyed

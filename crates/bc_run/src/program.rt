@@ -31,8 +31,10 @@ use std::alloc::{AllocError, Global};
 
 /// Runs the command that the words say, and returns how that ended. The words are those after the program's name.
 ///
-/// The first word is the command, `serial`; the others are read by clap as its options, `--image NAME`, `--out NAME` and
-/// `--shards N` with N in 1 to 64. The stages follow one another, and the first that refuses ends the run:
+/// The first word is the command, `serial` or `make`; the others are read by clap.
+///
+/// The options of `serial` are `--image NAME`, `--out NAME` and `--shards N` with N in 1 to 64. Its stages follow one another,
+/// and the first that refuses ends the run:
 ///
 /// 1. The words are read.
 /// 2. The script is read from `script` to its end, at most 16 MiB.
@@ -44,8 +46,13 @@ use std::alloc::{AllocError, Global};
 /// 7. The image that is left is put under the name of `--out`. Without it no name is put.
 /// 8. The report is written to `out`.
 ///
-/// Nothing is written before the image is put, and nothing is put before the whole report stands. `gate` isn't used by
-/// this command.
+/// Nothing is written before the image is put, and nothing is put before the whole report stands.
+///
+/// `make N` with N in 1 to 2048 has the options `--slots N` with N in 1 to 32, else 1, and `--shards N` with N in 1 to 64,
+/// else 8. It generates a script (see [`generate`](bc_script::generate)), carries it out over zeros, and writes one line with
+/// the digest of the image that is left. It reads nothing from `script`, and gets and puts nothing.
+///
+/// `gate` isn't used by these commands.
 ///
 /// # Errors
 ///
@@ -58,9 +65,9 @@ use std::alloc::{AllocError, Global};
 /// - [`Status::Missing`]: the folder doesn't have the image.
 /// - [`Status::ImageLength`]: the image has another length than the script's disk.
 /// - [`Status::WriteFault`]: the sink failed, and its count of faults rose. It holds a prefix of the report, and the image
-///   is put.
+///   is put; or a prefix of the line of `make`.
 ///
-/// [`Status::NoMemory`] can come at each stage but the last. After it, and after each other status but `Ok`, `WriteFault`
+/// [`Status::NoMemory`] can come at each stage but the last, and before the line is written. After it, and after each other status but `Ok`, `WriteFault`
 /// and `FolderFault`, no name has changed; after each but `Ok` and `WriteFault`, nothing has been written.
 pub fn run<Rt, S: Source, K: Sink, F: Folder, G>(
     _rt: &Rt,

@@ -171,7 +171,10 @@ fn sectors_are_read_under_the_number_that_is_asked_for(rt: HostRuntime) -> Resul
 
 #[test]
 fn make_1_writes_one_line_whatever_the_slots_and_shards(rt: HostRuntime) -> Result<(), Fail> {
-    let commands: [&[&str]; 2] = [&["make", "1"], &["make", "1", "--slots", "32", "--shards=3"]];
+    let commands: [&[&str]; 2] = [
+        &["make", "1"],
+        &["make", "1", "--slots", "32", "--shards=3"],
+    ];
     for words in commands {
         let mut out = sink(rt.alloc())?;
         let status = status_of(&rt, words, EMPTY_SCRIPT, 4096, &mut out)?;
