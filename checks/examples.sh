@@ -98,7 +98,6 @@ mistake() {
 
 mistake "another version" 1 word '1s/1/2/'
 mistake "a leading zero" 2 number '2s/1/01/'
-mistake "fallback off" 3 "not built" '3s/on/off/'
 mistake "a key of 63 bytes" 4 key '4s/..$//'
 mistake "a key of half a byte more" 4 hex '4s/$/0/'
 mistake "line ends of another system" 1 word 's/$/\r/'

@@ -85,7 +85,6 @@ CASES = [
     ("a device elsewhere", key_line("device 1 1 1 1 0 8"), 4, "device", "1", "begins where the one before it ends"),
     ("a device too long", key_line("device 0 1024 1 1 0 8"), 5, "device", "thread", "BLOCKS of all devices together"),
     ("a mask of 16", key_line("device 0 1 1 16 0 8"), 4, "number", "16", "from 0 to 15"),
-    ("no fallback", script(3, "fallback off"), 3, "not built", "fallback off", "doesn't carry out yet"),
     ("a section too many", "".join(f"{it}\n" for it in [*LINES[:4], *["thread"] * 17, "end"]).encode(), 21, "limit", "thread", "16 sections"),
 ]
 

@@ -395,7 +395,7 @@ def main(words):
     except OSError as error:
         print(f"judge: {error.filename}: {error.strerror}", file=sys.stderr)
         return 2
-    script = read_script(script or b"", True)
+    script = read_script(script or b"")
     if not isinstance(script, Script):
         print(f"judge: script line {script[0]}: {script[1]}", file=sys.stderr)
         return 2

@@ -20,7 +20,7 @@ class Run:
     """A script, the image before, the image left, the report's text and the number of shards."""
 
     def __init__(self, script, shards=1, report=None, after=None):
-        self.script = read_script(script, True)
+        self.script = read_script(script)
         assert isinstance(self.script, Script), self.script
         self.shards = shards
         self.before = bytes(8 * SECTOR * self.script.blocks)
@@ -301,7 +301,7 @@ def main(words):
     seen = collections.Counter()
     for turn in range(how_many):
         text = a_script_of_threads(dice)
-        script = read_script(text, True)
+        script = read_script(text)
         shards = dice.choice([1, 1, 2, 3])
         before = dice.randbytes(8 * SECTOR * script.blocks)
         report, after = threaded(script, shards, before, dice)

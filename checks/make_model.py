@@ -79,7 +79,7 @@ def wrong_by_hand():
 
 def digest_of(count, slots, shards):
     """The digest by the model of scripts. Every write must be done, and every read must give what was written."""
-    report, image = run_of(read_script(script_of(count, slots), True), shards)
+    report, image = run_of(read_script(script_of(count, slots)), shards)
     answers = report.decode().split("shard ")[0].split("\n")[1:-1]
     wanted = [line for thread, pairs in enumerate(places(count)) for line in
               [f"thread {thread}", *(it for *_, byte in pairs for it in ["done", f"done fill {byte:02x}"])]]

@@ -4,8 +4,6 @@ the rules of scripts, of carrying out and of reports; the program gets them wher
 import pathlib
 import re
 
-from script_model import DEVICES
-
 K1 = bytes(range(64)).hex()
 K2 = bytes(range(64, 128)).hex()
 E1 = bytes(range(128, 144)).hex()
@@ -195,17 +193,6 @@ REFUSED = [
     ("the first of two wrong lines", ended("reset 0", "unplug"), 6, "number"),
 ]
 
-# What a program without devices refuses: name, text, line and kind.
-NOT_BUILT = [
-    ("fallback off", text_of(["blkcrypt 1", "disk 1", "fallback off", "end"]), 3, "not built"),
-    ("a device", headed("device 0 1 1 1 0 8", H512), 4, "not built"),
-    ("a device and no fallback", text_of(["blkcrypt 1", "disk 1", "fallback off", "device 0 1 1 1 0 8", "end"]), 3, "not built"),
-    ("no fallback and a device elsewhere", text_of(["blkcrypt 1", "disk 1", "fallback off", "device 1 1 1 1 0 8"]), 4, "device"),
-    ("a reset of a device", headed("device 0 1 1 1 0 8", "thread", "reset 0"), 4, "not built"),
-    ("a device with other fields", headed("device x"), 4, "word"),
-    ("a device without fields", headed("device"), 4, "word"),
-]
-
 IN_A_PLUG = ["thread", "plug", "write a 0 2 0 fill 11", "write a 2 2 2 fill 22", "write a 4 1 4 fill 33", "unplug", "read - 2 1 -",
              "read a 4 1 4"]
 WRITE_AND_READ = ["thread", "write - 0 3 - fill 11", "read - 0 1 -", "read - 1 1 -", "read - 2 1 -"]
@@ -360,6 +347,8 @@ def writes(*keys):
 
 # name, text, line and kind
 DEVICES_REFUSED = [
+    ("a device with one field", headed("device x"), 4, "word"),
+    ("a device without fields", headed("device"), 4, "word"),
     ("a device that begins at block 16384", with_devices(1, "on", "device 16384 1 1 1 0 8"), 4, "number"),
     ("a device of no blocks", with_devices(1, "on", "device 0 0 1 1 0 8"), 4, "number"),
     ("a device of 16385 blocks", with_devices(1, "on", "device 0 16385 1 1 0 8"), 4, "number"),
@@ -571,8 +560,6 @@ def documented():
 
 
 REFUSED += documented()
-if not DEVICES:
-    REFUSED += NOT_BUILT
 
 
 def agrees(wanted, found):
@@ -584,17 +571,17 @@ def agrees(wanted, found):
 
 def wrong(modelled):
     """The names of the cases that a model answers otherwise, and what it answers."""
-    if len({kind for *_, kind in documented()}) != 10:
+    if len({kind for *_, kind in documented()}) != 9:
         yield "the examples of errors of docs/SCRIPT.md, of which there is one at least of each kind", ()
     for name, text, line, kind in REFUSED:
         if modelled(text) != (2, b"", f"blkcrypt: script line {line}: {kind}\n".encode()):
             yield name, modelled(text)
     for name, text, line, kind in DEVICES_REFUSED:
-        if modelled(text, 1, True) != (2, b"", f"blkcrypt: script line {line}: {kind}\n".encode()):
-            yield name, modelled(text, 1, True)
+        if modelled(text) != (2, b"", f"blkcrypt: script line {line}: {kind}\n".encode()):
+            yield name, modelled(text)
     cases = [*((name, 1, text, lines) for name, text, lines in REPORTED), *SHARDED, *DEVICES_REPORTED]
     for name, shards, text, lines in cases:
-        status, output, error = modelled(text, shards, True)
+        status, output, error = modelled(text, shards)
         if status or error or not agrees(lines, output):
             yield name, (status, output, error)
 

@@ -1,9 +1,7 @@
 """The rules of docs/SCRIPT.md once more: what a script's text says or where it is wrong, and what a run of it prints.
 
-It has nothing of the program in it, and goes further: it knows scripts with devices and without the fallback. DEVICES says
-whether the program does so too. As a command it reads a script on standard input and does what the program is to do, over
-one shard as the program or over as many as are asked for, with devices whatever DEVICES says; the image that is left goes to
-a file where one is named:
+It has nothing of the program in it. As a command it reads a script on standard input and does what the program is to do, over
+one shard or over as many as are asked for; the image that is left goes to a file where one is named:
 
     python3 checks/script_model.py [SHARDS [IMAGE]] < SCRIPT
 """
@@ -14,10 +12,6 @@ from dataclasses import dataclass
 from typing import Optional
 
 from cryptography.hazmat.primitives.ciphers import Cipher, algorithms, modes
-
-# Whether the program carries out `device` lines and `fallback off`, or refuses them as not built. It is turned on with the program,
-# and with the examples of errors of docs/SCRIPT.md: then they name a `device` error in place of what isn't built.
-DEVICES = False
 
 SECTOR = 512
 XTS = b"aes-256-xts"
@@ -258,9 +252,8 @@ class Reader:
         self.sections[-1].append(operation)
 
 
-def read_script(text, devices=DEVICES):
-    """The script that a text says; or, where it says none, the first line that fails a test, from 1, and the test. Without
-    `devices` a script without a fallback, or with devices, isn't carried out: then it is the line that says so, and `not built`."""
+def read_script(text):
+    """The script that a text says; or, where it says none, the first line that fails a test, from 1, and the test."""
     *lines, rest = text.split(b"\n")
     reader = Reader()
     for place, line in enumerate(lines):
@@ -271,10 +264,6 @@ def read_script(text, devices=DEVICES):
     # Behind the last line feed stands nothing, and nothing is missing.
     if rest or reader.place != "done":
         return len(lines) + 1, "end"
-    if not devices and not reader.fallback:
-        return 3, "not built"
-    if not devices and reader.devices:
-        return 4, "not built"
     return Script(reader.blocks, reader.fallback, reader.devices, list(reader.keys.values()), reader.faults, reader.sections)
 
 
@@ -505,11 +494,11 @@ def report_of(script, shards):
     return run_of(script, shards)[0]
 
 
-def modelled(text, shards=1, devices=DEVICES):
+def modelled(text, shards=1):
     """What a run over so many shards, 1 to 64, is to do: its status, its standard output and its standard error."""
     if len(text) > MOST_TEXT:
         return 7, b"", f"blkcrypt: input longer than {MOST_TEXT} bytes\n".encode()
-    script = read_script(text, devices)
+    script = read_script(text)
     if isinstance(script, Script):
         return 0, report_of(script, shards), b""
     line, kind = script
@@ -519,12 +508,12 @@ def modelled(text, shards=1, devices=DEVICES):
 def main():
     text = sys.stdin.buffer.read()
     shards = int(sys.argv[1]) if len(sys.argv) > 1 else 1
-    status, output, error = modelled(text, shards, True)
+    status, output, error = modelled(text, shards)
     sys.stdout.buffer.write(output)
     sys.stderr.buffer.write(error)
     if status == 0 and len(sys.argv) > 2:
         with open(sys.argv[2], "wb") as out:
-            out.write(run_of(read_script(text, True), shards)[1])
+            out.write(run_of(read_script(text), shards)[1])
     return status
 
 

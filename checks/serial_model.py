@@ -6,8 +6,7 @@ against cases that are worked out by hand (script_cases.py) first. Then the prog
 the model's, byte by byte. The program runs over one shard. The model runs over several too, and these runs are held against
 the cases and against its own ones over one shard. Without PROGRAM all this is done with the model alone.
 
-Scripts with devices are compared where the program knows them (DEVICES in script_model.py). Until then it refuses them as not
-built, and they are given to the model alone. The judge of reports (judge.py) must find each run of the model lawful.
+The judge of reports (judge.py) must find each run of the model lawful.
 """
 import collections
 import dataclasses
@@ -18,7 +17,7 @@ import sys
 import script_cases
 import script_texts
 from judge import judged
-from script_model import DEVICES, SECTOR, Script, modelled, read_script, report_of, run_of
+from script_model import SECTOR, Script, modelled, read_script, report_of, run_of
 
 KINDS = ["end", "word", "number", "name", "hex", "key", "order", "device", "limit"]
 ANSWERS = ["done", "done fill", "done sha256", "fault 0", "fault 1", "fault 255", "refused empty", "refused misaligned",
@@ -77,10 +76,10 @@ def parted(report):
     return head, [entries.split("\n")[1:-1] for entries in shards], devices
 
 
-def alike(text, shards, devices):
+def alike(text, shards):
     """Whether a run over so many shards is as the run over one in which the same accesses fail: it gives the same answers and
     journals, and the accesses of all shards, which are in the order of their data units, are those of the one."""
-    script = read_script(text, devices)
+    script = read_script(text)
     if not isinstance(script, Script):
         return True
     planned = set(script.faults)
@@ -95,7 +94,7 @@ def alike(text, shards, devices):
 
 def unlawful(text, shards, image):
     """What the judge finds wrong with the model's run from an image of zeros, or from one of other bytes; or nothing."""
-    script = read_script(text, True)
+    script = read_script(text)
     if not isinstance(script, Script):
         return None
     before = image(8 * SECTOR * script.blocks)
@@ -108,17 +107,17 @@ def fail(message):
     return 1
 
 
-def compared(program, dice, source, devices, judge):
+def compared(program, dice, source, judge):
     """Compares the texts of a source, and gives how many there are, how many of them are accepted, and what was seen; or what
     differs."""
     count = accepted = 0
     seen = collections.Counter()
     for name, text, valid in source(dice):
-        wanted = modelled(text, 1, devices)
+        wanted = modelled(text)
         if valid is not None and valid != (wanted[0] == 0):
             return f"the model or the generator is wrong on {name!r}: {shown(wanted[2])}\nscript: {shown(text)}"
         shards = 2 + count % 63
-        if len(text) < 65536 and not alike(text, shards, devices):
+        if len(text) < 65536 and not alike(text, shards):
             return f"the model runs {name!r} otherwise over {shards} shards\nscript: {shown(text)}"
         if judge and len(text) <= MOST_JUDGED:
             image = bytes if count % 2 else dice.randbytes
@@ -137,8 +136,8 @@ def compared(program, dice, source, devices, judge):
     return count, accepted, seen
 
 
-def run(program, seed, sort, source, devices, kinds):
-    found = compared(program, random.Random(seed), source, devices, source is device_texts)
+def run(program, seed, sort, source, kinds):
+    found = compared(program, random.Random(seed), source, source is device_texts)
     if isinstance(found, str):
         return fail(f"seed {seed}: {found}")
     count, accepted, seen = found
@@ -155,9 +154,8 @@ def main():
         return fail(f"the model is wrong on {name!r}: {', '.join(shown(part) for part in answer)}")
     program = sys.argv[1] if len(sys.argv) > 1 else None
     seed = int(sys.argv[2]) if len(sys.argv) > 2 else 1
-    without = [] if DEVICES else ["not built"]
-    return (run(program, seed, "without", texts, DEVICES, KINDS + without + ANSWERS)
-            or run(program if DEVICES else None, seed, "with", device_texts, True, WITH_DEVICES))
+    return (run(program, seed, "without", texts, KINDS + ANSWERS)
+            or run(program, seed, "with", device_texts, WITH_DEVICES))
 
 
 sys.exit(main())

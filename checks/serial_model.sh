@@ -1,7 +1,6 @@
 #!/bin/sh
 # Compares runs of the program with an independent model of scripts, their errors, their run and their report: generated
-# scripts, with and without a fault in them. Scripts with devices are the model's alone as long as the program refuses them. It
-# skips itself where the tools are missing.
+# scripts, with and without devices, with and without a fault in them. It skips itself where the tools are missing.
 set -u
 cd "$(dirname "$0")/.." || exit 1
 python3 -c 'import cryptography, sys; sys.exit(sys.version_info < (3, 10))' 2>/dev/null ||

@@ -46,13 +46,13 @@ class Runner:
 
 
 def sections_of(text):
-    script = read_script(text, True)
+    script = read_script(text)
     return len(script.sections) if isinstance(script, Script) else 0
 
 
 def judged_run(runner, text, shards, before):
     """What is wrong with a run, or nothing; and its report."""
-    script = read_script(text, True)
+    script = read_script(text)
     report, after = runner.ran(text, shards, before)
     if report is None:
         return after, b""
@@ -77,13 +77,13 @@ def main(words):
         runner = Runner(program, room)
         cases = [*((name, 1, text, lines) for name, text, lines in REPORTED), *SHARDED, *DEVICES_REPORTED]
         for name, shards, text, lines in [it for it in cases if sections_of(it[2]) < 2]:
-            report, said = runner.ran(text, shards, bytes(8 * SECTOR * read_script(text, True).blocks))
+            report, said = runner.ran(text, shards, bytes(8 * SECTOR * read_script(text).blocks))
             if report is None or not agrees(lines, report):
                 print(f"threads: {name!r} gives another report, or none: {said if report is None else report.decode()}")
                 return 1
         for name, text in texts(dice, how_many):
             shards = dice.choice([1, 1, 2, 3, 64])
-            before = dice.randbytes(8 * SECTOR * read_script(text, True).blocks)
+            before = dice.randbytes(8 * SECTOR * read_script(text).blocks)
             wrong, report = judged_run(runner, text, shards, before)
             if wrong:
                 print(f"threads: seed {seed}, {name}, {shards} shards: {wrong}\n{text.decode()}{report.decode()}")

@@ -213,7 +213,7 @@ def threaded(script, shards, image, dice, run_class=ThreadsRun):
 
 
 def main(words):
-    script = read_script(sys.stdin.buffer.read(), True)
+    script = read_script(sys.stdin.buffer.read())
     if not isinstance(script, Script):
         print(f"threads_model: script line {script[0]}: {script[1]}", file=sys.stderr)
         return 2

@@ -3,7 +3,7 @@ which a report is drawn against the order in which the model of scripts went, wh
 the reports, and what is refused.
 
     timeline_cases.py [HOW_MANY [SEED]]     tries all of this
-    timeline_cases.py --draw                makes the reports and pictures of docs/timeline again
+    timeline_cases.py --draw                makes the pictures of docs/timeline again
 """
 import collections
 import importlib.machinery
@@ -44,6 +44,7 @@ def tool(name):
 
 timeline = tool("timeline")
 DRAWN = ROOT / "docs" / "timeline"
+EXAMPLES = ROOT / "examples"
 SVG = "{http://www.w3.org/2000/svg}"
 
 
@@ -136,7 +137,7 @@ class NotedRun(Run):
 
 def order_is_the_runs(text, shards):
     """With its script, a report of one caller is put into the order of the run itself."""
-    script = read_script(text, True)
+    script = read_script(text)
     run = NotedRun(script, shards)
     for thread, section in enumerate(script.sections):
         run.section(thread, section)
@@ -427,7 +428,7 @@ def refusals():
 # ---- the summary
 
 SUMMARY = """\
-2 threads, 13 operations, 2 shards, 2 devices
+2 threads, 13 operations, 1 shard, 2 devices
 
 way     units  faults  bytes written  bytes read
 plain       1       0              0         512
@@ -453,9 +454,9 @@ bytes enciphered or deciphered: 20992
 
 def summaries():
     """The summary of the first example, worked out by hand; and of a run of threads, where hits are told whole with the script."""
-    found = ran("summary", ["--script", str(DRAWN / "inline.txt")], (DRAWN / "inline.out").read_bytes())
+    found = ran("summary", ["--script", str(EXAMPLES / "inline.txt")], (EXAMPLES / "inline.out").read_bytes())
     need(found.stdout.decode() == SUMMARY, f"the summary is another:\n{found.stdout.decode()}")
-    without = ran("summary", [], (DRAWN / "inline.out").read_bytes()).stdout.decode()
+    without = ran("summary", [], (EXAMPLES / "inline.out").read_bytes()).stdout.decode()
     need("3 or more" in without and "told with --script" in without, f"the summary without the script is another:\n{without}")
 
 
@@ -464,24 +465,18 @@ def summaries():
 
 def drawn():
     """The files of docs/timeline: each name with what it must hold."""
-    for script in sorted(DRAWN.glob("*.txt")):
-        text = script.read_bytes()
-        report = report_of(read_script(text, True), 2 if script.stem == "inline" else 1)
-        yield script.with_suffix(".out"), report
-        yield script.with_suffix(".svg"), timeline.picture(reports.read(report), plans.read(text)).encode()
+    for name in ["evictions", "inline", "realistic", "stacked"]:
+        text, report = ((EXAMPLES / f"{name}.{end}").read_bytes() for end in ["txt", "out"])
+        yield DRAWN / f"{name}.svg", timeline.picture(reports.read(report), plans.read(text)).encode()
     text = script_of(8)
-    yield DRAWN / "make8.svg", timeline.picture(reports.read(report_of(read_script(text, True), 8)), plans.read(text)).encode()
+    yield DRAWN / "make8.svg", timeline.picture(reports.read(report_of(read_script(text), 8)), plans.read(text)).encode()
 
 
 def serial_runs():
-    """Scripts with the reports that a run of one caller gives: the examples, those of docs/timeline, and `make 8`."""
-    for report in sorted((ROOT / "examples").glob("*.out")):
-        script = report.with_suffix(".txt").read_bytes()
-        if not isinstance(read_script(script, True), tuple):
-            yield script, report.read_bytes()
-    for report in sorted(DRAWN.glob("*.out")):
+    """Scripts with the reports that a run of one caller gives: the examples, and `make 8`."""
+    for report in sorted(EXAMPLES.glob("*.out")):
         yield report.with_suffix(".txt").read_bytes(), report.read_bytes()
-    yield script_of(8), report_of(read_script(script_of(8), True), 8)
+    yield script_of(8), report_of(read_script(script_of(8)), 8)
 
 
 def texts_of_lawful():
@@ -515,10 +510,10 @@ def tried(how_many, seed):
     for _ in range(how_many // 4):
         script = a_script_with_devices(dice)
         order_is_the_runs(script, dice.choice([1, 1, 2, 3]))
-        report = report_of(read_script(script, True), dice.choice([1, 1, 2, 3]))
+        report = report_of(read_script(script), dice.choice([1, 1, 2, 3]))
         picture_is_the_reports(report, script, True)
         script = a_script_of_threads(dice)
-        report, _ = threaded(read_script(script, True), dice.choice([1, 2, 3]), None, dice)
+        report, _ = threaded(read_script(script), dice.choice([1, 2, 3]), None, dice)
         order_keeps_the_lists(reports.read(report), plans.read(script))
         order_keeps_the_lists(reports.read(report), None)
         picture_is_the_reports(report, script, False)

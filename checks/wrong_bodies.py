@@ -292,7 +292,7 @@ WRONG = [
 def refused(body, dice):
     """The first point for which a run by this body is refused, after how many runs; or nothing."""
     for turn in range(1, MOST_TRIES + 1):
-        script = read_script([a_script_of_threads, a_script_with_devices][turn % 2](dice), True)
+        script = read_script([a_script_of_threads, a_script_with_devices][turn % 2](dice))
         shards = dice.choice([1, 2, 3])
         if len(script.sections) < 2:
             continue

@@ -1,4 +1,4 @@
--- The data units of a bio, attempted one after the other, until one meets a fault.
+-- The data units of a bio, gone over one after the other: attempted until one meets a fault, and then passed over.
 use Rattle.std.proofs.Common.{◌≡◌, ℕ, zero, suc, ◌-◌, ◌+◌, ◌<◌, ◌≤◌, ◌^◌, Bool, true, false, cond, List, [], ◌∷◌, ◌++◌, length, map, append-nil, refl, sym, ap, subst, ◌∙◌, arith, Option, Some, None, length-append}
 use Rattle.std.specs.Prelude.{flat_map, filter, MatchOption, ◌==◌, ◌&&◌, ◌||◌, not, nat_lt}
 use Rattle.std.specs.List.{AllZip, AllByRecursion, range_with_len}
@@ -23,8 +23,9 @@ use Rattle.bc_medium.specs.LawfulOrders.{name_of, is_attempted}
 use Rattle.bc_medium.specs.Laws.{KnownStays}
 use Rattle.bc_medium.specs.Growth.{lies_in, Knows, IsEntryOf, Attempts, failed_names, attempted_by}
 use Rattle.bc_medium.specs.Outcome.{BioAnswer, Wrote, Bytes, Fault}
+use Rattle.bc_profile.specs.declared.noted.Noted.{Noted}
 use Rattle.bc_script.specs.declared.op.Op.{Op}
-use Rattle.bc_script.specs.Script.{Script, keys_of, unit_count}
+use Rattle.bc_script.specs.Script.{Script, keys_of, max_bio_units}
 use Rattle.bc_script.specs.Bios.{bio_of, refusal_of}
 use Rattle.bc_script.specs.Plan.{unit_at, units_of, units_of_bio}
 use Rattle.bc_report.specs.declared.answer.Answer.{Answer}
@@ -32,7 +33,7 @@ use Rattle.bc_report.specs.declared.answer.Answer.TheVariants as answers
 use Rattle.bc_report.specs.Answers.{answer_of_outcome, IsOwnWord}
 use Rattle.bc_report.specs.Report.{IsAnswer}
 use Rattle.bc_compose.specs.SectionDone.{SaysItsWay, IsBioAnswer, IsReply}
-use Rattle.bc_run.specs.Sections.{DeviceData, CarriesOne, GoOnBy}
+use Rattle.bc_run.specs.Sections.{DeviceData, CarriesOne, GoOnBy, cost}
 use Rattle.bc_run.specs.Standing.{first_units, AttemptsUnit}
 use Rattle.bc_run.proofs.Lists.{In, in_of_map, all_append, all_at, zip_append, filter_all, filter_none, range_push}
 use Rattle.bc_run.proofs.Growing.{goes_none, goes_append, grows_alone, made_by, named, failed_append}
@@ -101,159 +102,171 @@ module _ (keys : List KeyData) (op : ℕ) (operation : Op) (bio : Extent) where
       let k = in_range (i + 1) n r.0 r.1 in let a = k.0 in let e : r.0 ≡ v.unit = ap (λ (u : PlannedUnit). u.unit) r.2 in
       (omega arith, ap (λ (u : PlannedUnit). u.tag) (sym r.2))
 
--- ---- how far a bio has been performed
+-- ---- how far a bio has been gone over
 
-pub record SoFar (old now : DeviceData) (access : Access) (units : List PlannedUnit) (outcome : BioAnswer) : Type 0 where
-  pub made : List Entry
-  pub same : now ≡ record old { seen = now.seen; spare = now.spare }
-  pub spare : old.spare ≤ now.spare + length units
+-- these entries were made of its units
+pub record Made (old now : DeviceData) (made : List Entry) : Type 0 where
+  pub same : now ≡ record old { seen = now.seen; noted = now.noted; spare = now.spare }
   pub goes : GoOnBy old.shards old.seen now.seen made
+  pub ways : AllByRecursion (SaysItsWay old.script) made
+
+-- none of these units met a fault
+pub record NoneMet (old now : DeviceData) (access : Access) (units : List PlannedUnit) (outcome : BioAnswer) (made : List Entry) : Type 0 where
   pub entries : AllZip (IsEntryOf old.thread) units made
   pub went : AllByRecursion (λ e. e.failed ≡ false) made
-  pub ways : AllByRecursion (SaysItsWay old.script) made
   pub answer : IsBioAnswer old.script old.shards old.base old.thread now.seen access units outcome
 
-pub so_far_none : (d : DeviceData) (access : Access) (outcome : BioAnswer) → IsBioAnswer d.script d.shards d.base d.thread d.seen access [] outcome → SoFar d d access [] outcome
-so_far_none d access outcome is = record {
-  made = [];
-  same = refl;
-  spare = omega arith;
-  goes = goes_none d.shards d.thread d.seen;
-  entries = tt;
-  went = tt;
-  ways = tt;
-  answer = is;
-}
+-- unit number k met one, and those behind it were passed over
+pub record OneMet (old now : DeviceData) (op : ℕ) (operation : Op) (bio : Extent) (k : ℕ) (made : List Entry) : Type 0 where
+  pub within : k < bio.units
+  pub attempts : Attempts old.thread [] (first_units (keys_of old.script) op operation bio bio.units) made
+  pub known : Knows (keys_of old.script) old.shards old.base old.thread now.seen (unit_at (keys_of old.script) op operation bio k) Faulted
 
-module _ (stays : KnownStays) (a : DeviceData) (seen seen' : List (List Entry)) (spare spare' : ℕ) where
-  abbrev mid : DeviceData
-  mid = record a { seen = seen; spare = spare }
+pub made_none : (d : DeviceData) → Made d d []
+made_none d = record { same = refl; goes = goes_none d.shards d.thread d.seen; ways = tt }
 
-  abbrev end : DeviceData
-  end = record a { seen = seen'; spare = spare' }
+pub none_met : (d : DeviceData) (access : Access) (outcome : BioAnswer) → IsBioAnswer d.script d.shards d.base d.thread d.seen access [] outcome → NoneMet d d access [] outcome []
+none_met d access outcome is = record { entries = tt; went = tt; answer = is }
 
-  length-more : {X : Type 0} (us : List X) (u : X) → length (us ++ u ∷ []) ≡ length us + 1
-  length-more us u = length-append us (u ∷ [])
+-- a unit was reached
+module _ (a b m : DeviceData) (made : List Entry) (p : Made a b made) (reached : m ≡ record b { noted = m.noted; spare = m.spare }) where
+  begins : m ≡ record a { seen = b.seen; noted = m.noted; spare = m.spare }
+  begins = reached ∙ ap (λ (d : DeviceData). record d { noted = m.noted; spare = m.spare }) p.same
 
-  -- one unit more, which met no fault
-  step : (access : Access) (us : List PlannedUnit) (u : PlannedUnit) (b b' : BioAnswer) (answer : UnitAnswer)
-      → (p : SoFar a mid access us b) → (q : AttemptsUnit mid end u answer) → q.entry.failed ≡ false
-      → IsBioAnswer a.script a.shards a.base a.thread seen' access (us ++ u ∷ []) b' → SoFar a end access (us ++ u ∷ []) b'
-  step access us u b b' answer p q went is = record {
-    made = p.made ++ q.entry ∷ [];
-    same = refl;
-    spare = let l = p.spare in let m = q.spare in omega (arith, length-more us u);
-    goes = goes_append a.shards a.thread a.seen seen seen' p.made (q.entry ∷ []) p.goes q.grows;
-    entries = zip_append (IsEntryOf a.thread) us (u ∷ []) p.made (q.entry ∷ []) p.entries (q.is_its, tt);
-    went = all_append (λ e. e.failed ≡ false) p.made (q.entry ∷ []) p.went (went, tt);
-    ways = all_append (SaysItsWay a.script) p.made (q.entry ∷ []) p.ways (q.way, tt);
-    answer = is;
+  same_seen : m.seen ≡ b.seen
+  same_seen = ap (λ (d : DeviceData). d.seen) reached
+
+  pub made_reached : Made a m made
+  made_reached = record {
+    same = begins ∙ ap (λ (l : List (List Entry)). record a { seen = l; noted = m.noted; spare = m.spare }) (sym same_seen);
+    goes = subst (λ (l : List (List Entry)). GoOnBy a.shards a.seen l made) (sym same_seen) p.goes;
+    ways = p.ways;
   }
 
-  abbrev fronts : (access : Access) (us : List PlannedUnit) (u : PlannedUnit) (answer : UnitAnswer) → AttemptsUnit mid end u answer → (shard : ℕ) → StartsWith (list_at seen' shard) (list_at seen shard)
-  fronts access us u answer q shard = (filter (lies_in a.shards shard) (q.entry ∷ []), q.grows shard)
+  pub met_reached : (op : ℕ) (operation : Op) (bio : Extent) (k : ℕ) → OneMet a b op operation bio k made → OneMet a m op operation bio k made
+  met_reached op operation bio k q = record {
+    within = q.within;
+    attempts = q.attempts;
+    known = subst (λ (l : List (List Entry)). Knows (keys_of a.script) a.shards a.base a.thread l (unit_at (keys_of a.script) op operation bio k) Faulted) (sym same_seen) q.known;
+  }
 
-  wrote : (us : List PlannedUnit) (u : PlannedUnit) → SoFar a mid Write us Wrote → AttemptsUnit mid end u Written → SoFar a end Write (us ++ u ∷ []) Wrote
-  wrote us u p q =
-      step Write us u Wrote Wrote Written p q q.failed (
-        refl,
-        all_append (λ v. Knows (keys_of a.script) a.shards a.base a.thread seen' v Written) us (u ∷ [])
-            (bio_answer_more stays a.script a.shards a.base a.thread seen seen' (fronts Write us u Written q) Write us Wrote p.answer).1 (q.known, tt),
-      )
+  -- and attempted
+  module _ (stays : KnownStays) (c : DeviceData) (u : PlannedUnit) (answer : UnitAnswer) (q : AttemptsUnit m c u answer) where
+    goes : GoOnBy a.shards b.seen c.seen (q.entry ∷ [])
+    goes = subst (λ (d : DeviceData). GoOnBy d.shards d.seen c.seen (q.entry ∷ [])) begins q.grows
 
-  read : (us : List PlannedUnit) (u : PlannedUnit) (bytes text : List ℕ) → SoFar a mid Read us (Bytes bytes) → AttemptsUnit mid end u (Text text) → SoFar a end Read (us ++ u ∷ []) (Bytes (bytes ++ text))
-  read us u bytes text p q =
-      let now = bio_answer_more stays a.script a.shards a.base a.thread seen seen' (fronts Read us u (Text text) q) Read us (Bytes bytes) p.answer in
-      step Read us u (Bytes bytes) (Bytes (bytes ++ text)) (Text text) p q q.failed (
-        refl,
-        now.1 ++ text ∷ [],
-        zip_append (λ v t. Knows (keys_of a.script) a.shards a.base a.thread seen' v (Text t)) us (u ∷ []) now.1 (text ∷ []) now.2 (q.known, tt),
-        ap (λ l. l ++ text) now.3 ∙ ap (λ l. flat_map (λ t. t) now.1 ++ l) (sym (append-nil text)) ∙ sym (flat_map-append (λ t. t) now.1 (text ∷ [])),
-      )
+    its : IsEntryOf a.thread u q.entry
+    its = subst (λ (d : DeviceData). IsEntryOf d.thread u q.entry) begins q.is_its
 
-  none_failed : (es : List Entry) → AllByRecursion (λ e. e.failed ≡ false) es → failed_names es ≡ []
-  none_failed es went = ap (map name_of_entry) (filter_none (λ e. e.failed) es (λ e at. all_at (λ (x : Entry). x.failed ≡ false) es e went at))
+    way : SaysItsWay a.script q.entry
+    way = subst (λ (d : DeviceData). SaysItsWay d.script q.entry) begins q.way
 
-  -- one unit more, which met a fault: those behind it are passed over
-  fault : (access : Access) (keys : List KeyData) (op : ℕ) (operation : Op) (bio : Extent) (i n : ℕ) (b : BioAnswer)
-      → SoFar a mid access (first_units keys op operation bio i) b → AttemptsUnit mid end (unit_at keys op operation bio i) Faulted
-      → (es : List Entry) × GoOnBy a.shards a.seen seen' es × Attempts a.thread [] (first_units keys op operation bio (i + suc n)) es × AllByRecursion (SaysItsWay a.script) es
-      × (a.spare ≤ spare' + (i + suc n))
-  fault access keys op operation bio i n b p q =
+    known : Knows (keys_of a.script) a.shards a.base a.thread c.seen u answer
+    known = subst (λ (d : DeviceData). Knows (keys_of d.script) d.shards d.base d.thread c.seen u answer) begins q.known
+
+    pub made_more : Made a c (made ++ q.entry ∷ [])
+    made_more = record {
+      same = q.same ∙ ap (λ (d : DeviceData). record d { seen = c.seen; spare = c.spare }) begins
+          ∙ ap (λ (l : List (List Noted)). record a { seen = c.seen; noted = l; spare = c.spare }) (sym (ap (λ (d : DeviceData). d.noted) q.same));
+      goes = goes_append a.shards a.thread a.seen b.seen c.seen made (q.entry ∷ []) p.goes goes;
+      ways = all_append (SaysItsWay a.script) made (q.entry ∷ []) p.ways (way, tt);
+    }
+
+    fronts : (shard : ℕ) → StartsWith (list_at c.seen shard) (list_at b.seen shard)
+    fronts shard = (filter (lies_in a.shards shard) (q.entry ∷ []), goes shard)
+
+    -- without a fault
+    module _ (us : List PlannedUnit) (went : q.entry.failed ≡ false) where
+      met_more : (access : Access) (o o' : BioAnswer) → NoneMet a b access us o made
+          → IsBioAnswer a.script a.shards a.base a.thread c.seen access (us ++ u ∷ []) o' → NoneMet a c access (us ++ u ∷ []) o' (made ++ q.entry ∷ [])
+      met_more access o o' n is = record {
+        entries = zip_append (IsEntryOf a.thread) us (u ∷ []) made (q.entry ∷ []) n.entries (its, tt);
+        went = all_append (λ e. e.failed ≡ false) made (q.entry ∷ []) n.went (went, tt);
+        answer = is;
+      }
+
+      pub met_wrote : answer ≡ Written → NoneMet a b Write us Wrote made → NoneMet a c Write (us ++ u ∷ []) Wrote (made ++ q.entry ∷ [])
+      met_wrote is n =
+          met_more Write Wrote Wrote n (
+            refl,
+            all_append (λ v. Knows (keys_of a.script) a.shards a.base a.thread c.seen v Written) us (u ∷ [])
+                (bio_answer_more stays a.script a.shards a.base a.thread b.seen c.seen fronts Write us Wrote n.answer).1
+                (subst (Knows (keys_of a.script) a.shards a.base a.thread c.seen u) is known, tt),
+          )
+
+      pub met_read : (bytes text : List ℕ) → answer ≡ Text text → NoneMet a b Read us (Bytes bytes) made → NoneMet a c Read (us ++ u ∷ []) (Bytes (bytes ++ text)) (made ++ q.entry ∷ [])
+      met_read bytes text is n =
+          let now = bio_answer_more stays a.script a.shards a.base a.thread b.seen c.seen fronts Read us (Bytes bytes) n.answer in
+          met_more Read (Bytes bytes) (Bytes (bytes ++ text)) n (
+            refl,
+            now.1 ++ text ∷ [],
+            zip_append (λ v t. Knows (keys_of a.script) a.shards a.base a.thread c.seen v (Text t)) us (u ∷ []) now.1 (text ∷ []) now.2
+                (subst (Knows (keys_of a.script) a.shards a.base a.thread c.seen u) is known, tt),
+            ap (λ l. l ++ text) now.3 ∙ ap (λ l. flat_map (λ t. t) now.1 ++ l) (sym (append-nil text)) ∙ sym (flat_map-append (λ t. t) now.1 (text ∷ [])),
+          )
+
+none_failed : (es : List Entry) → AllByRecursion (λ e. e.failed ≡ false) es → failed_names es ≡ []
+none_failed es went = ap (map name_of_entry) (filter_none (λ e. e.failed) es (λ e at. all_at (λ (x : Entry). x.failed ≡ false) es e went at))
+
+-- a unit met a fault: those behind it are passed over
+module _ (thread : ℕ) (keys : List KeyData) (op : ℕ) (operation : Op) (bio : Extent) (i : ℕ) where
+  lt_no : (m n : ℕ) → n ≤ m → nat_lt m n ≡ false
+  lt_no m n le = false_from_ne_true (nat_lt m n) (λ t. let lt = ltb-true m n t in absurd (omega arith))
+
+  lt_yes : (m n : ℕ) → m < n → nat_lt m n ≡ true
+  lt_yes m n lt = lt-ltb m n lt
+
+  not_before : (v : PlannedUnit) → v.unit < i → is_attempted (name_of thread (unit_at keys op operation bio i) ∷ []) (name_of thread v) ≡ true
+  not_before v lt = rw (lt_no i v.unit (omega arith)) (ends ((thread == thread) && (op == v.tag)))
+    where
+      ends : (t : Bool) → not ((t && false) || false) ≡ true
+      ends true = refl
+      ends false = refl
+
+  itself : (u : PlannedUnit) → is_attempted (name_of thread u ∷ []) (name_of thread u) ≡ true
+  itself u = rw (lt_no u.unit u.unit (omega arith)) (ends ((thread == thread) && (u.tag == u.tag)))
+    where
+      ends : (t : Bool) → not ((t && false) || false) ≡ true
+      ends true = refl
+      ends false = refl
+
+  passed : (v : PlannedUnit) → i < v.unit → v.tag ≡ op → is_attempted (name_of thread (unit_at keys op operation bio i) ∷ []) (name_of thread v) ≡ false
+  passed v lt same = rw (eq-eqb thread thread refl, eq-eqb op v.tag (sym same), lt_yes i v.unit lt) refl
+
+  pub attempts_fault : (n : ℕ) (made : List Entry) (e : Entry) → AllZip (IsEntryOf thread) (first_units keys op operation bio i) made → AllByRecursion (λ x. x.failed ≡ false) made
+      → IsEntryOf thread (unit_at keys op operation bio i) e → e.failed ≡ true → Attempts thread [] (first_units keys op operation bio (i + suc n)) (made ++ e ∷ [])
+  attempts_fault n made e entries went its failed =
       let u = unit_at keys op operation bio i in
       let us = first_units keys op operation bio i in
       let vs = behind keys op operation bio i n in
-      let name = name_of a.thread u in
-      let met : [] ++ failed_names (p.made ++ q.entry ∷ []) ≡ name ∷ [] =
-      failed_append p.made (q.entry ∷ []) ∙ ap (λ l. l ++ failed_names (q.entry ∷ [])) (none_failed p.made p.went)
-      ∙ ap (λ (t : Bool). map name_of_entry (cond t (q.entry ∷ []) [])) q.failed ∙ ap (λ m. m ∷ []) (named a.thread u q.entry q.is_its) in
-      let tried : attempted_by a.thread (name ∷ []) (us ++ u ∷ vs) ≡ us ++ u ∷ [] =
-      filter-append (λ v. is_attempted (name ∷ []) (name_of a.thread v)) us (u ∷ vs)
-      ∙ ap (λ l. l ++ attempted_by a.thread (name ∷ []) (u ∷ vs)) (filter_all (λ v. is_attempted (name ∷ []) (name_of a.thread v)) us (λ v at. not_before v (before_it keys op operation bio i v at)))
-      ∙ ap (λ (t : Bool). us ++ cond t (u ∷ attempted_by a.thread (name ∷ []) vs) (attempted_by a.thread (name ∷ []) vs)) (itself u)
-      ∙ ap (λ l. us ++ u ∷ l) (filter_none (λ v. is_attempted (name ∷ []) (name_of a.thread v)) vs (λ v at. let r = behind_it keys op operation bio i n v at in passed v r.0 r.1)) in (
-        p.made ++ q.entry ∷ [],
-        goes_append a.shards a.thread a.seen seen seen' p.made (q.entry ∷ []) p.goes q.grows,
-        subst (λ l. Attempts a.thread [] l (p.made ++ q.entry ∷ [])) (sym (units_round keys op operation bio i n))
-            (subst (λ m. AllZip (IsEntryOf a.thread) (attempted_by a.thread m (us ++ u ∷ vs)) (p.made ++ q.entry ∷ [])) (sym met)
-            (subst (λ l. AllZip (IsEntryOf a.thread) l (p.made ++ q.entry ∷ [])) (sym tried)
-            (zip_append (IsEntryOf a.thread) us (u ∷ []) p.made (q.entry ∷ []) p.entries (q.is_its, tt)))),
-        all_append (SaysItsWay a.script) p.made (q.entry ∷ []) p.ways (q.way, tt),
-        (let l = p.spare in let m = q.spare in omega (arith, count i)),
-      )
-    where
-      count : (i : ℕ) → length (first_units keys op operation bio i) ≡ i
-      count i = length-map-range_with_len (unit_at keys op operation bio) 0 i
+      let name = name_of thread u in
+      let met : [] ++ failed_names (made ++ e ∷ []) ≡ name ∷ [] =
+      failed_append made (e ∷ []) ∙ ap (λ l. l ++ failed_names (e ∷ [])) (none_failed made went)
+      ∙ ap (λ (t : Bool). map name_of_entry (cond t (e ∷ []) [])) failed ∙ ap (λ m. m ∷ []) (named thread u e its) in
+      let tried : attempted_by thread (name ∷ []) (us ++ u ∷ vs) ≡ us ++ u ∷ [] =
+      filter-append (λ v. is_attempted (name ∷ []) (name_of thread v)) us (u ∷ vs)
+      ∙ ap (λ l. l ++ attempted_by thread (name ∷ []) (u ∷ vs)) (filter_all (λ v. is_attempted (name ∷ []) (name_of thread v)) us (λ v at. not_before v (before_it keys op operation bio i v at)))
+      ∙ ap (λ (t : Bool). us ++ cond t (u ∷ attempted_by thread (name ∷ []) vs) (attempted_by thread (name ∷ []) vs)) (itself u)
+      ∙ ap (λ l. us ++ u ∷ l) (filter_none (λ v. is_attempted (name ∷ []) (name_of thread v)) vs (λ v at. let r = behind_it keys op operation bio i n v at in passed v r.0 r.1)) in
+      subst (λ l. Attempts thread [] l (made ++ e ∷ [])) (sym (units_round keys op operation bio i n))
+      (subst (λ m. AllZip (IsEntryOf thread) (attempted_by thread m (us ++ u ∷ vs)) (made ++ e ∷ [])) (sym met)
+      (subst (λ l. AllZip (IsEntryOf thread) l (made ++ e ∷ [])) (sym tried)
+      (zip_append (IsEntryOf thread) us (u ∷ []) made (e ∷ []) entries (its, tt))))
 
-      lt_no : (m n : ℕ) → n ≤ m → nat_lt m n ≡ false
-      lt_no m n le = false_from_ne_true (nat_lt m n) (λ t. let lt = ltb-true m n t in absurd (omega arith))
-
-      lt_yes : (m n : ℕ) → m < n → nat_lt m n ≡ true
-      lt_yes m n lt = lt-ltb m n lt
-
-      not_before : (v : PlannedUnit) → v.unit < i → is_attempted (name_of a.thread (unit_at keys op operation bio i) ∷ []) (name_of a.thread v) ≡ true
-      not_before v lt = rw (lt_no i v.unit (omega arith)) (ends ((a.thread == a.thread) && (op == v.tag)))
-        where
-          ends : (t : Bool) → not ((t && false) || false) ≡ true
-          ends true = refl
-          ends false = refl
-
-      itself : (u : PlannedUnit) → is_attempted (name_of a.thread u ∷ []) (name_of a.thread u) ≡ true
-      itself u = rw (lt_no u.unit u.unit (omega arith)) (ends ((a.thread == a.thread) && (u.tag == u.tag)))
-        where
-          ends : (t : Bool) → not ((t && false) || false) ≡ true
-          ends true = refl
-          ends false = refl
-
-      passed : (v : PlannedUnit) → i < v.unit → v.tag ≡ op → is_attempted (name_of a.thread (unit_at keys op operation bio i) ∷ []) (name_of a.thread v) ≡ false
-      passed v lt same = rw (eq-eqb a.thread a.thread refl, eq-eqb op v.tag (sym same), lt_yes i v.unit lt) refl
-
--- the same of two devices and what is between them
-module _ (stays : KnownStays) (a b c : DeviceData) where
-  same_end : (access : Access) (us : List PlannedUnit) (o : BioAnswer) (u : PlannedUnit) (answer : UnitAnswer) → SoFar a b access us o → AttemptsUnit b c u answer → c ≡ record a { seen = c.seen; spare = c.spare }
-  same_end access us o u answer p q = q.same ∙ ap (λ (d : DeviceData). record d { seen = c.seen; spare = c.spare }) p.same
-
-  first : (access : Access) (us : List PlannedUnit) (o : BioAnswer) → SoFar a b access us o → SoFar a (record a { seen = b.seen; spare = b.spare }) access us o
-  first access us o p = subst (λ (d : DeviceData). SoFar a d access us o) p.same p
-
-  second : (access : Access) (us : List PlannedUnit) (o : BioAnswer) (u : PlannedUnit) (answer : UnitAnswer) → SoFar a b access us o → AttemptsUnit b c u answer
-      → AttemptsUnit (record a { seen = b.seen; spare = b.spare }) (record a { seen = c.seen; spare = c.spare }) u answer
-  second access us o u answer p q =
-      subst (λ (d : DeviceData). AttemptsUnit d (record d { seen = c.seen; spare = c.spare }) u answer) p.same (subst (λ (d : DeviceData). AttemptsUnit b d u answer) q.same q)
-
-  pub so_far_wrote : (us us' : List PlannedUnit) (u : PlannedUnit) → us' ≡ us ++ u ∷ [] → SoFar a b Write us Wrote → AttemptsUnit b c u Written → SoFar a c Write us' Wrote
-  so_far_wrote us us' u more p q =
-      subst (λ (d : DeviceData). SoFar a d Write us' Wrote) (sym (same_end Write us Wrote u Written p q))
-      (subst (λ (l : List PlannedUnit). SoFar a (record a { seen = c.seen; spare = c.spare }) Write l Wrote) (sym more)
-      (wrote stays a b.seen c.seen b.spare c.spare us u (first Write us Wrote p) (second Write us Wrote u Written p q)))
-
-  pub so_far_read : (us us' : List PlannedUnit) (u : PlannedUnit) (bytes text bytes' : List ℕ) → us' ≡ us ++ u ∷ [] → bytes' ≡ bytes ++ text
-      → SoFar a b Read us (Bytes bytes) → AttemptsUnit b c u (Text text) → SoFar a c Read us' (Bytes bytes')
-  so_far_read us us' u bytes text bytes' more joined p q =
-      subst (λ (d : DeviceData). SoFar a d Read us' (Bytes bytes')) (sym (same_end Read us (Bytes bytes) u (Text text) p q))
-      (subst (λ (l : List PlannedUnit). SoFar a (record a { seen = c.seen; spare = c.spare }) Read l (Bytes bytes')) (sym more)
-      (subst (λ (l : List ℕ). SoFar a (record a { seen = c.seen; spare = c.spare }) Read (us ++ u ∷ []) (Bytes l)) (sym joined)
-      (read stays a b.seen c.seen b.spare c.spare us u bytes text (first Read us (Bytes bytes) p) (second Read us (Bytes bytes) u (Text text) p q))))
+pub met_fault : KnownStays → (a b m c : DeviceData) (made : List Entry) → Made a b made → m ≡ record b { noted = m.noted; spare = m.spare }
+    → (op : ℕ) (operation : Op) (bio : Extent) (i : ℕ) (access : Access) (o : BioAnswer) → i < bio.units
+    → NoneMet a b access (first_units (keys_of a.script) op operation bio i) o made → (q : AttemptsUnit m c (unit_at (keys_of a.script) op operation bio i) Faulted)
+    → OneMet a c op operation bio i (made ++ q.entry ∷ [])
+met_fault stays a b m c made p reached op operation bio i access o lt n q =
+    let keys = keys_of a.script in
+    let u = unit_at keys op operation bio i in
+    let k = bio.units - i - 1 in
+    let whole : i + suc k ≡ bio.units = omega arith in record {
+      within = lt;
+      attempts = subst (λ l. Attempts a.thread [] (first_units keys op operation bio l) (made ++ q.entry ∷ [])) whole
+          (attempts_fault a.thread keys op operation bio i k made q.entry n.entries n.went (its a b m made p reached stays c u Faulted q) q.failed);
+      known = known a b m made p reached stays c u Faulted q;
+    }
 
 -- ---- the operation of a bio
 
@@ -281,58 +294,45 @@ module _ (script : Script) (op : ℕ) (operation : Op) (bio : Extent) (is : bio_
       (λ r. answer ≡ answers.Refused r)) (sym accepted)
       (outcome, subst (λ us. IsBioAnswer script shards base thread seen bio.access us outcome) (sym units_are) told, same))
 
+-- what carrying out the operation of a bio is
+pub carries_made : (a b : DeviceData) (op : ℕ) (operation : Op) (bio : Extent) (answer : Answer) (made : List Entry) → bio_of operation ≡ Some bio → refusal_of a.script bio ≡ None
+    → a.spare ≤ b.spare + cost operation → Made a b made → Attempts a.thread [] (first_units (keys_of a.script) op operation bio bio.units) made
+    → (outcome : BioAnswer) → IsBioAnswer a.script a.shards a.base a.thread b.seen bio.access (first_units (keys_of a.script) op operation bio bio.units) outcome
+    → answer ≡ answer_of_outcome outcome → IsAnswer answer → (q : CarriesOne a b (op, operation) answer) × (q.made ≡ made)
+carries_made a b op operation bio answer made is accepted spare p attempts outcome told same range = (
+  record {
+    made = made;
+    same = p.same;
+    spare = omega (arith, spare);
+    grows = grows_alone a.shards a.thread a.seen b.seen made (made_by a.thread [] (first_units (keys_of a.script) op operation bio bio.units) made attempts) p.goes;
+    alone = λ _. p.goes;
+    attempts = subst (λ l. Attempts a.thread [] l made) (sym (units_flat a.script op operation bio is accepted)) attempts;
+    ways = p.ways;
+    replies = (reply_is a.script op operation bio is accepted a.shards a.base a.thread b.seen outcome answer told same, tt);
+    ranges = (range, tt);
+  },
+  refl,
+)
+
 -- no unit met a fault
-pub carries_bio : (a b : DeviceData) (op : ℕ) (operation : Op) (bio : Extent) (outcome : BioAnswer) (answer : Answer) → bio_of operation ≡ Some bio → refusal_of a.script bio ≡ None
-    → bio.units ≡ unit_count operation → SoFar a b bio.access (first_units (keys_of a.script) op operation bio bio.units) outcome → answer ≡ answer_of_outcome outcome → IsAnswer answer
-    → CarriesOne a b (op, operation) answer
-carries_bio a b op operation bio outcome answer is accepted count p same range =
+pub carries_bio : (a b : DeviceData) (op : ℕ) (operation : Op) (bio : Extent) (outcome : BioAnswer) (answer : Answer) (made : List Entry) → bio_of operation ≡ Some bio → refusal_of a.script bio ≡ None
+    → a.spare ≤ b.spare + cost operation → Made a b made → NoneMet a b bio.access (first_units (keys_of a.script) op operation bio bio.units) outcome made
+    → answer ≡ answer_of_outcome outcome → IsAnswer answer → (q : CarriesOne a b (op, operation) answer) × (q.made ≡ made)
+carries_bio a b op operation bio outcome answer made is accepted spare p n same range =
     let us = first_units (keys_of a.script) op operation bio bio.units in
-    let failed : failed_names p.made ≡ [] = ap (map name_of_entry) (filter_none (λ e. e.failed) p.made (λ e at. all_at (λ (x : Entry). x.failed ≡ false) p.made e p.went at)) in
-    let attempts : Attempts a.thread [] us p.made =
-    subst (λ m. AllZip (IsEntryOf a.thread) (attempted_by a.thread ([] ++ m) us) p.made) (sym failed)
-    (subst (λ l. AllZip (IsEntryOf a.thread) l p.made) (sym (filter_all (λ v. is_attempted [] (name_of a.thread v)) us (λ v at. refl))) p.entries) in
-    record {
-      made = p.made;
-      same = p.same;
-      spare = let l = p.spare in omega (arith, count, length-map-range_with_len (unit_at (keys_of a.script) op operation bio) 0 bio.units);
-      grows = grows_alone a.shards a.thread a.seen b.seen p.made (made_by a.thread [] us p.made attempts) p.goes;
-      alone = λ _. p.goes;
-      attempts = subst (λ l. Attempts a.thread [] l p.made) (sym (units_flat a.script op operation bio is accepted)) attempts;
-      ways = p.ways;
-      replies = (reply_is a.script op operation bio is accepted a.shards a.base a.thread b.seen outcome answer p.answer same, tt);
-      ranges = (range, tt);
-    }
+    let attempts : Attempts a.thread [] us made =
+    subst (λ m. AllZip (IsEntryOf a.thread) (attempted_by a.thread ([] ++ m) us) made) (sym (none_failed made n.went))
+    (subst (λ l. AllZip (IsEntryOf a.thread) l made) (sym (filter_all (λ v. is_attempted [] (name_of a.thread v)) us (λ v at. refl))) n.entries) in
+    carries_made a b op operation bio answer made is accepted spare p attempts outcome n.answer same range
 
 -- a unit met a fault
-pub carries_fault : KnownStays → (a b c : DeviceData) (op : ℕ) (operation : Op) (bio : Extent) (i : ℕ) (outcome : BioAnswer) → bio_of operation ≡ Some bio → refusal_of a.script bio ≡ None
-    → bio.units ≡ unit_count operation → i < bio.units → i < 2 ^ 32 → SoFar a b bio.access (first_units (keys_of a.script) op operation bio i) outcome
-    → AttemptsUnit b c (unit_at (keys_of a.script) op operation bio i) Faulted → CarriesOne a c (op, operation) (answers.Fault i)
-carries_fault stays a b c op operation bio i outcome is accepted count lt small p q =
-    let keys = keys_of a.script in
-    let us = first_units keys op operation bio i in
-    let u = unit_at keys op operation bio i in
-    let n = bio.units - i - 1 in
-    let whole : i + suc n ≡ bio.units = omega arith in
-    let q' = second stays a b c bio.access us outcome u Faulted p q in
-    let r = fault stays a b.seen c.seen b.spare c.spare bio.access keys op operation bio i n outcome (first stays a b c bio.access us outcome p) q' in
-    let attempts : Attempts a.thread [] (first_units keys op operation bio bio.units) r.0 = subst (λ k. Attempts a.thread [] (first_units keys op operation bio k) r.0) whole r.2 in
-    let spare : a.spare ≤ c.spare + (i + suc n) = r.4 in
-    subst (λ (d : DeviceData). CarriesOne a d (op, operation) (answers.Fault i)) (sym (same_end stays a b c bio.access us outcome u Faulted p q))
-    (record {
-      made = r.0;
-      same = refl;
-      spare = omega (arith, count);
-      grows = grows_alone a.shards a.thread a.seen c.seen r.0 (made_by a.thread [] (first_units keys op operation bio bio.units) r.0 attempts) r.1;
-      alone = λ _. r.1;
-      attempts = subst (λ l. Attempts a.thread [] l r.0) (sym (units_flat a.script op operation bio is accepted)) attempts;
-      ways = r.3;
-      replies = (
-        reply_is a.script op operation bio is accepted a.shards a.base a.thread c.seen (Fault i) (answers.Fault i)
-            (i, u, place_in_units keys op operation bio i bio.units lt, refl, q'.known) refl,
-        tt,
-      );
-      ranges = (small, tt);
-    })
+pub carries_fault : (a b : DeviceData) (op : ℕ) (operation : Op) (bio : Extent) (k : ℕ) (made : List Entry) → bio_of operation ≡ Some bio → refusal_of a.script bio ≡ None
+    → bio.units ≤ max_bio_units → a.spare ≤ b.spare + cost operation → Made a b made → OneMet a b op operation bio k made
+    → (q : CarriesOne a b (op, operation) (answers.Fault k)) × (q.made ≡ made)
+carries_fault a b op operation bio k made is accepted few spare p one =
+    let lt = one.within in
+    carries_made a b op operation bio (answers.Fault k) made is accepted spare p one.attempts (Fault k)
+    (k, unit_at (keys_of a.script) op operation bio k, place_in_units (keys_of a.script) op operation bio k bio.units lt, refl, one.known) refl (omega arith)
   where
     at_range : (f : ℕ → PlannedUnit) (first k n : ℕ) → k < n → At (map f (range_with_len first n)) k (f (first + k))
     at_range f first k zero lt = absurd (omega arith)

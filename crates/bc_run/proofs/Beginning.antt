@@ -1,5 +1,5 @@
 -- A run begins: each shard has its own sectors of the image, and nothing was attempted.
-use Rattle.std.proofs.Common.{◌≡◌, ℕ, zero, suc, ◌-◌, ◌+◌, ◌*◌, ◌/◌, ◌<◌, ◌≤◌, Bool, true, false, cond, List, [], ◌∷◌, length, drop, refl, sym, ap, subst, ◌∙◌, arith, length-drop, length-take}
+use Rattle.std.proofs.Common.{◌≡◌, ℕ, zero, suc, ◌-◌, ◌+◌, ◌*◌, ◌/◌, ◌<◌, ◌≤◌, Bool, true, false, cond, List, [], ◌∷◌, Option, None, length, map, drop, refl, sym, ap, subst, ◌∙◌, arith, length-drop, length-take}
 use Rattle.std.specs.Prelude.{◌==◌, ◌&&◌, nat_lt, replicate}
 use Rattle.std.proofs.Math.Logic.{⊎_elim}
 use Rattle.std.proofs.lemmas.Bool.{eq-eqb, lt-ltb, ltb-true, false_from_ne_true, cases_lt}
@@ -7,13 +7,16 @@ use Rattle.std.proofs.lemmas.Option.{none-some, same_Some}
 use Rattle.bc_base.specs.Lists.{At, list_at}
 use Rattle.bc_base.specs.RamStores.{RamData, IsShardOf, owns, contents, sector_within}
 use Rattle.bc_key.specs.KeyData.{KeyData}
+use Rattle.bc_profile.specs.declared.event.Event.{Event}
+use Rattle.bc_stack.specs.declared.target.Target.{Target}
 use Rattle.bc_medium.specs.Places.{shard_of}
 use Rattle.bc_medium.specs.KeyedDisk.{image_sectors}
 use Rattle.bc_medium.specs.ShardOrder.{ShardData, opened}
 use Rattle.bc_medium.specs.Shards.{opened_with, orders_of}
-use Rattle.bc_script.specs.Script.{Script, IsScript, keys_of, sectors_in, max_units}
-use Rattle.bc_run.specs.Built.{IsBuilt}
-use Rattle.bc_run.specs.Standing.{AreOpenings, Stands, IsCourse, sectors_at, IsBegun}
+use Rattle.bc_script.specs.Script.{Script, IsScript, keys_of, sectors_in, max_ops, max_units}
+use Rattle.bc_run.specs.Keyslots.{KeyslotsData, max_events}
+use Rattle.bc_run.specs.declared.open_hold.OpenHold.{OpenHold}
+use Rattle.bc_run.specs.Standing.{AreOpenings, Stands, HaveRoom, IsCourse, sectors_at, IsBegun}
 use Rattle.bc_run.proofs.Lists.{at_exists}
 
 pub opened_at : (stores : List RamData) (n q k : ℕ) (s : ShardData RamData) → length stores ≡ n → At (opened_with stores (replicate n q)) k s → (store : RamData) × At stores k store × (s ≡ opened store q)
@@ -55,12 +58,16 @@ not_behind store blocks s is behind =
     and_false true = refl
     and_false false = refl
 
-module _ (script : Script) (rules : IsScript script) (built : IsBuilt script) (image : List ℕ) (n : ℕ) (some : 1 ≤ n) (whole : length image ≡ 4096 * script.blocks) (stores : List RamData) (are : AreOpenings script image n stores) where
+-- how many data units, evictions and resets fit
+abbrev pub most : ℕ
+most = max_units + max_ops
+
+module _ (script : Script) (rules : IsScript script) (image : List ℕ) (n : ℕ) (some : 1 ≤ n) (whole : length image ≡ 4096 * script.blocks) (stores : List RamData) (are : AreOpenings script image n stores) where
   abbrev shards : List (ShardData RamData)
-  shards = opened_with stores (replicate n max_units)
+  shards = opened_with stores (replicate n most)
 
   long : length shards ≡ n
-  long = length-opened stores n max_units are.count
+  long = length-opened stores n most are.count
 
   is_owned : (k : ℕ) (store : RamData) → IsShardOf image k n store → (sector : ℕ) → sector < sectors_in script → shard_of n sector ≡ k → owns store sector ≡ true
   is_owned k store is sector inside lies =
@@ -73,17 +80,17 @@ module _ (script : Script) (rules : IsScript script) (built : IsBuilt script) (i
       both true b p q = q
       both false b p q = p
 
-  pub begun_course : (keys : List KeyData) (shards' : List (ShardData RamData)) → shards' ≡ shards → keys ≡ keys_of script → IsCourse script keys shards' max_units
-  begun_course keys shards' same keys_are = subst (λ l. IsCourse script keys l max_units) (sym same) (record {
-    built = built;
+  pub begun_course : (keys : List KeyData) (shards' : List (ShardData RamData)) (keyslots : KeyslotsData) → shards' ≡ shards → keys ≡ keys_of script
+      → keyslots.script ≡ script → keyslots.journals ≡ map (λ target. []) script.targets → IsCourse script keys shards' keyslots most
+  begun_course keys shards' keyslots same keys_are script_is unused = subst (λ l. IsCourse script keys l keyslots most) (sym same) (record {
     rules = rules;
     keys_are = keys_are;
     some = subst (λ m. 1 ≤ m) (sym long) some;
     stand = λ k s at.
-        let r = opened_at stores n max_units k s are.count at in
+        let r = opened_at stores n most k s are.count at in
         let is = are.each k r.0 r.1 in
         let blocks : r.0.blocks ≡ length image / 4096 = is.holds.blocks_are in
-        subst (λ m. Stands script m max_units k s) (sym long) (subst (Stands script n max_units k) (sym r.2) (record {
+        subst (λ m. Stands script m most k s) (sym long) (subst (Stands script n most k) (sym r.2) (record {
           keys = tt;
           owned = is_owned k r.0 is.holds;
           blocks = omega arith;
@@ -91,14 +98,20 @@ module _ (script : Script) (rules : IsScript script) (built : IsBuilt script) (i
           spare = omega arith;
           few = omega arith;
         }));
+    same_script = script_is;
+    room = subst (HaveRoom most) (sym unused) (have_room script.targets);
   })
+    where
+      have_room : (targets : List Target) → HaveRoom most (map (λ target. []) targets)
+      have_room [] = tt
+      have_room (target ∷ targets) = (omega arith, have_room targets)
 
   opening : (s : ℕ) → sectors_at shards (shard_of n s) s ≡ image_sectors image s
   opening s =
       let k = shard_of n s in
       let within : k < n = omega arith in
       let e = at_exists shards k (omega (arith, long)) in
-      let r = opened_at stores n max_units k e.0 are.count e.1 in
+      let r = opened_at stores n most k e.0 are.count e.1 in
       let is = (are.each k r.0 r.1).holds in
       let start : e.0.start ≡ r.0 = ap (λ (z : ShardData RamData). z.start) r.2 in
       sectors_read shards k e.0 e.1 s ∙ ap (λ (z : RamData). contents z s) start
@@ -114,11 +127,24 @@ module _ (script : Script) (rules : IsScript script) (built : IsBuilt script) (i
       sectors_read (x ∷ xs) zero z at s = ap (λ (y : ShardData RamData). contents y.start s) (same_Some x z at)
       sectors_read (x ∷ xs) (suc k) z at s = sectors_read xs k z at s
 
-  pub is_begun : (shards' : List (ShardData RamData)) → shards' ≡ shards → IsBegun script image n (record { script = script; shards = shards'; thread = 0; left = max_units })
-  is_begun shards' same = subst (λ l. IsBegun script image n (record { script = script; shards = l; thread = 0; left = max_units })) (sym same) (record {
-    script_is = refl;
-    shards_are = long;
-    untouched = untouched stores n max_units;
-    opening = opening;
-    left = refl;
-  })
+  pub is_begun : (shards' : List (ShardData RamData)) (journals begun : List (List Event)) (opened : Option OpenHold) → shards' ≡ shards → journals ≡ map (λ target. []) script.targets → opened ≡ None
+      → IsBegun script image n (record { script = script; shards = shards'; thread = 0; left = most; journals = journals; begun = begun; opened = opened })
+  is_begun shards' journals begun opened same unused closed = subst
+      (λ l. IsBegun script image n (record { script = script; shards = l; thread = 0; left = most; journals = journals; begun = begun; opened = opened })) (sym same) (record {
+        script_is = refl;
+        shards_are = long;
+        untouched = untouched stores n most;
+        opening = opening;
+        unused = unused;
+        closed = closed;
+        left = refl;
+      })
+
+-- no journal has an event yet
+pub no_event : (script : Script) (journals : List (List Event)) → journals ≡ map (λ target. []) script.targets → (device : ℕ) → list_at journals device ≡ []
+no_event script journals unused device = ap (λ (l : List (List Event)). list_at l device) unused ∙ none script.targets device
+  where
+    none : (targets : List Target) (device : ℕ) → list_at {A = Event} (map (λ target. []) targets) device ≡ []
+    none [] device = refl
+    none (target ∷ targets) zero = refl
+    none (target ∷ targets) (suc device) = none targets device

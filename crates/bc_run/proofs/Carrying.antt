@@ -22,9 +22,10 @@ use Rattle.bc_medium.specs.LawfulOrders.{name_of, is_earlier}
 use Rattle.bc_medium.specs.Laws.{KnownStays}
 use Rattle.bc_medium.specs.Growth.{Attempts, Knows, failed_names}
 use Rattle.bc_medium.specs.Outcome.{BioAnswer, Wrote, Bytes, Fault}
+use Rattle.bc_profile.specs.declared.noted.Noted.{Noted}
 use Rattle.bc_script.specs.declared.op.Op.{Op}
 use Rattle.bc_script.specs.declared.op.Op.TheVariants as ops
-use Rattle.bc_script.specs.Script.{Script, keys_of, unit_count, unit_count_of_section}
+use Rattle.bc_script.specs.Script.{Script, keys_of}
 use Rattle.bc_script.specs.Bios.{bio_of, refusal_of}
 use Rattle.bc_script.specs.Plan.{unit_at, units_of, units_of_bio}
 use Rattle.bc_report.specs.declared.answer.Answer.{Answer}
@@ -32,7 +33,7 @@ use Rattle.bc_report.specs.declared.answer.Answer.TheVariants as answers
 use Rattle.bc_report.specs.Answers.{answer_of_outcome, IsOwnWord}
 use Rattle.bc_report.specs.Report.{IsAnswer}
 use Rattle.bc_compose.specs.SectionDone.{SaysItsWay, IsBioAnswer, IsReply}
-use Rattle.bc_run.specs.Sections.{DeviceData, Carries, CarriesOne, units_in}
+use Rattle.bc_run.specs.Sections.{DeviceData, Carries, CarriesOne, cost, cost_in, cost_of_section}
 use Rattle.bc_run.proofs.Lists.{In, in_of_flat_map, in_of_map, all_of, all_append, zip_append, zip_more, take_next, enumerate_push}
 use Rattle.bc_run.proofs.Growing.{grows_none, grows_append, goes_none, goes_append, attempts_append, attempts_fresh, failed_are}
 
@@ -108,25 +109,35 @@ module _ (stays : KnownStays) (script : Script) (shards : ℕ) (base : ℕ → S
 
 -- ---- operations one after the other
 
-pub carries_none : (d : DeviceData) → Carries d d [] []
-carries_none d = record {
-  made = [];
-  same = refl;
-  spare = omega arith;
-  grows = grows_none d.shards d.thread d.seen;
-  alone = λ _. goes_none d.shards d.thread d.seen;
-  attempts = tt;
-  ways = tt;
-  replies = tt;
-  ranges = tt;
-}
+-- operations were carried out, and these entries were made
+abbrev pub CarriesBy : DeviceData → DeviceData → List (ℕ × Op) → List Answer → List Entry → Type 0
+CarriesBy a c xs told made = (p : Carries a c xs told) × (p.made ≡ made)
 
-module _ (stays : KnownStays) (a : DeviceData) (seen seen' : List (List Entry)) (spare spare' : ℕ) where
+pub carries_none_by : (d : DeviceData) → CarriesBy d d [] [] []
+carries_none_by d = (
+  record {
+    made = [];
+    same = refl;
+    spare = omega arith;
+    grows = grows_none d.shards d.thread d.seen;
+    alone = λ _. goes_none d.shards d.thread d.seen;
+    attempts = tt;
+    ways = tt;
+    replies = tt;
+    ranges = tt;
+  },
+  refl,
+)
+
+pub carries_none : (d : DeviceData) → Carries d d [] []
+carries_none d = (carries_none_by d).0
+
+module _ (stays : KnownStays) (a : DeviceData) (seen seen' : List (List Entry)) (noted noted' : List (List Noted)) (spare spare' : ℕ) where
   abbrev b : DeviceData
-  b = record a { seen = seen; spare = spare }
+  b = record a { seen = seen; noted = noted; spare = spare }
 
   abbrev c : DeviceData
-  c = record a { seen = seen'; spare = spare' }
+  c = record a { seen = seen'; noted = noted'; spare = spare' }
 
   append : (xs ys : List (ℕ × Op)) (told told' : List Answer) → ((x y : ℕ × Op) → In x xs → In y ys → x.0 ≡ y.0 → ⊥)
       → Carries a b xs told → Carries b c ys told' → Carries a c (xs ++ ys) (told ++ told')
@@ -136,7 +147,7 @@ module _ (stays : KnownStays) (a : DeviceData) (seen seen' : List (List Entry)) 
       let parted = apart a.script a.thread xs ys other in record {
         made = p.made ++ q.made;
         same = refl;
-        spare = let l = p.spare in let m = q.spare in omega (arith, sum_by-append (λ (x : ℕ × Op). unit_count x.1) xs ys);
+        spare = let l = p.spare in let m = q.spare in omega (arith, sum_by-append (λ (x : ℕ × Op). cost x.1) xs ys);
         grows = grows_append a.shards a.thread a.seen seen seen' p.made q.made p.grows q.grows;
         alone = λ alone. goes_append a.shards a.thread a.seen seen seen' p.made q.made (p.alone alone) (q.alone alone);
         attempts =
@@ -152,14 +163,22 @@ module _ (stays : KnownStays) (a : DeviceData) (seen seen' : List (List Entry)) 
         ranges = all_append IsAnswer told told' p.ranges q.ranges;
       }
 
+pub carries_append_by : KnownStays → (a b c : DeviceData) (xs ys : List (ℕ × Op)) (told told' : List Answer) (made made' : List Entry)
+    → ((x y : ℕ × Op) → In x xs → In y ys → x.0 ≡ y.0 → ⊥)
+    → CarriesBy a b xs told made → CarriesBy b c ys told' made' → CarriesBy a c (xs ++ ys) (told ++ told') (made ++ made')
+unfolding append
+carries_append_by stays a b c xs ys told told' made made' other p q =
+    let same : c ≡ record a { seen = c.seen; noted = c.noted; spare = c.spare } = q.0.same ∙ ap (λ (d : DeviceData). record d { seen = c.seen; noted = c.noted; spare = c.spare }) p.0.same in
+    let p1 = subst (λ (d : DeviceData). CarriesBy a d xs told made) p.0.same p in
+    let q1 = subst (λ (d : DeviceData). CarriesBy b d ys told' made') q.0.same q in
+    let q2 = subst (λ (d : DeviceData). CarriesBy d (record d { seen = c.seen; noted = c.noted; spare = c.spare }) ys told' made') p.0.same q1 in
+    subst (λ (d : DeviceData). CarriesBy a d (xs ++ ys) (told ++ told') (made ++ made')) (sym same)
+    (append stays a b.seen c.seen b.noted c.noted b.spare c.spare xs ys told told' other p1.0 q2.0, ap (λ l. l ++ q2.0.made) p1.1 ∙ ap (λ l. made ++ l) q2.1)
+
 pub carries_append : KnownStays → (a b c : DeviceData) (xs ys : List (ℕ × Op)) (told told' : List Answer) → ((x y : ℕ × Op) → In x xs → In y ys → x.0 ≡ y.0 → ⊥)
     → Carries a b xs told → Carries b c ys told' → Carries a c (xs ++ ys) (told ++ told')
 carries_append stays a b c xs ys told told' other p q =
-    let same : c ≡ record a { seen = c.seen; spare = c.spare } = q.same ∙ ap (λ (d : DeviceData). record d { seen = c.seen; spare = c.spare }) p.same in
-    let q1 = subst (λ (d : DeviceData). Carries b d ys told') q.same q in
-    let q2 = subst (λ (d : DeviceData). Carries d (record d { seen = c.seen; spare = c.spare }) ys told') p.same q1 in
-    subst (λ (d : DeviceData). Carries a d (xs ++ ys) (told ++ told')) (sym same)
-    (append stays a b.seen c.seen b.spare c.spare xs ys told told' other (subst (λ (d : DeviceData). Carries a d xs told) p.same p) q2)
+    (carries_append_by stays a b c xs ys told told' p.made q.made other (p, refl) (q, refl)).0
 
 -- ---- operations without a unit
 
@@ -222,21 +241,21 @@ carries_more stays a b c section i operation answers answers' answer lt read mor
     (λ (no : ⊥). absurd no) at') p q))
 
 -- the units of the operations so far and of the next one are among the section's
-pub units_at : (n : ℕ) (section : List Op) → units_in (enumerate_from n section) ≡ unit_count_of_section section
+pub units_at : (n : ℕ) (section : List Op) → cost_in (enumerate_from n section) ≡ cost_of_section section
 units_at n [] = refl
-units_at n (operation ∷ section) = sum_by-cons (λ (x : ℕ × Op). unit_count x.1) (n, operation) (enumerate_from (n + 1) section) ∙ ap (λ m. unit_count operation + m) (units_at (n + 1) section) ∙ sym (sum_by-cons unit_count operation section)
+units_at n (operation ∷ section) = sum_by-cons (λ (x : ℕ × Op). cost x.1) (n, operation) (enumerate_from (n + 1) section) ∙ ap (λ m. cost operation + m) (units_at (n + 1) section) ∙ sym (sum_by-cons cost operation section)
 
-pub count_take : (section : List Op) (n : ℕ) → unit_count_of_section (take n section) ≤ unit_count_of_section section
+pub count_take : (section : List Op) (n : ℕ) → cost_of_section (take n section) ≤ cost_of_section section
 count_take section zero = omega arith
 count_take [] (suc n) = omega arith
-count_take (operation ∷ section) (suc n) = let more = count_take section n in omega (arith, sum_by-cons unit_count operation (take n section), sum_by-cons unit_count operation section)
+count_take (operation ∷ section) (suc n) = let more = count_take section n in omega (arith, sum_by-cons cost operation (take n section), sum_by-cons cost operation section)
 
 pub spare_next : (a b : DeviceData) (section : List Op) (i : ℕ) (operation : Op) (answers : List Answer) → i < length section → operation ≡ get_or section i operation
-    → unit_count_of_section section ≤ a.spare → Carries a b (enumerate_from 0 (take i section)) answers → unit_count operation ≤ b.spare
+    → cost_of_section section ≤ a.spare → Carries a b (enumerate_from 0 (take i section)) answers → cost operation ≤ b.spare
 spare_next a b section i operation answers lt read spare p =
     let here = p.spare in
     let most = count_take section (i + 1) in
-    omega (arith, units_at 0 (take i section), ap unit_count_of_section (take_next section i operation lt read), sum_by-append unit_count (take i section) (operation ∷ []))
+    omega (arith, units_at 0 (take i section), ap cost_of_section (take_next section i operation lt read), sum_by-append cost (take i section) (operation ∷ []))
 
 pub same_script : (a b : DeviceData) (xs : List (ℕ × Op)) (answers : List Answer) → Carries a b xs answers → b.script ≡ a.script
 same_script a b xs answers p = ap (λ (d : DeviceData). d.script) p.same

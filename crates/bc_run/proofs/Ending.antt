@@ -1,7 +1,8 @@
 -- A run ends: the shards are closed, and the sections make a lawful run.
-use Rattle.std.proofs.Common.{◌≡◌, ℕ, zero, suc, ◌+◌, ◌*◌, ◌/◌, ◌<◌, ◌≤◌, ◌^◌, ◌⊎◌, inl, inr, Bool, true, false, cond, List, [], ◌∷◌, ◌++◌, length, map, refl, sym, ap, subst, ◌∙◌, arith, Some}
-use Rattle.std.specs.Prelude.{◌↔◌, ◌==◌, ◌&&◌, ◌||◌, filter, flat_map, Contains, slice_index_or, nat_lt}
-use Rattle.std.specs.List.{AllByRecursion, range_with_len, enumerate_from}
+use Rattle.std.proofs.Common.{◌≡◌, ℕ, zero, suc, ◌+◌, ◌*◌, ◌/◌, ◌<◌, ◌≤◌, ◌^◌, ◌⊎◌, inl, inr, Bool, true, false, cond, List, [], ◌∷◌, ◌++◌, length, map, take, refl, sym, ap, subst, ◌∙◌, arith, not, Option, Some}
+use Rattle.std.specs.Prelude.{◌↔◌, ◌==◌, ◌&&◌, ◌||◌, filter, flat_map, Contains, slice_get, slice_index_or, nat_lt, option_map, IsSomeAnd}
+use Rattle.std.specs.Option.{option_map_or}
+use Rattle.std.specs.List.{AllByRecursion, AllZip, range_with_len, enumerate_from, list_any, position_or_len}
 use Rattle.std.proofs.Math.Logic.{⊎_elim}
 use Rattle.std.proofs.lemmas.Bool.{eq-eqb, ne_eqb, eqb-true, true≢false, cases_lt, and_right, ltb-true, false_from_ne_true}
 use Rattle.std.proofs.lemmas.Option.{none-some, same_Some}
@@ -14,25 +15,36 @@ use Rattle.bc_key.specs.KeyData.{KeyData}
 use Rattle.bc_medium.specs.declared.entry.Entry.{Entry}
 use Rattle.bc_medium.specs.Places.{shard_of}
 use Rattle.bc_medium.specs.KeyedDisk.{Sectors, image_sectors, meets_fault}
-use Rattle.bc_medium.specs.Entries.{caller_of, left_by}
+use Rattle.bc_medium.specs.Entries.{caller_of, left_by, name_of_entry}
+use Rattle.bc_medium.specs.declared.via.Via.{Via}
+use Rattle.bc_medium.specs.declared.via.Via.TheVariants as vias
+use Rattle.bc_bio.specs.declared.context.Context.{Context}
+use Rattle.bc_profile.specs.declared.event.Event.{Event}
+use Rattle.bc_profile.specs.declared.uses.Use.TheVariants as made
+use Rattle.bc_profile.specs.SlotJournal.{opening, IsLawful}
+use Rattle.bc_profile.specs.OneCaller.{journal_of}
+use Rattle.bc_profile.specs.Programmings.{last_programming}
+use Rattle.bc_profile.specs.Story.{events_of}
 use Rattle.bc_medium.specs.Growth.{lies_in}
 use Rattle.bc_medium.specs.ShardOrder.{ShardData, HasKeys, IsOrder, FailAsPlanned, Leaves}
 use Rattle.bc_medium.specs.Shards.{AllLeft, HaveKeys}
 use Rattle.bc_script.specs.Script.{Script, IsScript, keys_of, max_threads}
 use Rattle.bc_stack.specs.declared.target.Target.{Target}
 use Rattle.bc_report.specs.LawfulRun.{HaveLawfulJournals}
-use Rattle.bc_report.specs.SerialRun.{serial_journal}
+use Rattle.bc_report.specs.SerialRun.{DeviceUse, NamesHoldUnder, journal_by, serial_journal, uses_of, uses_of_section, uses_through}
 use Rattle.bc_report.specs.declared.answer.Answer.{Answer}
 use Rattle.bc_report.specs.declared.line.Line.{Line}
-use Rattle.bc_report.specs.Report.{Report, IsReport, IsEntry, IsPart}
-use Rattle.bc_compose.specs.SectionDone.{SaysItsWay, SectionDone}
+use Rattle.bc_report.specs.Report.{Report, IsReport, IsEntry, IsEvent, IsPart}
+use Rattle.bc_compose.specs.SectionDone.{SectionDone, key_of_entry}
 use Rattle.bc_compose.specs.Closed.{ShardsClosed, StoresClosed, DevicesClosed, line_of}
-use Rattle.bc_compose.specs.Composed.{AreSectionsOf, FollowOneAnother, AreUses}
-use Rattle.bc_run.specs.Sections.{DeviceData, SectionsDone}
-use Rattle.bc_run.specs.Built.{IsBuilt}
-use Rattle.bc_run.specs.Standing.{planned_on, Stands, IsCourse, CourseData, device_of, sectors_at, IsBegun}
-use Rattle.bc_run.proofs.Lists.{In, in_of_filter, in_of_flat_map, all_at, all_from_in, all_slice, all_by_place, filter_all, filter_none, at_exists, at_map, at_of_map, list_at_map, by_places, same_tests}
-use Rattle.bc_run.proofs.NoDevices.{no_targets, holds}
+use Rattle.bc_compose.specs.Composed.{AreSectionsOf, FollowOneAnother, AreUses, NamesItsHold}
+use Rattle.bc_run.specs.Sections.{DeviceData, SectionsDone, journal_seen}
+use Rattle.bc_run.specs.Keyslots.{KeyslotsData}
+use Rattle.bc_run.specs.Uses.{after_uses, is_for, NamesUse, MakesUses}
+use Rattle.bc_run.specs.Standing.{planned_on, Stands, IsCourse, CourseData, HasBegun, device_of, sectors_at, IsBegun}
+use Rattle.bc_run.proofs.Lists.{In, in_append_left, in_append_right, list_at_past, in_of_filter, in_of_flat_map, all_at, all_from_in, all_slice, all_by_place, filter_all, filter_none, at_exists, at_map, at_of_map, list_at_map, by_places, same_tests}
+use Rattle.bc_run.proofs.Sectioning.{events_at, events_are, same_by_places}
+use Rattle.bc_run.proofs.Using.{holds_within}
 use Rattle.bc_run.proofs.Turns.{callers_below}
 use Rattle.bc_run.proofs.Beginning.{nothing_behind}
 
@@ -124,11 +136,80 @@ own_of_turns shards shard n (es ∷ made) all (suc t) lt =
     over : (n t : ℕ) → n + suc t ≡ n + 1 + t
     over n t = omega arith
 
+-- ---- holds
+
+through_is : (p : DeviceUse → Bool) (before : List DeviceUse) (hold : DeviceUse) (after : List DeviceUse) → list_any p before ≡ false → p hold ≡ true
+    → take (position_or_len p (before ++ hold ∷ after) + 1) (before ++ hold ∷ after) ≡ before ++ hold ∷ []
+through_is p before hold after none here = ap (λ (n : ℕ). take (n + 1) (before ++ hold ∷ after)) (place before none) ∙ taken before
+  where
+    place : (xs : List DeviceUse) → list_any p xs ≡ false → position_or_len p (xs ++ hold ∷ after) ≡ length xs
+    place [] none = ap (λ (b : Bool). cond {A = ℕ} (not b) (1 + position_or_len p after) 0) here
+    place (x ∷ xs) none =
+        (elim (p x) as (λ (b : Bool). (b || list_any p xs) ≡ false → cond {A = ℕ} (not b) (1 + position_or_len p (xs ++ hold ∷ after)) 0 ≡ suc (length xs)) [
+          | true ↦ λ is. absurd (true≢false is)
+          | false ↦ λ is. omega (arith, place xs is)
+        ]) none
+
+    taken : (xs : List DeviceUse) → take (length xs + 1) (xs ++ hold ∷ after) ≡ xs ++ hold ∷ []
+    taken [] = refl
+    taken (x ∷ xs) = ap (λ (n : ℕ). take n (x ∷ xs ++ hold ∷ after)) (over (length xs)) ∙ ap (λ (l : List DeviceUse). x ∷ l) (taken xs)
+      where
+        over : (n : ℕ) → suc n + 1 ≡ suc (n + 1)
+        over n = omega arith
+
+slots_at : (targets : List Target) (device : ℕ) (target : Target) → At targets device target → option_map_or (λ (t : Target). t.slots) (slice_get targets device) 0 ≡ target.slots
+slots_at targets device target at = ap (λ (o : Option Target). option_map_or (λ (t : Target). t.slots) o 0) at
+
+-- an entry that names its own hold among the uses of all sections names it
+names_its_hold : (script : Script) (e : Entry) (via : Via) → NamesUse script (λ device. []) (uses_of script) e via → NamesHoldUnder script (key_of_entry e) (name_of_entry e) via
+names_its_hold script e vias.Plain is = tt
+names_its_hold script e vias.Soft is = tt
+names_its_hold script e (vias.Inline device slot event) is =
+    let hold : DeviceUse = record { use' = made.Hold is.under.key; units = is.units } in
+    let done : List DeviceUse = is.before ++ hold ∷ [] in
+    let inside = holds_within script device (after_uses script device [] done) is.under.key.0 slot event is.holds in
+    let target = at_exists script.targets device inside in
+    let through : uses_through script device (name_of_entry e) ≡ done =
+    ap (λ (l : List DeviceUse). take (position_or_len (is_for (name_of_entry e)) l + 1) l) is.among ∙ through_is (is_for (name_of_entry e)) is.before hold is.after is.for_others is.for_it in
+    let last : last_programming is.under.key.0 (journal_by target.0 (uses_through script device (name_of_entry e))) ≡ Some (slot, event) =
+    ap (λ (l : List DeviceUse). last_programming is.under.key.0 (journal_by target.0 l)) through
+    ∙ ap (λ (n : ℕ). last_programming is.under.key.0 (journal_of (opening n) (map (λ u. u.use') done))) (sym (slots_at script.targets device target.0 target.1)) ∙ is.holds.last in
+    subst (λ (o : Option Context). NamesHoldUnder script (option_map (λ (c : Context). c.key.0) o) (name_of_entry e) (vias.Inline device slot event)) (sym is.has_context)
+    (subst (λ (o : Option Target). IsSomeAnd o (λ t. last_programming is.under.key.0 (journal_by t (uses_through script device (name_of_entry e))) ≡ Some (slot, event))) (sym target.1) last)
+
+-- ---- lists
+
+zip_length : {X Y : Type 0} (R : X → Y → Type 0) (xs : List X) (ys : List Y) → AllZip R xs ys → length ys ≡ length xs
+zip_length R [] [] all = refl
+zip_length R [] (y ∷ ys) all = absurd all
+zip_length R (x ∷ xs) [] all = absurd all
+zip_length R (x ∷ xs) (y ∷ ys) all = ap suc (zip_length R xs ys all.1)
+
+length_numbered : {X Y : Type 0} (f : ℕ × X → Y) (n : ℕ) (xs : List X) → length (map f (enumerate_from n xs)) ≡ length xs
+length_numbered f n [] = refl
+length_numbered f n (x ∷ xs) = ap suc (length_numbered f (n + 1) xs)
+
+numbered_at : {X Y : Type 0} (f : ℕ × X → List Y) (n : ℕ) (xs : List X) (k : ℕ) (x : X) → At xs k x → list_at (map f (enumerate_from n xs)) k ≡ f (n + k, x)
+numbered_at f n [] k x at = absurd (none-some x at)
+numbered_at f n (y ∷ xs) zero x at = ap (λ (m : ℕ). f (m, y)) (none n) ∙ ap (λ (z : _). f (n + 0, z)) (same_Some y x at)
+  where
+    none : (n : ℕ) → n ≡ n + 0
+    none n = omega arith
+numbered_at f n (y ∷ xs) (suc k) x at = numbered_at f (n + 1) xs k x at ∙ ap (λ (m : ℕ). f (m, x)) (over n k)
+  where
+    over : (n m : ℕ) → n + 1 + m ≡ n + suc m
+    over n m = omega arith
+
+in_one : {X : Type 0} (lists : List (List X)) (t : ℕ) (x : X) → In x (list_at lists t) → In x (flat_map (λ l. l) lists)
+in_one [] t x at = absurd at
+in_one (l ∷ lists) zero x at = in_append_left l (flat_map (λ l. l) lists) x at
+in_one (l ∷ lists) (suc t) x at = in_append_right l (flat_map (λ l. l) lists) x (in_one lists t x at)
+
 -- ---- the whole run
 
-module _ (script : Script) (rules : IsScript script) (built : IsBuilt script) (image : List ℕ) (n : ℕ) (some : 1 ≤ n) (few : n ≤ 64) (whole : length image ≡ 4096 * script.blocks)
+module _ (script : Script) (rules : IsScript script) (image : List ℕ) (n : ℕ) (some : 1 ≤ n) (few : n ≤ 64) (whole : length image ≡ 4096 * script.blocks)
     (v0 v1 : CourseData) (begun : IsBegun script image n v0) (answers : List (List Answer)) (done : SectionsDone (device_of v0) (device_of v1) script.threads answers)
-    (keys : List KeyData) (course : IsCourse v1.script keys v1.shards v1.left) (stores : List RamData) (orders : List (List Entry))
+    (has : HasBegun v1.begun v1.journals) (keys : List KeyData) (keyslots : KeyslotsData) (course : IsCourse v1.script keys v1.shards keyslots v1.left) (stores : List RamData) (orders : List (List Entry))
     (stores_are : stores ≡ map (λ s. s.store) v1.shards) (orders_are : orders ≡ map (λ s. s.entries) v1.shards)
     (closed : Each (λ s. IsOrder (λ (r : RamData) m. owns r m) (λ (r : RamData). Some (contents r)) (λ (r : RamData). Some (record { plan = r.calls.fails; calls = r.calls.calls })) (λ (r : RamData). r.calls.faults)
     s.start s.keys s.store s.entries) v1.shards)
@@ -225,9 +306,10 @@ module _ (script : Script) (rules : IsScript script) (built : IsBuilt script) (i
 
   module _ (left : List ℕ) (left_long : length left ≡ 4096 * script.blocks)
       (left_is : (s : ℕ) → s < 8 * script.blocks → AllAt stores (shard_of (length stores) s) (λ store. image_sectors left s ≡ contents store s))
-      (lines : List (List Line)) (lines_are : lines ≡ map (map line_of) orders) (lines_fit : Each (IsPart IsEntry) lines) where
+      (lines : List (List Line)) (lines_are : lines ≡ map (map line_of) orders) (lines_fit : Each (IsPart IsEntry) lines)
+      (have_lawful : HaveLawfulJournals keyslots.script.targets v1.journals) (events_fit : Each (IsPart IsEvent) v1.journals) where
     abbrev report : Report
-    report = record { threads = answers; shards = lines; devices = [] }
+    report = record { threads = answers; shards = lines; devices = v1.journals }
 
     stores_closed : StoresClosed script n (sectors_at v0.shards) image orders left
     stores_closed = record {
@@ -258,35 +340,61 @@ module _ (script : Script) (rules : IsScript script) (built : IsBuilt script) (i
             none_behind : (r : RamData) (s : ℕ) → 8 * r.blocks ≤ s → owns r s ≡ false
             none_behind r s le = and_right (shard_of r.shards s == r.shard) (nat_lt (s / 8) r.blocks) (false_from_ne_true (nat_lt (s / 8) r.blocks) (λ t. let lt = ltb-true (s / 8) r.blocks t in absurd (omega arith)))
 
-    devices_closed : DevicesClosed script (length script.threads) (λ t. []) []
+    lawful : HaveLawfulJournals script.targets v1.journals
+    lawful = subst (λ (s : Script). HaveLawfulJournals s.targets v1.journals) (course.same_script ∙ script_is) have_lawful
+
+    journals_are : map events_of done.stories ≡ v1.journals
+    journals_are = done.journals ∙ events_are v1.thread v1.begun v1.journals has
+
+    devices_closed : DevicesClosed script (length script.threads) (λ t. list_at done.noted t) done.stories
     devices_closed = record {
-      fronts = λ caller device lt. record { begins = ([], refl); own_entries = refl };
-      no_strangers = λ device. tt;
-      lawful = subst (λ (ts : List Target). HaveLawfulJournals ts []) (sym (no_targets script built)) tt;
+      fronts = λ caller device lt. done.told caller device lt;
+      no_strangers = done.authors;
+      lawful = subst (HaveLawfulJournals script.targets) (sym journals_are) lawful;
     }
 
-    pub uses : AreUses script (length script.threads) made_of []
+    made_uses : MakesUses script (λ device. []) (journal_seen (device_of v1)) (uses_of script) (flat_map (λ es. es) done.made)
+    made_uses = subst (λ (s : Script). MakesUses s (λ device. []) (journal_seen (device_of v1)) (λ device. flat_map (uses_of_section s device) (enumerate_from 0 script.threads)) (flat_map (λ es. es) done.made)) begun.script_is done.uses
+
+    pub uses : AreUses script (length script.threads) made_of done.stories
     uses = record {
-      journals_are = subst (λ (ts : List Target). [] ≡ map (serial_journal script) (enumerate_from 0 ts)) (sym (no_targets script built)) refl;
-      holds = λ t lt. holds script built (made_of t) (subst (λ (s : Script). Each (SaysItsWay s) (made_of t)) begun.script_is (done.each_done t lt).ways);
+      journals_are = journals_are ∙ same_by_places v1.journals (map (serial_journal script) (enumerate_from 0 script.targets))
+          (zip_length (λ target events. IsLawful target.slots events) script.targets v1.journals lawful ∙ sym (length_numbered (serial_journal script) 0 script.targets))
+          (λ device. ⊎_elim
+          (λ (inside : device < length script.targets).
+          let target = at_exists script.targets device inside in
+          sym (events_at v1.thread v1.begun v1.journals has device) ∙ made_uses.journals device inside
+          ∙ ap (λ (n : ℕ). journal_of (opening n) (map (λ u. u.use') (uses_of script device))) (slots_at script.targets device target.0 target.1)
+          ∙ ap (λ (n : ℕ). serial_journal script (n, target.0)) (zero_first device) ∙ sym (numbered_at (serial_journal script) 0 script.targets device target.0 target.1))
+          (λ (outside : length script.targets ≤ device).
+          let one = zip_length (λ target events. IsLawful target.slots events) script.targets v1.journals lawful in
+          let other = length_numbered (serial_journal script) 0 script.targets in
+          list_at_past v1.journals device (omega arith) ∙ sym (list_at_past (map (serial_journal script) (enumerate_from 0 script.targets)) device (omega arith)))
+          (cases_lt device (length script.targets)));
+      holds = λ t lt.
+          all_from_in (NamesItsHold script) (made_of t)
+          (λ e at. names_its_hold script e e.via (all_at (λ e. NamesUse script (λ device. []) (uses_of script) e e.via) (flat_map (λ es. es) done.made) e made_uses.holds (in_one done.made t e at)));
     }
+      where
+        zero_first : (n : ℕ) → n ≡ 0 + n
+        zero_first n = omega arith
 
-    pub are_sections : AreSectionsOf script image n report left made_of orders []
+    pub are_sections : AreSectionsOf script image n report left made_of orders done.stories
     are_sections = record {
       base = sectors_at v0.shards;
       seen = λ t. list_at done.seen t;
-      noted = λ t. [];
+      noted = λ t. list_at done.noted t;
       rules = rules;
       some = some;
       whole = whole;
       answered = done.each_answered;
       sections = λ t lt.
-          subst (λ m. SectionDone script m (sectors_at v0.shards) t (list_at script.threads t) (list_at done.seen t) [] (list_at answers t) (list_at done.made t)) begun.shards_are
-          (subst (λ (c : Script). SectionDone c (length v0.shards) (sectors_at v0.shards) t (list_at script.threads t) (list_at done.seen t) [] (list_at answers t) (list_at done.made t)) begun.script_is (done.each_done t lt));
+          subst (λ m. SectionDone script m (sectors_at v0.shards) t (list_at script.threads t) (list_at done.seen t) (list_at done.noted t) (list_at answers t) (list_at done.made t)) begun.shards_are
+          (subst (λ (c : Script). SectionDone c (length v0.shards) (sectors_at v0.shards) t (list_at script.threads t) (list_at done.seen t) (list_at done.noted t) (list_at answers t) (list_at done.made t)) begun.script_is (done.each_done t lt));
       shards_closed = shards_closed;
       stores_closed = stores_closed;
       devices_closed = devices_closed;
-      reported = record { shards = lines_are; devices = refl };
+      reported = record { shards = lines_are; devices = sym journals_are };
     }
 
     pub follow : FollowOneAnother n (length script.threads) made_of orders
@@ -300,8 +408,8 @@ module _ (script : Script) (rules : IsScript script) (built : IsBuilt script) (i
     is_report = record {
       few_threads = let c : length script.threads ≤ max_threads = rules.threads.count in let a = done.each_answered in omega arith;
       few_shards = omega (arith, ap length lines_are, length-map orders (map line_of), ap length orders_are, length-map v1.shards (λ (s : ShardData RamData). s.entries), count);
-      few_devices = omega arith;
+      few_devices = let c = rules.devices.stack.few in let z = zip_length (λ target events. IsLawful target.slots events) script.targets v1.journals lawful in omega arith;
       answers = done.ranges;
       entries = lines_fit;
-      events = tt;
+      events = events_fit;
     }

@@ -1,5 +1,5 @@
 -- Parts of one size of a list, and facts of numbered parts.
-use Rattle.std.proofs.Common.{◌≡◌, ℕ, zero, suc, ◌+◌, ◌*◌, ◌<◌, ◌≤◌, List, length, map, drop, ◌-◌, arith, length-take, length-drop}
+use Rattle.std.proofs.Common.{◌≡◌, ℕ, zero, suc, ◌+◌, ◌*◌, ◌<◌, ◌≤◌, List, length, map, drop, ◌-◌, arith, length-take, length-drop, ap, ◌∙◌}
 use Rattle.std.specs.Prelude.{slice_range}
 use Rattle.std.specs.List.{range_with_len, AllByRecursion}
 
@@ -23,3 +23,13 @@ all_within P f first (suc n) bound within each = (each first (omega arith), all_
 -- the next part begins behind this one
 pub next_part : (size i : ℕ) → (i + 1) * size ≡ i * size + size
 next_part size i = omega arith
+
+-- the parts before one begin where so many bytes end, of which no bio has more
+pub part_starts : (i units n size : ℕ) → i < units → units * n ≤ 256 → size ≡ 512 * n → i * size ≤ 131072
+part_starts i units n size lt most is =
+    let within = part_within n i units lt in
+    let at : i * size ≡ 512 * (n * i) = ap (λ k. i * k) is ∙ turned i n in
+    omega arith
+  where
+    turned : (i n : ℕ) → i * (512 * n) ≡ 512 * (n * i)
+    turned i n = omega arith

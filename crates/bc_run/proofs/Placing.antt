@@ -25,11 +25,11 @@ use Rattle.bc_medium.specs.Outcome.{is_fault}
 use Rattle.bc_medium.specs.ShardOrder.{ShardData, Appends, AppendsNext, HasKeys, StandsNow}
 use Rattle.bc_medium.specs.Shards.{orders_of, HaveKeys, Adds, Answers, AppendsAt, ReadsAt, AnswersText}
 use Rattle.bc_script.specs.Script.{Script, keys_of}
+use Rattle.bc_script.specs.Way.{way_of}
+use Rattle.bc_report.specs.Ways.{way_in}
 use Rattle.bc_compose.specs.SectionDone.{SaysItsWay}
 use Rattle.bc_run.specs.Sections.{GoOnBy}
-use Rattle.bc_run.specs.Built.{IsBuilt}
-use Rattle.bc_run.specs.Standing.{Stands, AllStand, sectors_at, CourseData, device_of, GoesOn, Attempted, AttemptsUnit, via_of, at_of, entry_of_write, entry_of_read, answer_of_write, answer_of_read}
-use Rattle.bc_run.proofs.NoDevices.{says_via}
+use Rattle.bc_run.specs.Standing.{Stands, AllStand, sectors_at, CourseData, device_of, GoesOn, Attempted, AttemptsUnit, at_of, entry_of_write, entry_of_read, answer_of_write, answer_of_read}
 use Rattle.bc_run.proofs.Lists.{at_changed, at_set, length-set, list_at_map, all_slice}
 
 -- ---- what the calls of the shards say
@@ -113,133 +113,134 @@ goes_on_by shards old new k e lies ends elsewhere shard =
     ∙ ap (λ (b : Bool). list_at old shard ++ cond b (e ∷ []) []) (sym (ne_eqb (shard_of shards e.at.sector) shard (λ (same : shard_of shards e.at.sector ≡ shard). other (sym same ∙ sym lies)))))
     (cases_eq shard k)
 
-module _ (script : Script) (thread : ℕ) (old new : List (ShardData RamData)) (left left' : ℕ) (u : PlannedUnit) (e : Entry) (answer : UnitAnswer) where
-  abbrev before : CourseData
-  before = record { script = script; shards = old; thread = thread; left = left }
+module _ (here : CourseData) (new : List (ShardData RamData)) (u : PlannedUnit) (e : Entry) (answer : UnitAnswer) where
+  abbrev old : List (ShardData RamData)
+  old = here.shards
 
   abbrev after : CourseData
-  after = record { script = script; shards = new; thread = thread; left = left' }
+  after = record here { shards = new }
 
-  pub attempts_unit : Attempted (keys_of script) old new e answer → left ≡ left' + 1 → 1 ≤ length old → IsEntryOf thread u e → SaysItsWay script e → e.failed ≡ is_fault answer
-      → AttemptsUnit (device_of before) (device_of after) u answer
-  attempts_unit p less some its way failed =
+  pub attempts_unit : Attempted (keys_of here.script) here.shards new e answer → IsEntryOf here.thread u e → SaysItsWay here.script e → e.failed ≡ is_fault answer
+      → (q : AttemptsUnit (device_of here) (device_of (record here { shards = new })) u answer) × (q.entry ≡ e)
+  attempts_unit p its way failed =
       let lies : p.place.shard ≡ shard_of (length old) e.at.sector = p.adds.shard in
-      let base = starts_stay (keys_of script) e old new p.place.shard p.goes_on in
+      let base = starts_stay (keys_of here.script) e old new p.place.shard p.goes_on in
       let long : length new ≡ length old = ap length p.goes_on.3 ∙ length-set old p.place.shard p.goes_on.1 in
       let s' = p.goes_on.1 in
-      let here : At new p.place.shard s' = subst (λ (l : List (ShardData RamData)). At l p.place.shard s') (sym p.goes_on.3) (at_set old p.place.shard p.goes_on.0 s' p.goes_on.2) in
-      let told = p.told s' here in
+      let at-new : At new p.place.shard s' = subst (λ (l : List (ShardData RamData)). At l p.place.shard s') (sym p.goes_on.3) (at_set old p.place.shard p.goes_on.0 s' p.goes_on.2) in
+      let told = p.told s' at-new in
       let sector : e.at.sector ≡ u.sector = ap (λ (at : UnitAt). at.sector) its.unit in
       let k : p.place.shard ≡ shard_of (length old) u.sector = lies ∙ ap (shard_of (length old)) sector in
-      let name : name_of_entry e ≡ name_of thread u = ap unit_name its.unit in
-      record {
-        entry = e;
-        same = ap (λ (n : ℕ). record { script = script; shards = n; base = sectors_at new; thread = thread; seen = orders_of new; noted = []; alone = true; spare = left' }) long
-            ∙ ap (λ (b : ℕ → Sectors). record { script = script; shards = length old; base = b; thread = thread; seen = orders_of new; noted = []; alone = true; spare = left' }) base;
-        spare = omega arith;
-        grows = goes_on_by (length old) (orders_of old) (orders_of new) p.place.shard e lies p.adds.appended.ends p.adds.appended.elsewhere;
-        is_its = its;
-        way = way;
-        failed = failed;
-        known =
-            subst (λ (n : UnitName). IsTold (told_by (keys_of script) (sectors_at old (shard_of (length old) u.sector)) (list_at (orders_of new) (shard_of (length old) u.sector))) n answer) name
-            (subst (λ (j : ℕ). IsTold (told_by (keys_of script) (sectors_at old j) (list_at (orders_of new) j)) (name_of_entry e) answer) k
-            (subst (λ (b : ℕ → Sectors). IsTold (told_by (keys_of script) (b p.place.shard) (list_at (orders_of new) p.place.shard)) (name_of_entry e) answer) base
-            (subst (λ (d : Sectors). IsTold (told_by (keys_of script) d (list_at (orders_of new) p.place.shard)) (name_of_entry e) answer) (sym (sectors_of new p.place.shard s' here))
-            (subst (λ (l : List Entry). IsTold (told_by (keys_of script) (contents s'.start) l) (name_of_entry e) answer) (sym (list_at_map (λ (s : ShardData RamData). s.entries) new p.place.shard s' here))
-            told))));
-      }
+      let name : name_of_entry e ≡ name_of here.thread u = ap unit_name its.unit in (
+        record {
+          entry = e;
+          same = ap (λ (n : ℕ). record (device_of after) { shards = n }) long
+              ∙ ap (λ (b : ℕ → Sectors). record (device_of after) { shards = length old; base = b }) base;
+          spare = omega arith;
+          grows = goes_on_by (length old) (orders_of old) (orders_of new) p.place.shard e lies p.adds.appended.ends p.adds.appended.elsewhere;
+          is_its = its;
+          way = way;
+          failed = failed;
+          known =
+              subst (λ (n : UnitName). IsTold (told_by (keys_of here.script) (sectors_at old (shard_of (length old) u.sector)) (list_at (orders_of new) (shard_of (length old) u.sector))) n answer) name
+              (subst (λ (j : ℕ). IsTold (told_by (keys_of here.script) (sectors_at old j) (list_at (orders_of new) j)) (name_of_entry e) answer) k
+              (subst (λ (b : ℕ → Sectors). IsTold (told_by (keys_of here.script) (b p.place.shard) (list_at (orders_of new) p.place.shard)) (name_of_entry e) answer) base
+              (subst (λ (d : Sectors). IsTold (told_by (keys_of here.script) d (list_at (orders_of new) p.place.shard)) (name_of_entry e) answer) (sym (sectors_of new p.place.shard s' at-new))
+              (subst (λ (l : List Entry). IsTold (told_by (keys_of here.script) (contents s'.start) l) (name_of_entry e) answer) (sym (list_at_map (λ (s : ShardData RamData). s.entries) new p.place.shard s' at-new))
+              told))));
+        },
+        refl,
+      )
     where
       sectors_of : (xs : List (ShardData RamData)) (k : ℕ) (s : ShardData RamData) → At xs k s → sectors_at xs k ≡ contents s.start
       sectors_of xs k s at = ap (λ (o : Option (ShardData RamData)). option_map_or (λ s. contents s.start) o (λ sector. [])) at
 
 -- ---- the entries of writes and reads
 
-pub write_says_its_way : (script : Script) (built : IsBuilt script) (at : UnitAt) (plain : List ℕ) (went : Bool) → SaysItsWay script (entry_of_write at plain went)
-write_says_its_way script built at plain true = says_via script built at.context at.sector
-write_says_its_way script built at plain false = says_via script built at.context at.sector
+pub write_says_its_way : (script : Script) (at : UnitAt) (via : Via) (plain : List ℕ) (went : Bool) → way_in via ≡ way_of script at.context at.sector
+    → SaysItsWay script (entry_of_write at via plain went)
+write_says_its_way script at via plain true says = says
+write_says_its_way script at via plain false says = says
 
-pub read_says_its_way : (script : Script) (built : IsBuilt script) (at : UnitAt) (went : Bool) → SaysItsWay script (entry_of_read at went)
-read_says_its_way script built at true = says_via script built at.context at.sector
-read_says_its_way script built at false = says_via script built at.context at.sector
+pub read_says_its_way : (script : Script) (at : UnitAt) (via : Via) (went : Bool) → way_in via ≡ way_of script at.context at.sector
+    → SaysItsWay script (entry_of_read at via went)
+read_says_its_way script at via true says = says
+read_says_its_way script at via false says = says
 
-pub write_failed : (at : UnitAt) (plain : List ℕ) (went : Bool) → (entry_of_write at plain went).failed ≡ is_fault (answer_of_write went)
-write_failed at plain true = refl
-write_failed at plain false = refl
+pub write_via : (at : UnitAt) (via : Via) (plain : List ℕ) (went : Bool) → (entry_of_write at via plain went).via ≡ via
+write_via at via plain true = refl
+write_via at via plain false = refl
 
-pub read_failed : (at : UnitAt) (text : List ℕ) (went : Bool) → (entry_of_read at went).failed ≡ is_fault (answer_of_read text went)
-read_failed at text true = refl
-read_failed at text false = refl
+pub read_via : (at : UnitAt) (via : Via) (went : Bool) → (entry_of_read at via went).via ≡ via
+read_via at via true = refl
+read_via at via false = refl
 
-pub write_is_its : (thread : ℕ) (u : PlannedUnit) (plain : List ℕ) (went : Bool) → u.access ≡ Write → plain ≡ u.bytes → IsEntryOf thread u (entry_of_write (at_of thread u) plain went)
-write_is_its thread u plain true writes same = record { unit = refl; access = sym writes; written = λ _ _. ap (λ (l : List ℕ). Some l) same }
-write_is_its thread u plain false writes same = record { unit = refl; access = sym writes; written = λ went _. absurd (true≢false went) }
+pub write_failed : (at : UnitAt) (via : Via) (plain : List ℕ) (went : Bool) → (entry_of_write at via plain went).failed ≡ is_fault (answer_of_write went)
+write_failed at via plain true = refl
+write_failed at via plain false = refl
 
-pub read_is_its : (thread : ℕ) (u : PlannedUnit) (went : Bool) → u.access ≡ Read → IsEntryOf thread u (entry_of_read (at_of thread u) went)
-read_is_its thread u true reads = record { unit = refl; access = sym reads; written = λ _ writes. absurd (differ (sym reads ∙ writes)) }
+pub read_failed : (at : UnitAt) (via : Via) (text : List ℕ) (went : Bool) → (entry_of_read at via went).failed ≡ is_fault (answer_of_read text went)
+read_failed at via text true = refl
+read_failed at via text false = refl
+
+pub write_is_its : (thread : ℕ) (u : PlannedUnit) (via : Via) (plain : List ℕ) (went : Bool) → u.access ≡ Write → plain ≡ u.bytes → IsEntryOf thread u (entry_of_write (at_of thread u) via plain went)
+write_is_its thread u via plain true writes same = record { unit = refl; access = sym writes; written = λ _ _. ap (λ (l : List ℕ). Some l) same }
+write_is_its thread u via plain false writes same = record { unit = refl; access = sym writes; written = λ went _. absurd (true≢false went) }
+
+pub read_is_its : (thread : ℕ) (u : PlannedUnit) (via : Via) (went : Bool) → u.access ≡ Read → IsEntryOf thread u (entry_of_read (at_of thread u) via went)
+read_is_its thread u via true reads = record { unit = refl; access = sym reads; written = λ _ writes. absurd (differ (sym reads ∙ writes)) }
   where
     differ : Read ≡ Write → ⊥
     differ e = cc
-read_is_its thread u false reads = record { unit = refl; access = sym reads; written = λ went _. absurd (true≢false went) }
+read_is_its thread u via false reads = record { unit = refl; access = sym reads; written = λ went _. absurd (true≢false went) }
 
 -- ---- the accesses, from what the shards' calls say
 
-pub attempted_write : (keys keys' : List KeyData) (old new : List (ShardData RamData)) (at : UnitAt) (via : Via) (plain : List ℕ) (place : Place) → keys' ≡ keys → via ≡ via_of at.context
-    → AppendsAt (λ s. Some keys') old new (written_entry at via plain) place → Adds old new (written_entry at via plain) place
-    → Answers (λ (s : RamData). Some (contents s)) keys' new place (unit_name at) Written → Attempted keys old new (entry_of_write at plain true) (answer_of_write true)
-attempted_write keys keys' old new at via plain place same-keys same-via ok adds told =
-    let e = entry_of_write at plain true in
-    let told' = subst (λ (k : List KeyData). Answers (λ (s : RamData). Some (contents s)) k new place (unit_name at) Written) same-keys told in
-    let ok' = subst (λ (v : Via). AppendsAt (λ s. Some keys) old new (written_entry at v plain) place) same-via
-    (subst (λ (k : List KeyData). AppendsAt (λ s. Some k) old new (written_entry at via plain) place) same-keys ok) in
-    record {
-      place = place;
-      adds = subst (λ (v : Via). Adds old new (written_entry at v plain) place) same-via adds;
-      goes_on = goes_on_write keys old new e place.shard place.index ok'.1;
-      told = told_at keys new place (unit_name at) Written told';
-    }
+pub attempted_write : (keys : List KeyData) (old new : List (ShardData RamData)) (at : UnitAt) (via : Via) (plain : List ℕ) (place : Place)
+    → AppendsAt (λ s. Some keys) old new (written_entry at via plain) place → Adds old new (written_entry at via plain) place
+    → Answers (λ (s : RamData). Some (contents s)) keys new place (unit_name at) Written → Attempted keys old new (entry_of_write at via plain true) (answer_of_write true)
+attempted_write keys old new at via plain place ok adds told = record {
+  place = place;
+  adds = adds;
+  goes_on = goes_on_write keys old new (written_entry at via plain) place.shard place.index ok.1;
+  told = told_at keys new place (unit_name at) Written told;
+}
 
-pub attempted_write_fault : (keys keys' : List KeyData) (old new : List (ShardData RamData)) (at : UnitAt) (via : Via) (plain : List ℕ) (place : Place) → keys' ≡ keys → via ≡ via_of at.context
-    → ChangesAt old new place.shard (λ s s'. AppendsNext (Some keys') s s' (failed_entry Write at via) place.index) → Adds old new (failed_entry Write at via) place
-    → Answers (λ (s : RamData). Some (contents s)) keys new place (unit_name at) Faulted → Attempted keys old new (entry_of_write at plain false) (answer_of_write false)
-attempted_write_fault keys keys' old new at via plain place same-keys same-via changes adds told =
-    let e = entry_of_write at plain false in
-    let changes' = subst (λ (v : Via). ChangesAt old new place.shard (λ s s'. AppendsNext (Some keys) s s' (failed_entry Write at v) place.index)) same-via
-    (subst (λ (k : List KeyData). ChangesAt old new place.shard (λ s s'. AppendsNext (Some k) s s' (failed_entry Write at via) place.index)) same-keys changes) in
-    record {
-      place = place;
-      adds = subst (λ (v : Via). Adds old new (failed_entry Write at v) place) same-via adds;
-      goes_on = goes_on_write keys old new e place.shard place.index changes';
-      told = told_at keys new place (unit_name at) Faulted told;
-    }
+pub attempted_write_fault : (keys : List KeyData) (old new : List (ShardData RamData)) (at : UnitAt) (via : Via) (plain : List ℕ) (place : Place)
+    → ChangesAt old new place.shard (λ s s'. AppendsNext (Some keys) s s' (failed_entry Write at via) place.index) → Adds old new (failed_entry Write at via) place
+    → Answers (λ (s : RamData). Some (contents s)) keys new place (unit_name at) Faulted → Attempted keys old new (entry_of_write at via plain false) (answer_of_write false)
+attempted_write_fault keys old new at via plain place changes adds told = record {
+  place = place;
+  adds = adds;
+  goes_on = goes_on_write keys old new (failed_entry Write at via) place.shard place.index changes;
+  told = told_at keys new place (unit_name at) Faulted told;
+}
 
-pub attempted_read : (keys : List KeyData) (old new : List (ShardData RamData)) (at : UnitAt) (via : Via) (raw text : List ℕ) (place : Place) → HaveKeys keys old → via ≡ via_of at.context
+pub attempted_read : (keys : List KeyData) (old new : List (ShardData RamData)) (at : UnitAt) (via : Via) (raw text : List ℕ) (place : Place) → HaveKeys keys old
     → length raw ≡ 512 * unit_sectors keys at.context → text ≡ deciphered keys at.context raw
     → ReadsAt (λ (s : RamData). Some (contents s)) old new (read_entry at via) raw place → Adds old new (read_entry at via) place
-    → AnswersText (λ (s : RamData). Some (contents s)) old new at raw place → Attempted keys old new (entry_of_read at true) (answer_of_read text true)
-attempted_read keys old new at via raw text place have same-via long is ok adds told =
-    let e = entry_of_read at true in
-    let ok' = subst (λ (v : Via). ReadsAt (λ (s : RamData). Some (contents s)) old new (read_entry at v) raw place) same-via ok in
+    → AnswersText (λ (s : RamData). Some (contents s)) old new at raw place → Attempted keys old new (entry_of_read at via true) (answer_of_read text true)
+attempted_read keys old new at via raw text place have long is ok adds told =
+    let e = read_entry at via in
     record {
       place = place;
-      adds = subst (λ (v : Via). Adds old new (read_entry at v) place) same-via adds;
+      adds = adds;
       goes_on = goes_on_read keys old new e place.shard have
           (changes_more (λ s s'. (place.index ≡ length s.entries) × Appends s.keys s s' e × StandsNow (λ (s : RamData). Some (contents s)) s at.sector raw) (λ s s'. Appends s.keys s s' e) old new place.shard
-          (λ s s' _ r. r.1) ok'.1);
+          (λ s s' _ r. r.1) ok.1);
       told = told_at keys new place (unit_name at) (Answered text)
           (subst (λ (t : List ℕ). Answers (λ (s : RamData). Some (contents s)) keys new place (unit_name at) (Answered t)) (sym is) (told keys have long));
     }
 
-pub attempted_read_fault : (keys : List KeyData) (old new : List (ShardData RamData)) (at : UnitAt) (via : Via) (text : List ℕ) (place : Place) → HaveKeys keys old → via ≡ via_of at.context
+pub attempted_read_fault : (keys : List KeyData) (old new : List (ShardData RamData)) (at : UnitAt) (via : Via) (text : List ℕ) (place : Place) → HaveKeys keys old
     → AppendsAt (λ s. s.keys) old new (failed_entry Read at via) place → Adds old new (failed_entry Read at via) place
-    → Answers (λ (s : RamData). Some (contents s)) keys new place (unit_name at) Faulted → Attempted keys old new (entry_of_read at false) (answer_of_read text false)
-attempted_read_fault keys old new at via text place have same-via ok adds told =
-    let e = entry_of_read at false in
-    let ok' = subst (λ (v : Via). AppendsAt (λ s. s.keys) old new (failed_entry Read at v) place) same-via ok in
+    → Answers (λ (s : RamData). Some (contents s)) keys new place (unit_name at) Faulted → Attempted keys old new (entry_of_read at via false) (answer_of_read text false)
+attempted_read_fault keys old new at via text place have ok adds told =
+    let e = failed_entry Read at via in
     record {
       place = place;
-      adds = subst (λ (v : Via). Adds old new (failed_entry Read at v) place) same-via adds;
+      adds = adds;
       goes_on = goes_on_read keys old new e place.shard have
-          (changes_more (λ s s'. AppendsNext s.keys s s' e place.index) (λ s s'. Appends s.keys s s' e) old new place.shard (λ s s' _ r. r.1) ok'.1);
+          (changes_more (λ s s'. AppendsNext s.keys s s' e place.index) (λ s s'. Appends s.keys s s' e) old new place.shard (λ s s' _ r. r.1) ok.1);
       told = told_at keys new place (unit_name at) Faulted told;
     }

@@ -1,6 +1,6 @@
 -- One operation more: held back, submitted with what is held back, answered by itself, evicted, reset.
 use Rattle.std.proofs.Common.{◌≡◌, ℕ, zero, suc, ◌+◌, ◌<◌, ◌≤◌, ◌⊎◌, inl, inr, Bool, true, false, cond, List, [], ◌∷◌, ◌++◌, length, map, take, get_or, append-nil, append_assoc, refl, sym, ap, subst, ◌∙◌, arith, Option, Some, None}
-use Rattle.std.specs.Prelude.{◌≢◌, ◌==◌, filter, filter_map, flat_map, slice_get, slice_set, IsSomeAnd, IsSome, IsTrue, zip}
+use Rattle.std.specs.Prelude.{◌≢◌, ◌==◌, filter, filter_map, slice_get, slice_set, IsSomeAnd, zip}
 use Rattle.std.specs.List.{enumerate_from, AllByRecursion, AllZip, cons_option, list_any}
 use Rattle.std.specs.Option.{option_map_or}
 use Rattle.std.proofs.Math.Logic.{⊎_elim}
@@ -16,31 +16,31 @@ use Rattle.bc_bio.specs.declared.extent.Extent.{Extent}
 use Rattle.bc_medium.specs.declared.entry.Entry.{Entry}
 use Rattle.bc_medium.specs.KeyedDisk.{Sectors}
 use Rattle.bc_medium.specs.Entries.{caller_of}
-use Rattle.bc_medium.specs.Growth.{Grows}
 use Rattle.bc_medium.specs.Laws.{KnownStays}
-use Rattle.bc_profile.specs.declared.event.Event.{Event}
 use Rattle.bc_profile.specs.declared.noted.Noted.{Noted}
-use Rattle.bc_profile.specs.Story.{author_of, events_of}
+use Rattle.bc_profile.specs.Story.{author_of}
 use Rattle.bc_profile.specs.Laws.{ProgrammingsStay, LaterHoldsNameLater, HoldsBehindEvictions}
 use Rattle.bc_script.specs.declared.op.Op.{Op}
 use Rattle.bc_script.specs.declared.op.Op.TheVariants as ops
-use Rattle.bc_script.specs.Script.{Script, unit_count, unit_count_of_section}
+use Rattle.bc_script.specs.declared.limits.TheConstants.{MAX_PLUGGED}
+use Rattle.bc_script.specs.Script.{Script}
 use Rattle.bc_script.specs.Bios.{bio_of, refusal_of}
-use Rattle.bc_script.specs.Plan.{units_of}
+use Rattle.bc_script.specs.Windows as turns
 use Rattle.bc_report.specs.declared.answer.Answer.{Answer}
 use Rattle.bc_report.specs.declared.answer.Answer.TheVariants as report_answers
 use Rattle.bc_report.specs.Evictions.{Eviction, eviction_in, evictions_in, IsEvictionAnswer}
-use Rattle.bc_report.specs.Programmings.{passes}
 use Rattle.bc_report.specs.Report.{IsAnswer}
-use Rattle.bc_compose.specs.SectionDone.{own_events, Bounds, IsReply, SectionDone}
-use Rattle.bc_compose.specs.Ordered.{Pairs, Notes, GoesInline, IsTakenOut}
+use Rattle.bc_compose.specs.SectionDone.{IsReply}
 use Rattle.bc_compose.specs.Acted.{is_act, Acted}
-use Rattle.bc_run.specs.Sections.{DeviceData, GoOnBy, units_in}
-use Rattle.bc_run.specs.Reached.{numbered, IsAcceptedBio, MayBePlugged, eviction_by, eviction_of, evictions_before, Submitted, Settled, Evicted, HasReset, SeesMore, Reached, CarriesSection}
+use Rattle.bc_run.specs.Sections.{DeviceData, GoOnBy, cost, cost_in, cost_of_section}
+use Rattle.bc_run.specs.Uses.{bios_of}
+use Rattle.bc_run.specs.Reached.{numbered, IsAcceptedBio, MayBePlugged, eviction_by, eviction_of, evictions_before, Submitted, Settled, Evicted, HasReset, SeesMore, Reached, CarriesSection, WindowEnds, HoldsNone, steps_from}
 use Rattle.bc_run.proofs.Lists.{In, all_at, all_from_in, all_append, in_append_left, in_append_right, is_in, in_is, not_in_is, enumerate_push}
 use Rattle.bc_run.proofs.Growing.{begins_itself, goes_none, goes_append}
 use Rattle.bc_run.proofs.Carrying.{reply_more, count_take}
 use Rattle.bc_run.proofs.Ordering.{pairs_append}
+use Rattle.bc_run.proofs.Left.{used_none, used_more, used_window, used_turn, used_all, left, left_held, left_before, next_evict, next_reset}
+use Rattle.bc_run.proofs.Using.{units_of_evict, units_of_reset}
 use Rattle.bc_run.proofs.Acting.{acted_window, acted_evict, acted_reset, acted_none, acted_later, acted_done}
 
 -- ---- lists
@@ -52,7 +52,7 @@ in_or_not o (x ∷ xs) =
     (λ (ne : x ≢ o). ⊎_elim (λ (h : In o xs). inl (inr h)) (λ (n : In o xs → ⊥). inr (λ h. ⊎_elim ne n h)) (in_or_not o xs))
     (cases_eq x o)
 
-enumerated_at : {X : Type 0} (first : ℕ) (xs : List X) (y : ℕ × X) → In y (enumerate_from first xs) → (i : ℕ) × (first + i ≡ y.0) × (slice_get xs i ≡ Some y.1)
+pub enumerated_at : {X : Type 0} (first : ℕ) (xs : List X) (y : ℕ × X) → In y (enumerate_from first xs) → (i : ℕ) × (first + i ≡ y.0) × (slice_get xs i ≡ Some y.1)
 enumerated_at first [] y h = absurd h
 enumerated_at first (x ∷ xs) y h =
     ⊎_elim
@@ -190,7 +190,7 @@ module _ (known_stays : KnownStays) (stays : ProgrammingsStay) (later_holds : La
         (reply_more known_stays script shards base thread d.seen d'.seen fronts (o, s.operation) s.answer (reply_from d (o, s.operation) s.answer same s.replied));
   }
 
-  pub reached_none : (answers : List (Option Answer)) → ((d : ℕ) → own author_of thread (list_at start.noted d) ≡ []) → length answers ≡ length section → Reached start start section 0 [] answers
+  pub reached_none : (answers : List (Option Answer)) → ((d : ℕ) → own author_of thread (list_at start.noted d) ≡ []) → length answers ≡ length section → Reached start start section 0 false [] answers
   reached_none answers none long = record {
     acts = [];
     next = 0;
@@ -205,20 +205,26 @@ module _ (known_stays : KnownStays) (stays : ProgrammingsStay) (later_holds : La
     complete = refl;
     eviction_answers = tt;
     long = long;
+    used = λ _. used_none start section;
     settled = λ o lt. absurd (omega arith);
   }
 
-  module _ (now : DeviceData) (op : ℕ) (pending : List ℕ) (answers : List (Option Answer)) (r : Reached start now section op pending answers) where
-    abbrev plugged : ℕ → Type 0
-    plugged o = (r.next ≤ o) × (o < op) × MayBePlugged script section o
+  module _ (now : DeviceData) (op : ℕ) (plugged : Bool) (pending : List ℕ) (answers : List (Option Answer)) (r : Reached start now section op plugged pending answers) where
+    abbrev is_pending : ℕ → Type 0
+    is_pending o = (r.next ≤ o) × (o < op) × MayBePlugged script section o
 
     held_more : AllByRecursion (λ o. (r.next ≤ o) × (o < op + 1) × MayBePlugged script section o) pending
     held_more = all_from_in (λ o. (r.next ≤ o) × (o < op + 1) × MayBePlugged script section o) pending
-        (λ o h. let p = all_at plugged pending o r.held_back h in let lt = p.1 in (p.0, omega arith, p.2))
+        (λ o h. let p = all_at is_pending pending o r.held_back h in let lt = p.1 in (p.0, omega arith, p.2))
 
-    -- an accepted bio is held back
-    pub reached_pend : (operation : Op) → slice_get section op ≡ Some operation → is_act script (op, operation) ≡ true → IsAcceptedBio script operation → Reached start now section (op + 1) (pending ++ op ∷ []) answers
-    reached_pend operation is act bio =
+    pub held_are : AllByRecursion (MayBePlugged script section) pending
+    held_are = all_from_in (MayBePlugged script section) pending (λ o h. (all_at is_pending pending o r.held_back h).2)
+
+    -- an accepted bio is held back, where there is room
+    pub reached_pend : (operation : Op) (extent : Extent) → slice_get section op ≡ Some operation → is_act script (op, operation) ≡ true → IsAcceptedBio script operation
+        → bio_of operation ≡ Some extent → refusal_of script extent ≡ None → length pending < MAX_PLUGGED → HoldsNone plugged pending
+        → Reached start now section (op + 1) plugged (pending ++ op ∷ []) answers
+    reached_pend operation extent is act bio is_bio unrefused room empty =
         let more = one_more op operation is in
         let none = no_eviction thread answers op operation (λ key e. absurd (subst (IsAcceptedBio script) e bio)) in
         let same : evictions_at (op + 1) answers ≡ evictions_at op answers =
@@ -238,7 +244,7 @@ module _ (known_stays : KnownStays) (stays : ProgrammingsStay) (later_holds : La
               all_append (λ o. (r.next ≤ o) × (o < op + 1) × MayBePlugged script section o) pending (op ∷ []) held_more
               ((omega arith, omega arith, subst (λ (p : Option Op). IsSomeAnd p (IsAcceptedBio script)) (sym is) bio), tt);
           ascend = pairs_append (λ first second. first < second) pending (op ∷ []) r.ascend (tt, tt)
-              (λ x y a b. let lt = (all_at plugged pending x r.held_back a).1 in ⊎_elim (λ (e : op ≡ y). omega arith) (λ (no' : ⊥). absurd no') b);
+              (λ x y a b. let lt = (all_at is_pending pending x r.held_back a).1 in ⊎_elim (λ (e : op ≡ y). omega arith) (λ (no' : ⊥). absurd no') b);
           complete =
               ap (λ l. r.acts ++ l) (numbered_push section pending op operation is) ∙ sym (append_assoc r.acts (numbered section pending) ((op, operation) ∷ []))
               ∙ ap (λ l. l ++ (op, operation) ∷ []) r.complete
@@ -247,6 +253,8 @@ module _ (known_stays : KnownStays) (stays : ProgrammingsStay) (later_holds : La
               ∙ sym (ap (filter (is_act script)) more);
           eviction_answers = subst (AllByRecursion (λ (e : Eviction). IsEvictionAnswer script e.key e.answer)) (sym same) r.eviction_answers;
           long = r.long;
+          used = λ al. used_more start section now op r.next plugged pending r.made (r.used al) (op + 1) plugged (pending ++ op ∷ [])
+              (left_held start section op operation is extent is_bio unrefused plugged pending held_are room empty (numbered_push section pending op operation is));
           settled = λ o lt. ⊎_elim
               (λ (below : o < op). ⊎_elim (λ (h : is_held o pending). inl (in_is o (pending ++ op ∷ []) (in_append_left pending (op ∷ []) o (is_in o pending h)))) (λ (s : Settled now section answers o). inr s) (r.settled o below))
               (λ (ge : op ≤ o). inl (in_is o (pending ++ op ∷ []) (in_append_right pending (op ∷ []) o (inl (omega arith)))))
@@ -254,30 +262,33 @@ module _ (known_stays : KnownStays) (stays : ProgrammingsStay) (later_holds : La
         }
 
     -- what is held back is submitted
-    pub reached_flush : (new : DeviceData) (answers' : List (Option Answer)) → Submitted now new (numbered section pending)
+    pub reached_flush : (new : DeviceData) (answers' : List (Option Answer))
+        → WindowEnds script thread plugged (bios_of (numbered section pending)) (steps_from script section op)
+        → Submitted now new (numbered section pending)
         → length answers' ≡ length answers
         → AllByRecursion (Settled new section answers') pending
         → ((o : ℕ) → list_any (λ held. held == o) pending ≡ false → slice_get answers' o ≡ slice_get answers o)
-        → Reached start new section op [] answers'
-    reached_flush new answers' submitted long' told others =
+        → Reached start new section op plugged [] answers'
+    reached_flush new answers' ends submitted long' told others =
         let s = subst (λ (d : DeviceData). Submitted d new (numbered section pending)) r.same submitted in
         let same = keeps_evictions op answers answers'
         (λ o key lt is. others o (not_in_is o pending
-        (λ h. let p = all_at plugged pending o r.held_back h in absurd (subst (λ (q : Option Op). IsSomeAnd q (IsAcceptedBio script)) is p.2)))) in
+        (λ h. let p = all_at is_pending pending o r.held_back h in absurd (subst (λ (q : Option Op). IsSomeAnd q (IsAcceptedBio script)) is p.2)))) in
         let mine = s.spare in
         let before = r.spare in
+        let numbers = numbered_all section (λ o. (r.next ≤ o) × (o < op)) pending (all_from_in (λ o. (r.next ≤ o) × (o < op)) pending
+        (λ o h. let p = all_at is_pending pending o r.held_back h in (p.0, p.1))) in
         record {
           acts = r.acts ++ numbered section pending;
           next = op;
           made = r.made ++ s.made;
           same = s.same;
-          spare = omega (arith, sum_by-append (λ (x : ℕ × Op). unit_count x.1) r.acts (numbered section pending));
+          spare = omega (arith, sum_by-append (λ (x : ℕ × Op). cost x.1) r.acts (numbered section pending));
           alone = λ al. goes_append shards thread opening now.seen new.seen r.made s.made (r.alone al) (s.alone al);
           acted =
               subst (now_acted (r.acts ++ numbered section pending) op new.seen new.noted (r.made ++ s.made)) (sym same)
               (acted_window stays later_holds behind_evictions script shards base thread opening r.acts (numbered section pending) r.next op now.seen new.seen now.noted new.noted r.made s.made (evictions_at op answers) s.events r.next_below
-              (numbered_all section (λ o. (r.next ≤ o) × (o < op)) pending (all_from_in (λ o. (r.next ≤ o) × (o < op)) pending
-              (λ o h. let p = all_at plugged pending o r.held_back h in (p.0, p.1))))
+              numbers
               s.grows s.attempts s.ways s.notes s.bounds s.held r.acted);
           next_below = omega arith;
           held_back = tt;
@@ -285,6 +296,7 @@ module _ (known_stays : KnownStays) (stays : ProgrammingsStay) (later_holds : La
           complete = append-nil (r.acts ++ numbered section pending) ∙ r.complete;
           eviction_answers = subst (AllByRecursion (λ (e : Eviction). IsEvictionAnswer script e.key e.answer)) (sym same) r.eviction_answers;
           long = long' ∙ r.long;
+          used = λ al. used_window start section now op r.next plugged pending r.made (r.used al) new s.made r.next_below ends numbers s.attempts (s.uses al);
           settled = λ o lt. inr (⊎_elim
               (λ (h : In o pending). all_at (Settled new section answers') pending o told h)
               (λ (n : In o pending → ⊥). ⊎_elim (λ (h : is_held o pending). absurd (n (is_in o pending h)))
@@ -292,26 +304,23 @@ module _ (known_stays : KnownStays) (stays : ProgrammingsStay) (later_holds : La
               (in_or_not o pending));
         }
 
-    acts_fit : (n : ℕ) (xs : List Op) → units_in (filter (is_act script) (enumerate_from n xs)) ≤ unit_count_of_section xs
+    acts_fit : (n : ℕ) (xs : List Op) → cost_in (filter (is_act script) (enumerate_from n xs)) ≤ cost_of_section xs
     acts_fit n [] = omega arith
     acts_fit n (x ∷ xs) =
         let rest = acts_fit (n + 1) xs in
-        let sum = sum_by-cons unit_count x xs in
-        (elim (is_act script (n, x)) as (λ (b : Bool). units_in (cond b ((n, x) ∷ filter (is_act script) (enumerate_from (n + 1) xs)) (filter (is_act script) (enumerate_from (n + 1) xs))) ≤ unit_count_of_section (x ∷ xs)) [
-          | true ↦ omega (arith, sum_by-cons (λ (y : ℕ × Op). unit_count y.1) (n, x) (filter (is_act script) (enumerate_from (n + 1) xs)))
+        let sum = sum_by-cons cost x xs in
+        (elim (is_act script (n, x)) as (λ (b : Bool). cost_in (cond b ((n, x) ∷ filter (is_act script) (enumerate_from (n + 1) xs)) (filter (is_act script) (enumerate_from (n + 1) xs))) ≤ cost_of_section (x ∷ xs)) [
+          | true ↦ omega (arith, sum_by-cons (λ (y : ℕ × Op). cost y.1) (n, x) (filter (is_act script) (enumerate_from (n + 1) xs)))
           | false ↦ omega arith
         ])
 
     -- the units of what is held back fit
-    pub spare_held : unit_count_of_section section ≤ start.spare → units_in (numbered section pending) ≤ now.spare
+    pub spare_held : cost_of_section section ≤ start.spare → cost_in (numbered section pending) ≤ now.spare
     spare_held all =
         let before = r.spare in
         let most = acts_fit 0 (take op section) in
         let few = count_take section op in
-        omega (arith, sym (sum_by-append (λ (x : ℕ × Op). unit_count x.1) r.acts (numbered section pending)), ap units_in r.complete)
-
-    pub held_are : AllByRecursion (MayBePlugged script section) pending
-    held_are = all_from_in (MayBePlugged script section) pending (λ o h. (all_at plugged pending o r.held_back h).2)
+        omega (arith, sym (sum_by-append (λ (x : ℕ × Op). cost x.1) r.acts (numbered section pending)), ap cost_in r.complete)
 
     -- one answer more
     settled_set : (operation : Op) (answer : Answer) (new : DeviceData) (answers0 : List (Option Answer)) → SeesMore start new → slice_get section op ≡ Some operation → op < length answers → ((shard : ℕ) → StartsWith (list_at new.seen shard) (list_at now.seen shard))
@@ -331,10 +340,11 @@ module _ (known_stays : KnownStays) (stays : ProgrammingsStay) (later_holds : La
     keeps_set answer = keeps_evictions op answers (slice_set answers op (Some answer)) (λ o key lt is. get_set_other answers op o (Some answer) (λ e. omega arith))
 
     -- an operation that isn't acted on is answered by itself
-    pub reached_quiet : (operation : Op) (answer : Answer) → slice_get section op ≡ Some operation → op < length section
+    pub reached_quiet : (operation : Op) (answer : Answer) (plugged' : Bool) → slice_get section op ≡ Some operation → op < length section
         → is_act script (op, operation) ≡ false → IsReply script shards base thread now.seen (op, operation) answer → IsAnswer answer
-        → Reached start now section (op + 1) pending (slice_set answers op (Some answer))
-    reached_quiet operation answer is within act replied range =
+        → ((device : ℕ) → left start section device op plugged pending ≡ left start section device (op + 1) plugged' pending)
+        → Reached start now section (op + 1) plugged' pending (slice_set answers op (Some answer))
+    reached_quiet operation answer plugged' is within act replied range same_left =
         let more = one_more op operation is in
         let none = no_eviction thread (slice_set answers op (Some answer)) op operation (λ key e. true≢false (sym (ap (λ o. is_act script (op, o)) e) ∙ act)) in
         let same : evictions_at (op + 1) (slice_set answers op (Some answer)) ≡ evictions_at op answers =
@@ -359,6 +369,7 @@ module _ (known_stays : KnownStays) (stays : ProgrammingsStay) (later_holds : La
               ∙ sym (ap (filter (is_act script)) more);
           eviction_answers = subst (AllByRecursion (λ (e : Eviction). IsEvictionAnswer script e.key e.answer)) (sym same) r.eviction_answers;
           long = length_set answers op (Some answer) ∙ r.long;
+          used = λ al. used_more start section now op r.next plugged pending r.made (r.used al) (op + 1) plugged' pending same_left;
           settled = settled_set operation answer now answers r.same is (omega (arith, r.long)) (λ s. begins_itself (list_at now.seen s)) replied range;
         }
 
@@ -373,12 +384,23 @@ module _ (known_stays : KnownStays) (stays : ProgrammingsStay) (later_holds : La
       ∙ sym (filter-append (is_act script) (enumerate_from 0 (take op section)) ((op, operation) ∷ []))
       ∙ sym (ap (filter (is_act script)) (one_more op operation is))
 
-  units_same : (acts : List (ℕ × Op)) (x : ℕ × Op) → units_in acts ≤ units_in (acts ++ x ∷ [])
-  units_same acts x = omega (arith, sum_by-append (λ (y : ℕ × Op). unit_count y.1) acts (x ∷ []))
+  cost_more : (acts : List (ℕ × Op)) (x : ℕ × Op) → cost_in (acts ++ x ∷ []) ≡ cost_in acts + cost x.1
+  cost_more acts x = let one = sum_by-cons (λ (y : ℕ × Op). cost y.1) x [] in omega (arith, one, sum_by-append (λ (y : ℕ × Op). cost y.1) acts (x ∷ []))
 
-  module _ (now new : DeviceData) (op : ℕ) (answers : List (Option Answer)) (r : Reached start now section op [] answers) where
+  module _ (now : DeviceData) (op : ℕ) (plugged : Bool) (answers : List (Option Answer)) (r : Reached start now section op plugged [] answers) where
+    -- an eviction and a reset fit
+    pub spare_act : (operation : Op) → slice_get section op ≡ Some operation → is_act script (op, operation) ≡ true → cost_of_section section ≤ start.spare → cost operation ≤ now.spare
+    spare_act operation is act all =
+        let before = r.spare in
+        let most = acts_fit now op plugged [] answers r 0 (take (op + 1) section) in
+        let few = count_take section (op + 1) in
+        let one = cost_more r.acts (op, operation) in
+        let are = ap cost_in (sym (append-nil (r.acts ++ (op, operation) ∷ [])) ∙ acts_more op operation r.acts is act r.complete) in
+        omega (arith, before, most, few, one, are)
+
+  module _ (now new : DeviceData) (op : ℕ) (plugged : Bool) (answers : List (Option Answer)) (r : Reached start now section op plugged [] answers) where
     pub reached_evict : (key : KeyNo) (answer : Answer) → slice_get section op ≡ Some (ops.Evict key) → op < length section → IsAnswer answer → Evicted now new op key answer
-        → Reached start new section (op + 1) [] (slice_set answers op (Some answer))
+        → Reached start new section (op + 1) plugged [] (slice_set answers op (Some answer))
     reached_evict key answer is within range evicted =
         let s = subst (λ (d : DeviceData). Evicted d new op key answer) r.same evicted in
         let v : Eviction = record { thread = thread; op = op; key = key.0; answer = answer } in
@@ -387,10 +409,10 @@ module _ (known_stays : KnownStays) (stays : ProgrammingsStay) (later_holds : La
         ap (filter_map (eviction_of thread (slice_set answers op (Some answer)))) (one_more op (ops.Evict key) is)
         ∙ filter_map-append (eviction_of thread (slice_set answers op (Some answer))) (enumerate_from 0 (take op section)) ((op, ops.Evict key) ∷ [])
         ∙ ap (λ (o : Option (Option Answer)). evictions_at op (slice_set answers op (Some answer)) ++ cons_option (eviction_by thread op key.0 o) []) (get_set_same answers op (Some answer) here)
-        ∙ ap (λ l. l ++ v ∷ []) (keeps_set now op [] answers r answer) in
+        ∙ ap (λ l. l ++ v ∷ []) (keeps_set now op plugged [] answers r answer) in
         let mine = s.spare in
         let before = r.spare in
-        let more = units_same r.acts (op, ops.Evict key) in
+        let more = cost_more r.acts (op, ops.Evict key) in
         record {
           acts = r.acts ++ (op, ops.Evict key) ∷ [];
           next = op + 1;
@@ -409,21 +431,25 @@ module _ (known_stays : KnownStays) (stays : ProgrammingsStay) (later_holds : La
           eviction_answers = subst (AllByRecursion (λ (e : Eviction). IsEvictionAnswer script e.key e.answer)) (sym same)
               (all_append (λ (e : Eviction). IsEvictionAnswer script e.key e.answer) (evictions_at op answers) (v ∷ []) r.eviction_answers (s.valid, tt));
           long = length_set answers op (Some answer) ∙ r.long;
-          settled = settled_set now op [] answers r (ops.Evict key) answer new answers s.same is here s.grows.fronts tt range;
+          used = λ al. used_turn start section now new op r.next plugged r.made (turns.Evict key) (let le = r.next_below in omega arith)
+              (λ device. units_of_evict script device thread (λ name. name.op < op + 1) key)
+              (λ device. left_before start section op (ops.Evict key) is (turns.Evicts key) device plugged [] refl ∙ next_evict script thread device plugged key (steps_from script section (op + 1)))
+              (s.uses al) (r.used al);
+          settled = settled_set now op plugged [] answers r (ops.Evict key) answer new answers s.same is here s.grows.fronts tt range;
         }
 
     pub reached_reset : (device : ℕ) → slice_get section op ≡ Some (ops.Reset device) → op < length section → HasReset now new op device
-        → Reached start new section (op + 1) [] (slice_set answers op (Some report_answers.Reset))
+        → Reached start new section (op + 1) plugged [] (slice_set answers op (Some report_answers.Reset))
     reached_reset device is within was_reset =
         let s = subst (λ (d : DeviceData). HasReset d new op device) r.same was_reset in
         let here : op < length answers = omega (arith, r.long) in
         let same : evictions_at (op + 1) (slice_set answers op (Some report_answers.Reset)) ≡ evictions_at op answers =
         ap (filter_map (eviction_of thread (slice_set answers op (Some report_answers.Reset)))) (one_more op (ops.Reset device) is)
         ∙ filter_map-append (eviction_of thread (slice_set answers op (Some report_answers.Reset))) (enumerate_from 0 (take op section)) ((op, ops.Reset device) ∷ [])
-        ∙ append-nil (evictions_at op (slice_set answers op (Some report_answers.Reset))) ∙ keeps_set now op [] answers r report_answers.Reset in
+        ∙ append-nil (evictions_at op (slice_set answers op (Some report_answers.Reset))) ∙ keeps_set now op plugged [] answers r report_answers.Reset in
         let mine = s.spare in
         let before = r.spare in
-        let more = units_same r.acts (op, ops.Reset device) in
+        let more = cost_more r.acts (op, ops.Reset device) in
         record {
           acts = r.acts ++ (op, ops.Reset device) ∷ [];
           next = op + 1;
@@ -441,7 +467,11 @@ module _ (known_stays : KnownStays) (stays : ProgrammingsStay) (later_holds : La
           complete = acts_more op (ops.Reset device) r.acts is refl r.complete;
           eviction_answers = subst (AllByRecursion (λ (e : Eviction). IsEvictionAnswer script e.key e.answer)) (sym same) r.eviction_answers;
           long = length_set answers op (Some report_answers.Reset) ∙ r.long;
-          settled = settled_set now op [] answers r (ops.Reset device) report_answers.Reset new answers s.same is here s.grows.fronts refl tt;
+          used = λ al. used_turn start section now new op r.next plugged r.made (turns.Reset device) (let le = r.next_below in omega arith)
+              (λ at. units_of_reset script at thread (λ name. name.op < op + 1) device)
+              (λ at. left_before start section op (ops.Reset device) is (turns.Resets device) at plugged [] refl ∙ next_reset script thread at plugged device (steps_from script section (op + 1)))
+              (s.uses al) (r.used al);
+          settled = settled_set now op plugged [] answers r (ops.Reset device) report_answers.Reset new answers s.same is here s.grows.fronts refl tt;
         }
 
   -- ---- the end
@@ -486,10 +516,10 @@ module _ (known_stays : KnownStays) (stays : ProgrammingsStay) (later_holds : La
       one ops.Plug h = refl
       one ops.Unplug h = refl
 
-  pub reached_all : (now : DeviceData) (answers : List (Option Answer)) → ((shard : ℕ) → own caller_of thread (list_at opening shard) ≡ [])
-      → Reached start now section (length section) [] answers
+  pub reached_all : (now : DeviceData) (plugged : Bool) (answers : List (Option Answer)) → ((shard : ℕ) → own caller_of thread (list_at opening shard) ≡ [])
+      → Reached start now section (length section) plugged [] answers
       → (replies : List Answer) × (answers ≡ map (λ a. Some a) replies) × CarriesSection start now section replies
-  reached_all now answers empty r =
+  reached_all now plugged answers empty r =
       let told = replies_of section answers now.seen 0 r.long
       (λ i lt. ⊎_elim (λ (h : is_held i []). absurd (true≢false (sym h)))
       (λ (s : Settled now section answers i).
@@ -509,16 +539,17 @@ module _ (known_stays : KnownStays) (stays : ProgrammingsStay) (later_holds : La
       told.2
       (subst (AllByRecursion (λ (e : Eviction). IsEvictionAnswer script e.key e.answer)) evictions r.eviction_answers) in
       let before = r.spare in
-      let most = acts_fit now (length section) [] answers r 0 section in (
+      let most = acts_fit now (length section) plugged [] answers r 0 section in (
         replies,
         told.1,
         record {
           made = r.made;
           same = r.same;
-          spare = omega (arith, ap units_in acts);
+          spare = omega (arith, ap cost_in acts);
           alone = r.alone;
           fronts = r.acted.grows.fronts;
           done = done;
+          uses = λ al. used_all start section now (length section) r.next plugged [] r.made (r.used al) refl refl;
           ranges = told.3;
         },
       )

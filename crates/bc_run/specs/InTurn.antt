@@ -1,6 +1,6 @@
 -- Inside a window: the bios of it that were begun, what was attempted of them, and the hold that is open. A bio of which only
 -- the first n data units were gone over counts as a bio of n units.
-use Rattle.std.specs.Prelude.{◌≡◌, ◌==◌, ℕ, ◌+◌, ◌<◌, ◌≤◌, true, false, List, [], ◌∷◌, ◌++◌, length, take, filter_map, slice_get, Option, Some, None, IfSome, option_map, option_and_then, if◌then◌else◌, ⊤}
+use Rattle.std.specs.Prelude.{◌≡◌, ◌==◌, Bool, ℕ, ◌+◌, ◌<◌, ◌≤◌, true, false, List, [], ◌∷◌, ◌++◌, length, take, filter_map, slice_get, Option, Some, None, IfSome, IsSomeAnd, option_map, option_and_then, if◌then◌else◌, ⊤}
 use Rattle.std.specs.List.{list_any, last_or}
 use Rattle.std.specs.Option.{option_map_or, unwrap_or}
 use Rattle.bc_base.specs.Lists.{Each, list_at}
@@ -9,6 +9,7 @@ use Rattle.bc_bio.specs.declared.extent.Extent.{Extent}
 use Rattle.bc_bio.specs.Extent.{sector_at}
 use Rattle.bc_bio.specs.BackRuns.{back_runs_on}
 use Rattle.bc_bio.specs.Chunks.{joins_last}
+use Rattle.bc_bio.specs.Conditions.{IsPlaced}
 use Rattle.bc_bio.specs.PlannedUnit.{PlannedUnit}
 use Rattle.bc_bio.specs.Windows.{TaggedBio, NamedUnit, joins, requests_of, units_of_request}
 use Rattle.bc_key.specs.declared.keys.KeyNo.{KeyNo}
@@ -22,7 +23,7 @@ use Rattle.bc_profile.specs.declared.uses.Use.TheVariants as uses
 use Rattle.bc_stack.specs.Devices.{device_at}
 use Rattle.bc_stack.specs.Pieces.{device_of}
 use Rattle.bc_script.specs.declared.op.Op.{Op}
-use Rattle.bc_script.specs.Script.{Script, keys_of}
+use Rattle.bc_script.specs.Script.{Script, IsScript, keys_of}
 use Rattle.bc_script.specs.Bios.{bio_of, is_inline}
 use Rattle.bc_script.specs.Windows as turns
 use Rattle.bc_report.specs.declared.answer.Answer.{Answer}
@@ -137,6 +138,14 @@ abbrev pub HasOpen : CourseData → Option Context → Type 0
 HasOpen course None = ⊤
 HasOpen course (Some under) = is_inline course.script under.key ≡ true → IsOpenFor course.opened under.key.0
 
+-- where a unit under this context goes inline, the hold that is open is of its key on the device of its sector
+abbrev pub HasOpenAt : CourseData → Option Context → ℕ → Type 0
+HasOpenAt course None sector = ⊤
+HasOpenAt course (Some under) sector =
+    is_inline course.script under.key ≡ true
+    → IsSomeAnd course.opened (λ hold.
+    (hold.key ≡ under.key.0) × (device_at course.script.targets sector ≡ Some hold.device))
+
 -- how a unit under this context goes
 abbrev pub via_in : CourseData → Option Context → Via
 via_in course None = vias.Plain
@@ -148,20 +157,33 @@ pub record AttemptsOn (old new : CourseData) (u : PlannedUnit) (answer : UnitAns
   pub same : new ≡ record old { shards = new.shards }
   pub via : unit.entry.via ≡ via_in old u.context
 
+-- Unit number n of a bio was gone over: it was reached, and then attempted where no unit before it met a fault. The number of
+-- the unit that met one, if one did, was `before` and is `after`.
+pub record GoesOver (old new : CourseData) (bio : Extent) (n : ℕ) (u : PlannedUnit) (answer : Bool → UnitAnswer)
+    (before after : Option ℕ) : Type 0 where
+  pub mid : CourseData
+  pub rules : IsScript old.script
+  pub reaches : Reaches old mid bio n
+  pub passes : (k : ℕ) → before ≡ Some k → (after ≡ Some k) × (new ≡ mid)
+  pub attempts : before ≡ None
+      → (went : Bool) × AttemptsOn mid new u (answer went) × (after ≡ (if went then None else Some n))
+
 -- ---- bios
 
--- a bio may follow these in a window: where it doesn't run on from the last one, no hold is open
-abbrev pub MayFollow : Script → List TaggedBio → TaggedBio → Option OpenHold → Type 0
-MayFollow script done next opened =
-    joins_last (joins (keys_of script)) (last_request script done) next ≡ false → opened ≡ None
+-- A bio may follow these in a window, behind which a hold was open or none was: where it runs on from the last one, that hold is
+-- open still, and else none is.
+pub record MayFollow (script : Script) (done : List TaggedBio) (next : TaggedBio) (was opened : Option OpenHold) : Type 0 where
+  pub goes_on : joins_last (joins (keys_of script)) (last_request script done) next ≡ true → opened ≡ was
+  pub starts : joins_last (joins (keys_of script)) (last_request script done) next ≡ false → opened ≡ None
 
 -- a bio was performed, and in a window its entries and holds come after those of the bios before it
 pub record PerformsBio (old new : CourseData) (op : ℕ) (operation : Op) (bio : Extent) (answer : Answer) : Type 0 where
   pub carries : CarriesOne (standing.device_of old) (standing.device_of new) (op, operation) answer
   pub same : new ≡ record old { shards = new.shards; left = new.left; journals = new.journals; opened = new.opened }
-  pub turn : (start : CourseData) (done : List TaggedBio) (made : List Entry)
-      → Each (λ tagged. tagged.tag < op) done → MayFollow start.script done (part_of op bio bio.units) old.opened
-      → InTurn start old done made
+  pub turn : (start : CourseData) (done : List TaggedBio) (was : Option OpenHold) (made : List Entry)
+      → Each (λ tagged. tagged.tag < op) done
+      → MayFollow start.script done (part_of op bio bio.units) was old.opened
+      → InTurn start (record old { opened = was }) done made
       → InTurn start new (done ++ part_of op bio bio.units ∷ []) (made ++ carries.made)
 
 -- an operation's bio was submitted in a window, where `last` is the bio before it
@@ -169,6 +191,7 @@ pub record Submits (old new : CourseData) (op : ℕ) (operation : Op) (last : Op
   pub mid : CourseData
   pub bio : Extent
   pub is_bio : bio_of operation ≡ Some bio
+  pub placed : IsPlaced (keys_of old.script) bio
   pub goes_on : option_map_or (λ first. back_runs_on (keys_of old.script) first bio) last false ≡ true → mid ≡ old
   pub starts : option_map_or (λ first. back_runs_on (keys_of old.script) first bio) last false ≡ false
       → mid ≡ record old { opened = None }

@@ -1,6 +1,6 @@
 -- What contracts see of the keyslots of a script's devices, for one caller. A hold may be open: it was taken, and is given
 -- back by the next call that takes one. The journals are seen as they stand when the open hold is given back.
-use Rattle.std.specs.Prelude.{◌≡◌, ℕ, ◌+◌, ◌*◌, ◌≤◌, ◌==◌, ◌&&◌, Bool, false, List, [], ◌∷◌, ◌++◌, length, drop, map, zip, slice_get, slice_set, Option, Some, None, IfSome, IsSomeAnd, Ok, option_and_then, if◌then◌else◌}
+use Rattle.std.specs.Prelude.{◌≡◌, ℕ, ◌+◌, ◌*◌, ◌<◌, ◌≤◌, ◌==◌, ◌&&◌, Bool, false, List, [], ◌∷◌, ◌++◌, length, drop, map, zip, slice_get, slice_set, Option, Some, None, IfSome, IsSomeAnd, Ok, option_and_then, if◌then◌else◌}
 use Rattle.std.specs.List.{enumerate_from}
 use Rattle.std.specs.Option.{unwrap_or, option_map_or}
 use Rattle.bc_base.specs.Lists.{Each, At, AllAt, list_at}
@@ -21,8 +21,12 @@ use Rattle.bc_profile.specs.declared.uses.Use.{Use}
 use Rattle.bc_profile.specs.declared.uses.Use.TheVariants as uses
 use Rattle.bc_profile.specs.Programmings.{Holds}
 use Rattle.bc_profile.specs.Rows.{cleared}
-use Rattle.bc_profile.specs.Solo.{SoloData}
-use Rattle.bc_script.specs.Script.{Script, keys_of, max_ops, max_units}
+use Rattle.bc_profile.specs.SlotJournal.{IsLawful}
+use Rattle.bc_profile.specs.OneCaller.{events_of_eviction}
+use Rattle.bc_profile.specs.SlotJournal.{InNoSlot, slots_after}
+use Rattle.bc_profile.specs.Solo.{SoloData, HasSpare, recorded, slots_of as slots_in}
+use Rattle.bc_script.specs.Script.{Script, IsScript, keys_of, max_ops, max_units}
+use Rattle.bc_report.specs.Report.{IsEvent}
 use Rattle.bc_compose.specs.Ordered.{slots_of}
 use Rattle.bc_run.specs.declared.open_hold.OpenHold.{OpenHold}
 use Rattle.bc_run.specs.Uses.{after_uses}
@@ -76,6 +80,11 @@ abbrev pub used_each : Script → Use → List (List Event) → List (List Event
 used_each script use' journals =
     map (λ at. after_uses script at.0 at.1 (record { use' = use'; units = [] } ∷ [])) (enumerate_from 0 journals)
 
+-- no slot of a device has the key
+abbrev pub HaveNotKey : Script → List (List Event) → ℕ → Type 0
+HaveNotKey script journals key = (device : ℕ) → device < length script.targets
+    → InNoSlot (slots_after (slots_of script device) (list_at journals device)) key
+
 -- a hold of the key was taken on the device: the open one is that hold
 pub record Takes (old new : KeyslotsData) (device key : ℕ) : Type 0 where
   pub slot : ℕ
@@ -105,14 +114,31 @@ HasRoom keyslots device events = length (list_at keyslots.journals device) + eve
 
 -- ---- Private: what stands behind it
 
--- a device with its keyslots: as many as the script says, with the rows of the script's keys, and one is held where a hold is
--- open on the device
+-- a device with its keyslots: as many as the script says, with the rows of the script's keys; one is held where a hold is open
+-- on the device; its journal is lawful, with no more events than may be recorded, and their numbers are in their ranges
 pub record IsKeyslotsOf (script : Script) (opened : Option OpenHold) (device : ℕ) (target : Target) (solo : SoloData)
     : Type 0 where
   pub count : solo.count ≡ target.slots
   pub rows : solo.rows ≡ rows_of script target
   pub quota : solo.quota ≡ max_events
   pub held : solo.held ≡ held_on opened device
+  pub within : length (journal_in solo) ≤ max_events
+  pub ranges : Each IsEvent (journal_in solo)
+  pub lawful : IsLawful solo.count (journal_in solo)
+
+-- a key can be taken out of a device: no slot is held, the key has a row, and an event more fits
+pub record MayEvict (key : ℕ) (solo : SoloData) : Type 0 where
+  pub free : solo.held ≡ None
+  pub row : key < length solo.rows
+  pub spare : HasSpare solo 1
+
+-- no slot of the device has the key
+abbrev pub IsRidOf : ℕ → SoloData → Type 0
+IsRidOf key solo = InNoSlot (slots_in solo) key
+
+-- the device after a key was taken out
+abbrev pub evicted : ℕ → SoloData → SoloData
+evicted key solo = recorded solo (events_of_eviction (slots_in solo) key) None
 
 -- words that stood in a slot's registers, and the parts of the cipher that they mean
 pub record SlotCipherData : Type 0 where
@@ -138,6 +164,7 @@ pub record IsOpenHold (script : Script) (devices : List SoloData) (ciphers : Lis
 -- what stands behind the keyslots of a script
 pub record IsKeyslots (script : Script) (stack : StackParts) (caps : List Capabilities) (devices : List SoloData)
     (ciphers : List (List (Option SlotCipherData))) (begun : List SoloData) (opened : Option OpenHold) : Type 0 where
+  pub rules : IsScript script
   pub stack_is : stack ≡ record { targets = script.targets; blocks = script.blocks }
   pub caps_are : caps ≡ map (λ target. capabilities_of target.caps) script.targets
   pub count : length devices ≡ length script.targets

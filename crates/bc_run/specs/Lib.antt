@@ -1,5 +1,4 @@
 pub mod Words
-pub mod Built
 pub mod Command
 pub mod Making
 pub mod Statuses

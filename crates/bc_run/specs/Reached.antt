@@ -147,6 +147,10 @@ WindowEnds script thread plugged bios steps =
     (device : ℕ) → uses_left script device thread plugged bios steps
     ≡ uses_of_turn script device thread (turns.Window bios) ++ uses_left script device thread plugged [] steps
 
+-- nothing is held back where no plug is open
+abbrev pub HoldsNone : Bool → List ℕ → Type 0
+HoldsNone plugged pending = plugged ≡ false → pending ≡ []
+
 -- the uses of a section so far, of operations below `next`, with which those that are left are all of them
 pub record HasUsed (start now : DeviceData) (section : List Op) (op next : ℕ) (plugged : Bool) (pending : List ℕ)
     (made : List Entry) : Type 0 where

@@ -38,7 +38,7 @@ use Rattle.bc_script.specs.Plan.{unit_at}
 use Rattle.bc_compose.specs.SectionDone.{SaysItsWay}
 use Rattle.bc_run.specs.Sections.{DeviceData, GoOnBy}
 use Rattle.bc_run.specs.declared.open_hold.OpenHold.{OpenHold}
-use Rattle.bc_run.specs.Keyslots.{KeyslotsData, max_events, stories_of, used_at, used_each}
+use Rattle.bc_run.specs.Keyslots.{KeyslotsData, HaveNotKey, max_events, stories_of, used_at, used_each}
 
 -- ---- stores
 
@@ -194,6 +194,7 @@ pub record EvictsKey (old new : CourseData) (key : KeyNo) : Type 0 where
   pub inline : is_inline old.script key ≡ true
       → new.journals ≡ used_each old.script (uses.Evict key) old.journals
   pub soft : is_inline old.script key ≡ false → new.journals ≡ old.journals
+  pub gone : is_inline old.script key ≡ true → HaveNotKey old.script new.journals key.0
 
 -- a device programmed its keyslots again
 pub record ResetsDevice (old new : CourseData) (device : ℕ) : Type 0 where

@@ -1,19 +1,19 @@
 //! A script that is being carried out: the shards of its disk, and the thread whose turn it is.
 
-ghost use Rattle.std.specs.Prelude.{◌≡◌, ◌*◌, ◌<◌, ◌≤◌, length, false, None, IfOk, IfSome, IsTrue, not};
+ghost use Rattle.std.specs.Prelude.{◌≡◌, ◌*◌, ◌<◌, ◌≤◌, length, false, Some, None, IfOk, IfSome, IsTrue, not};
 ghost use Rattle.std.specs.Option.{option_map_or};
 ghost use Rattle.bc_bio.specs.declared.access.Access.{Access};
 ghost use Rattle.bc_bio.specs.BackRuns.{back_runs_on};
-ghost use Rattle.bc_bio.specs.Extent.{unit_sectors, context_after};
+ghost use Rattle.bc_bio.specs.Extent.{unit_sectors, context_after, sector_at};
 ghost use Rattle.bc_bio.specs.Conditions.{HasKey, IsPlaced};
 ghost use Rattle.bc_bio.specs.BioUnits.{context_wrapped};
 ghost use Rattle.bc_medium.specs.KeyedDisk.{enciphered, deciphered};
 ghost use Rattle.bc_script.specs.declared.op.Op.{Op};
-ghost use Rattle.bc_script.specs.Script.{keys_of, IsText, max_bio_units, max_bio_sectors};
+ghost use Rattle.bc_script.specs.Script.{keys_of, IsScript, IsText, max_bio_units, max_bio_sectors};
 ghost use Rattle.bc_script.specs.Bios.{refusal_of, unsupported_of};
 ghost use Rattle.bc_script.specs.Plan.{unit_at};
 ghost use Rattle.bc_run.specs.Standing.{IsPerformable, HasEntries, HasBegun, EvictsKey, ResetsDevice, answer_of_write, answer_of_read, at_of};
-ghost use Rattle.bc_run.specs.InTurn.{AttemptsOn, HasOpen, PerformsBio, Reaches, via_in};
+ghost use Rattle.bc_run.specs.InTurn.{AttemptsOn, GoesOver, HasOpen, HasOpenAt, PerformsBio, Reaches, via_in};
 
 use crate::ciphers::Ciphers;
 use crate::keyslots::Keyslots;
@@ -105,6 +105,14 @@ impl Course<'_> {
         self.keyslots.has_begun();
     }
 
+    /// Does nothing, and states that the script keeps its rules, and that each device has a journal.
+    pub(crate) fn has_devices(&self)
+        ensures rules { IsScript self.now.script }
+        ensures devices { length self.now.journals ≡ length self.now.script.targets }
+    {
+        self.keyslots.has_devices();
+    }
+
     /// Why a bio is refused, if it is.
     pub(crate) fn refusal(&self, bio: &Extent) -> Option<Refusal>
         requires key { HasKey (keys_of self.now.script) bio.now.context }
@@ -162,8 +170,11 @@ impl Course<'_> {
         requires unit { unit < bio.now.units }
         requires spare { 1 ≤ self.old.left }
         ensures reaches { Reaches self.old self.new bio.now unit }
+        ensures rules { IsScript self.old.script }
         ensures entries { HasEntries self.new }
+        ensures opened { HasOpenAt self.new bio.now.context (sector_at (keys_of self.new.script) bio.now unit) }
     {
+        bio_laws();
         self.left -= 1;
         let Some(context) = bio.context else {
             return;
@@ -206,11 +217,22 @@ impl Course<'_> {
         ensures { text.new ≡ enciphered (keys_of self.now.script) context text.old }
     {
         if let Some(under) = context {
-            if self.keyslots.is_inline(under.key) {
-                return self.keyslots.encipher(under, text);
-            }
+            self.encipher_under(under, text);
         }
-        self.ciphers.encipher(context, text)
+    }
+
+    /// Enciphers a data unit in place under a context.
+    fn encipher_under(&self, under: Context, text: &mut [u8])
+        requires key { HasKey (keys_of self.now.script) (Some under) }
+        requires opened { HasOpen self.now (Some under) }
+        requires length { length text.old ≡ 512 * unit_sectors (keys_of self.now.script) (Some under) }
+        ensures { text.new ≡ enciphered (keys_of self.now.script) (Some under) text.old }
+    {
+        if self.keyslots.is_inline(under.key) {
+            self.keyslots.encipher(under, text);
+        } else {
+            self.ciphers.encipher(Some(under), text);
+        }
     }
 
     /// Deciphers a data unit in place, by the hold that is open or by software; without a context it stays as it is.
@@ -221,11 +243,22 @@ impl Course<'_> {
         ensures { text.new ≡ deciphered (keys_of self.now.script) context text.old }
     {
         if let Some(under) = context {
-            if self.keyslots.is_inline(under.key) {
-                return self.keyslots.decipher(under, text);
-            }
+            self.decipher_under(under, text);
         }
-        self.ciphers.decipher(context, text)
+    }
+
+    /// Deciphers a data unit in place under a context.
+    fn decipher_under(&self, under: Context, text: &mut [u8])
+        requires key { HasKey (keys_of self.now.script) (Some under) }
+        requires opened { HasOpen self.now (Some under) }
+        requires length { length text.old ≡ 512 * unit_sectors (keys_of self.now.script) (Some under) }
+        ensures { text.new ≡ deciphered (keys_of self.now.script) (Some under) text.old }
+    {
+        if self.keyslots.is_inline(under.key) {
+            self.keyslots.decipher(under, text);
+        } else {
+            self.ciphers.decipher(Some(under), text);
+        }
     }
 
     /// Writes the data units of a bio, one after the other, until one meets a fault.
@@ -249,15 +282,46 @@ impl Course<'_> {
         order_laws();
         let mut fault = None;
         for unit in 0..bio.units {
-            self.reach(bio, unit);
-            if fault.is_none() && !self.write_unit(alloc, op, bio, text, unit, room)? {
-                fault = Some(unit as u32);
-            }
+            fault = self.write_next(alloc, op, bio, text, unit, room, fault)?;
         }
         match fault {
             Some(unit) => Ok(Answer::Fault(unit)),
             None => Ok(Answer::Wrote),
         }
+    }
+
+    /// Goes over data unit number `unit` of a bio: reaches it, and writes it where none before it met a fault. Returns the number
+    /// of the one that met a fault, if one did.
+    fn write_next(
+        &mut self,
+        alloc: Global,
+        op: u32,
+        bio: &Extent,
+        text: &Text,
+        unit: u64,
+        room: &mut [u8],
+        fault: Option<u32>,
+    ) -> Result<Option<u32>, AllocError>
+        requires access { bio.now.access ≡ Access.Write }
+        requires performable { IsPerformable self.old.script bio.now }
+        requires text { IsText (keys_of self.old.script) bio.now.context bio.now.units text.now }
+        requires unit { unit < bio.now.units }
+        requires room { length room.old ≡ 131072 }
+        requires spare { 1 ≤ self.old.left }
+        ensures room { length room.new ≡ length room.old }
+        ensures goes_over { IfOk result (GoesOver self.old self.new bio.now unit
+            (unit_at (keys_of self.old.script) op
+            (Op.Write bio.now.context bio.now.sector bio.now.units text.now) bio.now unit)
+            answer_of_write fault) }
+    {
+        self.reach(bio, unit);
+        if fault.is_some() {
+            return Ok(fault);
+        }
+        if self.write_unit(alloc, op, bio, text, unit, room)? {
+            return Ok(None);
+        }
+        Ok(Some(unit as u32))
     }
 
     /// Writes data unit number `unit` of a bio. Tells whether it met no fault.
@@ -276,7 +340,7 @@ impl Course<'_> {
         requires unit { unit < bio.now.units }
         requires room { length room.old ≡ 131072 }
         requires spare { HasEntries self.old }
-        requires opened { HasOpen self.old bio.now.context }
+        requires opened { HasOpenAt self.old bio.now.context (sector_at (keys_of self.old.script) bio.now unit) }
         ensures room { length room.new ≡ length room.old }
         ensures attempts { IfOk result (λ went. AttemptsOn self.old self.new
             (unit_at (keys_of self.old.script) op
@@ -292,14 +356,7 @@ impl Course<'_> {
         place.copy_from_slice(&plain);
         self.encipher(at.context, place);
         let via = self.via(at.context);
-        Ok(write_unit(
-            &mut self.shards,
-            self.ciphers.keys(),
-            at,
-            via,
-            plain,
-            place,
-        ))
+        Ok(write_unit(&mut self.shards, self.ciphers.keys(), at, via, plain, place))
     }
 
     /// Reads the data units of a bio, one after the other, until one meets a fault.
@@ -316,16 +373,43 @@ impl Course<'_> {
         let size = bio.unit_bytes(self.ciphers.keys());
         let mut fault = None;
         for unit in 0..bio.units {
-            self.reach(bio, unit);
             let start = unit as usize * size;
-            if fault.is_none() && !self.read_unit(op, bio, unit, &mut room[start..start + size]) {
-                fault = Some(unit as u32);
-            }
+            fault = self.read_next(op, bio, unit, &mut room[start..start + size], fault);
         }
         match fault {
             Some(unit) => Answer::Fault(unit),
             None => answer_of(&room[..bio.units as usize * size]),
         }
+    }
+
+    /// Goes over data unit number `unit` of a bio: reaches it, and reads it into its place where none before it met a fault. Returns
+    /// the number of the one that met a fault, if one did.
+    fn read_next(
+        &mut self,
+        op: u32,
+        bio: &Extent,
+        unit: u64,
+        place: &mut [u8],
+        fault: Option<u32>,
+    ) -> Option<u32>
+        requires access { bio.now.access ≡ Access.Read }
+        requires performable { IsPerformable self.old.script bio.now }
+        requires unit { unit < bio.now.units }
+        requires length { length place.old ≡ 512 * unit_sectors (keys_of self.old.script) bio.now.context }
+        requires spare { 1 ≤ self.old.left }
+        ensures length { length place.new ≡ length place.old }
+        ensures goes_over { GoesOver self.old self.new bio.now unit
+            (unit_at (keys_of self.old.script) op (Op.Read bio.now.context bio.now.sector bio.now.units) bio.now unit)
+            (answer_of_read place.new) fault result }
+    {
+        self.reach(bio, unit);
+        if fault.is_some() {
+            return fault;
+        }
+        if self.read_unit(op, bio, unit, place) {
+            return None;
+        }
+        Some(unit as u32)
     }
 
     /// Reads data unit number `unit` of a bio into its place. Tells whether it met no fault.
@@ -335,7 +419,7 @@ impl Course<'_> {
         requires unit { unit < bio.now.units }
         requires length { length place.old ≡ 512 * unit_sectors (keys_of self.old.script) bio.now.context }
         requires spare { HasEntries self.old }
-        requires opened { HasOpen self.old bio.now.context }
+        requires opened { HasOpenAt self.old bio.now.context (sector_at (keys_of self.old.script) bio.now unit) }
         ensures length { length place.new ≡ length place.old }
         ensures attempts { AttemptsOn self.old self.new
             (unit_at (keys_of self.old.script) op (Op.Read bio.now.context bio.now.sector bio.now.units) bio.now unit)

@@ -17,7 +17,7 @@ ghost use Rattle.bc_compose.specs.Ordered.{Pairs};
 ghost use Rattle.bc_run.specs.Sections.{DeviceData, cost_in, cost_of_section};
 ghost use Rattle.bc_run.specs.Uses.{bios_of};
 ghost use Rattle.bc_run.specs.Reached.{numbered, MayBePlugged, Settled, Submitted, Evicted, HasReset, CarriesSection};
-ghost use Rattle.bc_run.specs.Reached.{Reached, WindowEnds, steps_from};
+ghost use Rattle.bc_run.specs.Reached.{Reached, WindowEnds, HoldsNone, steps_from};
 
 use crate::pending::Pending;
 use bc_bio::{Extent, Refusal};
@@ -149,8 +149,10 @@ fn step<R, E, D: Device<R, E>>(
     requires spare { cost_of_section section.now ≤ (D.facts start.now.value).spare }
     requires reached { Reached (D.facts start.now.value) (D.facts device.old) section.now op plugged pending.old
         answers.old }
-    ensures { IfOk result (λ still. Reached (D.facts start.now.value) (D.facts device.new) section.now (op + 1) still
-        pending.new answers.new) }
+    requires held { HoldsNone plugged pending.old }
+    ensures reached { IfOk result (λ still. Reached (D.facts start.now.value) (D.facts device.new) section.now (op + 1)
+        still pending.new answers.new) }
+    ensures held { IfOk result (λ still. HoldsNone still pending.new) }
 {
     order_laws();
     hold_laws();
@@ -211,8 +213,10 @@ fn bio<R, E, D: Device<R, E>>(
     requires spare { cost_of_section section.now ≤ (D.facts start.now.value).spare }
     requires reached { Reached (D.facts start.now.value) (D.facts device.old) section.now op plugged pending.old
         answers.old }
-    ensures { OnOk result
+    requires held { HoldsNone plugged pending.old }
+    ensures reached { OnOk result
         (Reached (D.facts start.now.value) (D.facts device.new) section.now (op + 1) plugged pending.new answers.new) }
+    ensures held { OnOk result (HoldsNone plugged pending.new) }
 {
     order_laws();
     hold_laws();
@@ -260,10 +264,14 @@ fn make_room<R, E, D: Device<R, E>>(
     requires reached { Reached (D.facts start.now.value) (D.facts device.old) section.now op plugged pending.old
         answers.old }
     requires bio { MayBePlugged (D.facts start.now.value).script section.now op }
+    requires held { HoldsNone plugged pending.old }
     ensures room { OnOk result (length pending.new < MAX_PLUGGED) }
     ensures reached { OnOk result
         (Reached (D.facts start.now.value) (D.facts device.new) section.now op plugged pending.new answers.new) }
+    ensures held { OnOk result (HoldsNone plugged pending.new) }
 {
+    order_laws();
+    hold_laws();
     if pending.len() < MAX_PLUGGED {
         return Ok(());
     }

@@ -97,6 +97,7 @@ impl Device<(), AllocError> for Direct<'_> {
     ) -> Result<(), AllocError> {
         order_laws();
         self.course.has_begun();
+        self.course.has_devices();
         self.course.put();
         let mut last = None;
         for op in window {
@@ -111,12 +112,14 @@ impl Device<(), AllocError> for Direct<'_> {
 
     fn evict(&mut self, _rt: &(), _op: u32, key: KeyNo) -> Result<Answer, AllocError> {
         self.course.has_begun();
+        self.course.has_devices();
         self.course.evict(key);
         Ok(Answer::Evicted)
     }
 
     fn reset(&mut self, _rt: &(), _op: u32, device: u8) -> Result<(), AllocError> {
         self.course.has_begun();
+        self.course.has_devices();
         self.course.reset(device);
         Ok(())
     }

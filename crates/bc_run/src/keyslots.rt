@@ -1,6 +1,6 @@
 //! The keyslots of a script's devices, for one caller.
 
-ghost use Rattle.std.specs.Prelude.{◌≡◌, ◌*◌, ◌<◌, ◌≤◌, true, length, map, replicate, None, Some, Ok, IfOk, IsOk, IsSome, IsSomeAnd};
+ghost use Rattle.std.specs.Prelude.{◌≡◌, ℕ, ◌*◌, ◌<◌, ◌≤◌, true, [], length, map, replicate, None, Some, Ok, IfOk, IsOk, IsSome, IsSomeAnd};
 ghost use Rattle.bc_bio.specs.Conditions.{HasKey};
 ghost use Rattle.bc_bio.specs.Extent.{unit_sectors};
 ghost use Rattle.bc_medium.specs.KeyedDisk.{enciphered, deciphered};
@@ -12,7 +12,7 @@ ghost use Rattle.bc_script.specs.Script.{bare_keys, keys_of};
 ghost use Rattle.bc_modes.specs.Entries.{read_words};
 ghost use Rattle.bc_stack.specs.Devices.{device_at};
 ghost use Rattle.bc_base.specs.Lists.{Each};
-ghost use Rattle.bc_run.specs.Keyslots.{HasRoom, IsCipherOf, IsOpenFor, KeepsTo, Takes, row_of_key, is_open_for, used_at, used_each, via_of};
+ghost use Rattle.bc_run.specs.Keyslots.{IsRidOf, MayEvict, evicted, HasRoom, HaveNotKey, IsCipherOf, IsOpenFor, KeepsTo, Takes, row_of_key, is_open_for, used_at, used_each, via_of};
 ghost use Rattle.bc_run.specs.Standing.{HasBegun};
 
 use crate::open_hold::OpenHold;
@@ -110,6 +110,13 @@ impl<'s> Keyslots<'s> {
         let _ = &self.devices;
     }
 
+    /// Does nothing, and states that each device has a journal.
+    pub(crate) fn has_devices(&self)
+        ensures { length self.now.journals ≡ length self.now.script.targets }
+    {
+        let _ = &self.devices;
+    }
+
     /// Whether the key goes inline: each device supports it.
     pub(crate) fn is_inline(&self, key: KeyNo) -> bool
         requires { key.0 < length (keys_of self.now.script) }
@@ -145,6 +152,7 @@ impl<'s> Keyslots<'s> {
         requires room { HasRoom self.old device 2 }
         ensures { Takes self.old self.new device key.0 }
     {
+        entry_laws();
         self.put();
         let number = usize::from(device);
         let (slot, event) = self.devices[number].hold(key);
@@ -225,15 +233,14 @@ impl<'s> Keyslots<'s> {
     pub(crate) fn evict(&mut self, key: KeyNo)
         requires key { key.0 < length (keys_of self.old.script) }
         requires room { (device : ℕ) → device < length self.old.script.targets → HasRoom self.old device 1 }
-        ensures { self.new ≡ record self.old {
+        ensures records { self.new ≡ record self.old {
           journals = used_each self.old.script (uses.Evict key) self.old.journals;
           opened = None;
         } }
+        ensures gone { HaveNotKey self.old.script self.new.journals key.0 }
     {
         self.put();
-        for device in &mut self.devices {
-            device.evict(key);
-        }
+        evict_from(&mut self.devices, key);
     }
 
     /// Has a device program its keyslots again.
@@ -251,8 +258,8 @@ impl<'s> Keyslots<'s> {
 
     /// The journals of the devices.
     pub(crate) fn close(self, alloc: Global) -> Result<Items<Items<Event>>, AllocError>
-        ensures journals { IfOk result (λ journals. journals ≡ self.journals) }
-        ensures lawful { HaveLawfulJournals self.script.targets self.journals }
+        ensures journals { IfOk result (λ journals. journals ≡ self.entry.journals) }
+        ensures lawful { HaveLawfulJournals self.entry.script.targets self.entry.journals }
         ensures ranges { IfOk result (Each (IsPart IsEvent)) }
     {
         let mut keyslots = self;
@@ -269,14 +276,28 @@ impl<'s> Keyslots<'s> {
 /// The most events that a device may record: two for each data unit, and one for each operation.
 const MAX_EVENTS: u32 = 2 * (MAX_UNITS + MAX_OPS);
 
+/// Takes the key out of the keyslots of each of these devices, on which no slot is held.
+fn evict_from(devices: &mut [Solo], key: KeyNo)
+    requires { Each (MayEvict key.0) devices.old }
+    ensures records { devices.new ≡ map (evicted key.0) devices.old }
+    ensures gone { Each (IsRidOf key.0) devices.new }
+{
+    for device in devices.iter_mut() {
+        device.evict(key);
+    }
+}
+
 /// The stack of a script's devices.
 fn stack_of(alloc: Global, script: &Script) -> Result<Stack, AllocError>
     ensures { IfOk result (λ stack. stack ≡ record { targets = script.now.targets; blocks = script.now.blocks }) }
 {
-    match Stack::new(alloc, script.targets(), script.blocks()) {
-        Ok(stack) => Ok(stack),
-        Err(StackError::Memory) => Err(AllocError),
-        Err(_) => unreachable!(),
+    let error = match Stack::new(alloc, script.targets(), script.blocks()) {
+        Ok(stack) => return Ok(stack),
+        Err(error) => error,
+    };
+    match error {
+        StackError::Memory => Err(AllocError),
+        _ => unreachable!(),
     }
 }
 

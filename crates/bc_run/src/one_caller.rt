@@ -1,6 +1,6 @@
 //! A script carried out by one caller.
 
-ghost use Rattle.std.specs.Prelude.{◌≡◌, ℕ, ◌*◌, ◌^◌, ◌<◌, ◌≤◌, [], length, map, sum_by, IfOk, List, None, Some};
+ghost use Rattle.std.specs.Prelude.{◌≡◌, ℕ, ◌*◌, ◌^◌, ◌<◌, ◌≤◌, [], length, map, sum_by, IfOk, OnOk, List, None, Some};
 ghost use Rattle.bc_base.specs.Lists.{Each, list_at};
 ghost use Rattle.bc_base.specs.Story.{own};
 ghost use Rattle.bc_medium.specs.Entries.{caller_of};
@@ -14,7 +14,7 @@ ghost use Rattle.bc_report.specs.Report.{IsEntry, IsPart};
 ghost use Rattle.bc_compose.specs.Closed.{line_of};
 ghost use Rattle.bc_run.specs.Sections.{SectionsDone, cost_of_section};
 ghost use Rattle.bc_run.specs.Reached.{CarriesSection};
-ghost use Rattle.bc_run.specs.Standing.{IsBegun, device_of};
+ghost use Rattle.bc_run.specs.Standing.{HasBegun, IsBegun, device_of};
 
 use crate::ciphers::Ciphers;
 use crate::course::Course;
@@ -51,8 +51,6 @@ const BIO_BYTES: usize = MAX_BIO_SECTORS as usize * SECTOR_BYTES;
 /// that isn't refused are attempted one after the other, until one meets a fault that the script plans; bios
 /// of a plug are held back and submitted together, in order.
 ///
-/// The script has a fallback and no devices: those aren't carried out yet (see [`unbuilt_line`](crate::unbuilt_line)).
-///
 /// `image` is the disk as the run finds it: 4096 bytes for each block of the script's disk, as
 /// [`Script::blocks`](bc_script::Script::blocks) counts them. `shards` is 1 to 64, and block `b` lies in shard
 /// `b % shards`. Script, image and shards decide the whole report and the image that is left (see
@@ -78,7 +76,9 @@ pub fn serial(
     let answers = carry_sections_out(alloc, &mut direct, script.threads())?;
     let Direct { course, .. } = direct;
     let Course {
-        shards, keyslots, ..
+        shards,
+        keyslots,
+        ..
     } = course;
     let devices = keyslots.close(alloc)?;
     let (stores, orders) = shards.close();
@@ -132,11 +132,14 @@ fn carry_sections_out(
     requires untouched { (shard : ℕ) → list_at (orders_of direct.old.shards) shard ≡ [] }
     requires unused { (device : ℕ) → list_at direct.old.journals device ≡ [] }
     requires spare { sum_by cost_of_section sections.now ≤ direct.old.left }
-    ensures { IfOk result (SectionsDone (device_of direct.old) (device_of direct.new) sections.now) }
+    ensures done { IfOk result (SectionsDone (device_of direct.old) (device_of direct.new) sections.now) }
+    ensures begun { OnOk result (HasBegun direct.new.begun direct.new.journals) }
 {
     let mut answers = Vec::with_capacity(alloc, sections.len())?;
+    direct.course.has_begun();
     for (thread, section) in sections.iter().enumerate() {
         let answered = carry_section_out(alloc, direct, thread as u16, section.as_slice())?;
+        direct.course.has_begun();
         answers.push(answered)?;
     }
     Ok(Items::from_vec(answers))

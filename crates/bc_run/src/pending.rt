@@ -36,7 +36,8 @@ impl Pending {
 
     /// How many are held back.
     pub(crate) fn len(&self) -> usize
-        ensures { result ≡ length self.now }
+        ensures value { result ≡ length self.now }
+        ensures few { result ≤ MAX_PLUGGED }
     {
         self.len
     }

@@ -1,7 +1,5 @@
 //! The cipher of a keyslot's registers.
 
-ghost use Rattle.std.specs.Prelude.{◌≡◌, IsTrue, IsSomeAnd};
-
 use bc_modes::UnitCipher;
 use bc_profile::Row;
 use std::marker::Model;

@@ -405,39 +405,50 @@ fn a_number_with_a_leading_zero_is_no_number(rt: HostRuntime) -> Result<(), Fail
     Ok(())
 }
 
-/// What isn't carried out yet is no error of the text: each of these is a script, and else its own error is found.
 #[test]
-fn devices_and_a_fallback_that_is_off_are_not_carried_out_yet(rt: HostRuntime) -> Result<(), Fail> {
-    for (text, line, why) in [
+fn devices_and_a_fallback_that_is_off_are_carried_out(rt: HostRuntime) -> Result<(), Fail> {
+    let device = b"report 1\nshard 0 0\ndevice 0 0\nend\n".as_slice();
+    for (text, report) in [
         (
             b"blkcrypt 1\ndisk 1\nfallback off\nend\n".as_slice(),
-            3,
-            ScriptWhy::NotBuilt,
+            EMPTY_REPORT,
         ),
         (
             b"blkcrypt 1\ndisk 1\nfallback off\ndevice 0 1 1 1 0 8\nend\n",
-            3,
-            ScriptWhy::NotBuilt,
+            device,
         ),
         (
             b"blkcrypt 1\ndisk 1\nfallback on\ndevice 0 1 1 1 0 8\nend\n",
-            4,
-            ScriptWhy::NotBuilt,
-        ),
-        (
-            b"blkcrypt 1\ndisk 1\nfallback off\ndevice 1 1 1 1 0 8\nend\n",
-            4,
-            ScriptWhy::Device,
-        ),
-        (
-            b"blkcrypt 1\ndisk 1\nfallback on\ndevice 0 2 1 1 0 8\nend\n",
-            5,
-            ScriptWhy::Device,
+            device,
         ),
     ] {
         let mut out = sink(rt.alloc())?;
         let status = status_of(&rt, &["serial"], text, 4096, &mut out)?;
-        assert_eq!(rt; status, Status::BadScript(ScriptError { line, why }));
+        assert_eq!(rt; status, Status::Ok);
+        assert_eq!(rt; out.held(), report);
+    }
+    Ok(())
+}
+
+#[test]
+fn devices_that_cover_no_disk_are_no_script(rt: HostRuntime) -> Result<(), Fail> {
+    for (text, line) in [
+        (
+            b"blkcrypt 1\ndisk 1\nfallback off\ndevice 1 1 1 1 0 8\nend\n".as_slice(),
+            4,
+        ),
+        (
+            b"blkcrypt 1\ndisk 1\nfallback on\ndevice 0 2 1 1 0 8\nend\n",
+            5,
+        ),
+    ] {
+        let mut out = sink(rt.alloc())?;
+        let status = status_of(&rt, &["serial"], text, 4096, &mut out)?;
+        let error = ScriptError {
+            line,
+            why: ScriptWhy::Device,
+        };
+        assert_eq!(rt; status, Status::BadScript(error));
         assert_eq!(rt; out.held().len(), 0);
     }
     Ok(())

@@ -28,6 +28,7 @@ pub(crate) fn write_unit(
     requires key { HasKey keys.now.keys at.context }
     requires keys { HaveKeys keys.now.keys shards.old }
     requires length { length plain.items ≡ 512 * unit_sectors keys.now.keys at.context }
+    requires whole { length cipher.now ≡ 512 * unit_sectors keys.now.keys at.context }
     requires cipher { cipher.now ≡ enciphered keys.now.keys at.context plain.items }
     requires sectors { Own owns shards.old at.sector (unit_sectors keys.now.keys at.context) }
     requires spare { HasSpare shards.old at.sector }

@@ -1,10 +1,10 @@
 //! Scripts that are carried out. What they answer and list follows from the rules of scripts; the digests of what is
-//! read and left were made by another implementation of both modes, Python's `cryptography`.
+//! read and left were made by another implementation of both modes, Python's `cryptography`, and the reports of devices by
+//! a model in Python.
 
 ghost use Rattle.std.specs.Prelude.{◌≤◌};
 
 use super::*;
-use crate::built::unbuilt_line;
 use bc_report::print;
 use bc_script::parse;
 use sha2::{Digest, Sha256};
@@ -15,9 +15,6 @@ fn finished(alloc: Global, text: &[u8], shards: u16) -> Result<Finished, Fail>
     requires { (1 ≤ shards) × (shards ≤ 64) }
 {
     let script = parse(alloc, text)?;
-    let None = unbuilt_line(&script) else {
-        return Err(Fail::from(AllocError));
-    };
     let image = vec![in alloc; 0; 4096 * script.blocks() as usize]?;
     Ok(serial(alloc, &script, image, shards)?)
 }
@@ -429,5 +426,63 @@ fn faults_meet_their_own_shard_and_place(rt: HostRuntime) -> Result<(), Fail> {
         let finished = finished(rt.alloc(), text, shards)?;
         assert_eq!(rt; print(rt.alloc(), &finished.report)?.as_slice(), wanted);
     }
+    Ok(())
+}
+
+// ---- devices
+
+// Three keys for two slots: the least recently idle slot is programmed, an eviction empties a slot and leaves the order, what
+// is plugged is submitted before one, and a reset programs the slots again.
+#[test]
+fn a_device_programs_its_least_recently_idle_slot(rt: HostRuntime) -> Result<(), Fail> {
+    let report = report_of(
+        rt.alloc(),
+        b"blkcrypt 1\ndisk 1\nfallback off\ndevice 0 1 2 1 0 8\n\
+        key a aes-256-xts 512 8 000102030405060708090a0b0c0d0e0f101112131415161718191a1b1c1d1e1f202122232425262728292a2b2c2d2e2f303132333435363738393a3b3c3d3e3f\n\
+        key b aes-256-xts 512 8 404142434445464748494a4b4c4d4e4f505152535455565758595a5b5c5d5e5f606162636465666768696a6b6c6d6e6f707172737475767778797a7b7c7d7e7f\n\
+        key c aes-256-xts 512 8 808182838485868788898a8b8c8d8e8f909192939495969798999a9b9c9d9e9fa0a1a2a3a4a5a6a7a8a9aaabacadaeafb0b1b2b3b4b5b6b7b8b9babbbcbdbebf\n\
+        thread\nwrite a 0 1 0 fill 11\nwrite b 1 1 1 fill 22\nread a 0 1 0\nwrite c 2 1 2 fill 33\n\
+        evict a\nevict b\nplug\nwrite c 3 1 3 fill 44\nevict c\nwrite c 4 1 4 fill 55\nunplug\n\
+        reset 0\nread c 2 3 2\nend\n",
+    )?;
+    let wanted =
+        b"report 1\nthread 0\ndone\ndone\ndone fill 11\ndone\nevicted\nevicted\nplug\ndone\nevicted\n\
+        done\nunplug\nreset\n\
+        done sha256 6c8729a6f6b715ff5bf032ebbef251ace07b00a3ac0c632b24e4a62c0fb02233\nshard 0 9\n\
+        0 0 0 inline 0 0 0\n0 1 0 inline 0 1 2\n0 2 0 inline 0 0 0\n0 3 0 inline 0 1 5\n\
+        0 7 0 inline 0 1 5\n0 9 0 inline 0 0 10\n0 12 0 inline 0 0 10\n0 12 1 inline 0 0 10\n\
+        0 12 2 inline 0 0 10\ndevice 0 14\nprogram 0 0\nidle 0\nprogram 1 1\nidle 1\nidle 0\n\
+        program 1 2\nidle 1\nevict 0 0\nidle 1\nevict 1 2\nprogram 0 2\nidle 0\nreset\nidle 0\nend\n";
+    assert_eq!(rt; report.as_slice(), wanted.as_slice());
+    Ok(())
+}
+
+// Two devices that support two of three keys: a request across their border takes a hold on each, one that meets a fault
+// takes its holds too, and the third key is left to the fallback. With two shards.
+#[test]
+fn a_request_has_a_hold_for_each_piece(rt: HostRuntime) -> Result<(), Fail> {
+    let finished = finished(
+        rt.alloc(),
+        b"blkcrypt 1\ndisk 4\nfallback on\ndevice 0 2 2 15 0 8\ndevice 2 2 1 15 0 8\n\
+        key a aes-256-xts 512 8 000102030405060708090a0b0c0d0e0f101112131415161718191a1b1c1d1e1f202122232425262728292a2b2c2d2e2f303132333435363738393a3b3c3d3e3f\n\
+        key b aes-256-xts 4096 8 404142434445464748494a4b4c4d4e4f505152535455565758595a5b5c5d5e5f606162636465666768696a6b6c6d6e6f707172737475767778797a7b7c7d7e7f\n\
+        key c aes-128-cbc-essiv 512 8 808182838485868788898a8b8c8d8e8f\nfault 0 9\nthread\n\
+        write a 0 2 0 fill 11\nwrite b 8 2 0 fill 22\nplug\nwrite a 2 1 2 fill 33\n\
+        write a 3 1 3 fill 44\nunplug\nwrite c 30 1 0 fill 55\nreset 1\nread b 8 2 0\nthread\n\
+        read a 0 4 0\nread - 30 1 -\nwrite c 31 1 1 fill 66\nread a 40 1 0\nend\n",
+        2,
+    )?;
+    let report = print(rt.alloc(), &finished.report)?;
+    let wanted =
+        b"report 1\nthread 0\ndone\ndone\nplug\ndone\ndone\nunplug\ndone\nreset\ndone fill 22\n\
+        thread 1\nfault 3\n\
+        done sha256 03ed927b8c3af4063944ad750c8b0aeb58d78d44931f0d2b3dd078391497b7cf\ndone\n\
+        refused outside\nshard 0 10\n0 0 0 inline 0 0 0\n0 0 1 inline 0 0 0\n0 1 1 inline 1 0 0\n\
+        0 3 0 inline 0 0 0\n0 4 0 inline 0 0 0\n0 8 1 inline 1 0 0\n1 0 0 inline 0 0 0\n\
+        1 0 1 inline 0 0 0\n1 0 2 inline 0 0 0\n1 0 3 inline 0 0 0\nshard 1 5\n0 1 0 inline 0 1 2\n\
+        0 6 0 soft\n0 8 0 inline 0 1 2\n1 1 0 plain\n1 2 0 soft\ndevice 0 7\nprogram 0 0\nidle 0\n\
+        program 1 1\nidle 1\nidle 0\nidle 1\nidle 0\ndevice 1 4\nprogram 0 1\nidle 0\nreset\n\
+        idle 0\nend\n";
+    assert_eq!(rt; report.as_slice(), wanted.as_slice());
     Ok(())
 }

@@ -1,9 +1,13 @@
-use Rattle.std.proofs.Common.{◌≡◌, ◌∙◌, List, length, map, drop, sym, ap, subst, Some, arith}
+use Rattle.std.proofs.Common.{◌≡◌, ◌∙◌, ℕ, List, [], length, map, drop, sym, ap, subst, Some, None, arith}
 use Rattle.std.proofs.lemmas.List.{length-map}
+use Rattle.bc_base.specs.Lists.{list_at}
+use Rattle.bc_base.specs.Story.{own}
+use Rattle.bc_profile.specs.Story.{author_of}
 use Rattle.bc_report.specs.declared.answer.Answer.{Answer}
 use Rattle.bc_compose.specs.SectionDone.{IsReply}
 use Rattle.bc_run.specs.Reached.{CarriesSection}
 use Rattle.bc_run.specs.Standing.{CourseData, device_of}
+use Rattle.bc_run.proofs.Turns.{no_events}
 use Rattle.bc_run.proofs.Windowing.{same_replies, replied_all, taken}
 use Rattle.bc_run.proofs.one_caller.carry_section_out.Goals as goal
 
@@ -16,6 +20,11 @@ returns c =
     let noted : c.as_slice.result.now ≡ c.carry_out.new.answers =
     c.as_slice.ensures.value ∙ taken c.carry_out.new.answers (drop (length c.carry_out.new.answers) c.in_ok-noted.noted.items) c.in_ok-noted.noted.len count in
     let same : done.0 ≡ c.in_ok-answers.answers = same_replies done.0 c.in_ok-answers.answers (sym done.1 ∙ sym noted ∙ sym c.in_ok-answers.ensures) in
-    let start : CourseData = record c.args.direct.now { thread = c.args.thread } in
+    let start : CourseData = record c.args.direct.now { thread = c.args.thread; begun = c.args.direct.now.journals; opened = None } in
     subst (λ (l : List Answer). CarriesSection (device_of start) (device_of c.carry_out.new.device) c.args.section.now l) same
     (subst (λ (v : CourseData). CarriesSection (device_of v) (device_of c.carry_out.new.device) c.args.section.now done.0) c.begin.ensures done.2)
+
+pub carry_out-requires-clause-no_events : goal.carry_out-requires-clause-no_events
+carry_out-requires-clause-no_events c = subst
+    (λ (v : CourseData). (number : ℕ) → own author_of (device_of v).thread (list_at (device_of v).noted number) ≡ []) (sym c.begin.ensures)
+    (no_events c.args.thread c.args.direct.now.journals)

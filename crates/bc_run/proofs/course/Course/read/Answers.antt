@@ -1,15 +1,20 @@
-use Rattle.std.proofs.Common.{◌≡◌, ◌∙◌, ℕ, ◌*◌, ◌-◌, ◌+◌, ◌≤◌, ◌<◌, Bool, true, false, length, List, [], take, sym, ap, subst, refl, arith, rules, Some}
+use Rattle.std.proofs.Common.{◌≡◌, ◌∙◌, ℕ, ◌*◌, ◌-◌, ◌+◌, ◌≤◌, ◌<◌, Option, Some, None, List, [], ◌∷◌, ◌++◌, length, take, sym, ap, subst, refl, arith, rules}
 use Rattle.std.proofs.lemmas.Slice.{take-put_mid}
+use Rattle.bc_key.specs.KeyData.{KeyData}
+use Rattle.bc_bio.specs.Extent.{unit_sectors}
 use Rattle.bc_bio.specs.declared.access.Access.{Access}
 use Rattle.bc_bio.specs.declared.access.Access.TheVariants as access
-use Rattle.bc_medium.specs.Outcome.{Bytes}
+use Rattle.bc_medium.specs.KeyedDisk.{Text}
+use Rattle.bc_medium.specs.Outcome.{BioAnswer, Bytes}
 use Rattle.bc_script.specs.declared.op.Op.TheVariants as ops
-use Rattle.bc_script.specs.Script.{Script, keys_of, max_bio_units}
+use Rattle.bc_script.specs.Script.{Script, keys_of}
 use Rattle.bc_script.specs.Bios.{bio_of}
 use Rattle.bc_script.specs.Plan.{unit_at}
-use Rattle.bc_run.specs.Standing.{AttemptsUnit, device_of, first_units, answer_of_read}
-use Rattle.bc_run.proofs.EqualParts.{next_part}
-use Rattle.bc_run.proofs.Attempting.{SoFar, so_far_none, so_far_read, units_more, carries_bio, carries_fault}
+use Rattle.bc_run.specs.InTurn.{GoesOver}
+use Rattle.bc_run.specs.Standing.{CourseData, answer_of_read, device_of, first_units}
+use Rattle.bc_run.proofs.EqualParts.{next_part, part_starts}
+use Rattle.bc_run.proofs.Attempting.{NoneMet, met_read, none_met}
+use Rattle.bc_run.proofs.Performing.{GoneOver, gone_over_more, gone_over_none, performs_bio, performs_fault}
 use Rattle.bc_run.proofs.course.Course.read.Goals as goal
 
 zero_of : (n : ℕ) → 0 * n ≡ 0
@@ -17,70 +22,75 @@ zero_of n = omega arith
 
 pub loop-unit-init : goal.loop-unit-init
 loop-unit-init c =
-    let a = device_of c.args.self.now in record {
+    let bio = c.args.bio.now in
+    let operation = ops.Read bio.context bio.sector bio.units in record {
       room = refl;
-      script = refl;
-      spare = omega arith;
-      so_far = subst (λ (l : List ℕ). SoFar a a access.Read [] (Bytes l)) (sym (ap (λ (n : ℕ). take n c.args.room.now) (zero_of c.unit_bytes-size.result))) (so_far_none a access.Read (Bytes []) (refl, [], tt, refl));
+      gone_over = gone_over_none c.args.self.now access.Read c.args.op operation bio (Bytes (take (0 * c.unit_bytes-size.result) c.args.room.now)) c.requires.performable.accepted.some
+          (subst (λ (l : List ℕ). NoneMet (device_of c.args.self.now) (device_of c.args.self.now) access.Read [] (Bytes l) [])
+          (sym (ap (λ (n : ℕ). take n c.args.room.now) (zero_of c.unit_bytes-size.result)))
+          (none_met (device_of c.args.self.now) access.Read (Bytes []) (refl, [], tt, refl)));
     }
 
 pub loop-unit-preserved : goal.loop-unit-preserved
 loop-unit-preserved c =
     let bio = c.args.bio.now in
-    let operation = (ops.Read bio.context bio.sector bio.units) in
-    let a = device_of c.args.self.now in
-    let keys = keys_of c.args.self.now.script in
-    let b = device_of c.loop-unit.self in
-    let d = device_of c.read_unit.new.self in
+    let operation = ops.Read bio.context bio.sector bio.units in
+    let old = c.args.self.now in
+    let b = c.loop-unit.self in
+    let new = c.read_next-fault.new.self in
     let i = c.loop-unit.unit in
-    let u = unit_at keys c.args.op operation bio i in
-    let attempt : AttemptsUnit b d u (answer_of_read c.read_unit.new.place true) =
-    subst (λ (t : Bool). AttemptsUnit b d u (answer_of_read c.read_unit.new.place t)) c.if-not-read_unit.false
-    (subst (λ (s : Script). AttemptsUnit b d (unit_at (keys_of s) c.args.op operation bio i) (answer_of_read c.read_unit.new.place c.read_unit.result)) c.loop-unit.invariant.script c.read_unit.ensures.attempts) in
+    let v = unit_at (keys_of old.script) c.args.op operation bio i in
+    let us = first_units (keys_of old.script) c.args.op operation bio i in
+    let stays = c.order_laws.ensures.known_stays in
+    let gone = c.loop-unit.invariant.gone_over in
     let size = c.unit_bytes-size.result in
     let room = c.loop-unit.room in
-    let part = c.read_unit.new.place in
+    let part = c.read_next-fault.new.place in
     let long : length part ≡ size = search rules in
+    let starts : i * size ≤ length room =
+    subst (λ n. i * size ≤ n) (sym (c.loop-unit.invariant.room ∙ c.requires.room))
+    (part_starts i bio.units (unit_sectors (keys_of old.script) bio.context) size c.loop-unit-test.true c.requires.performable.few_sectors
+    (c.unit_bytes-size.ensures.bytes ∙ ap (λ (k : List KeyData). 512 * unit_sectors k bio.context) (c.keys.ensures ∙ c.self.invariant.keys_are ∙ ap (λ (v : CourseData). keys_of v.script) c.self.view_is))) in
     let next : (i + 1) * size ≡ i * size + size = next_part size i in
-    record {
+    let joined = take-put_mid (i * size) (i * size + size - i * size) room part ((i + 1) * size) (omega arith) starts in
+    let over : GoesOver b new bio i v (answer_of_read part) c.loop-unit.fault c.read_next-fault.result =
+    subst (λ (s : Script). GoesOver b new bio i (unit_at (keys_of s) c.args.op operation bio i) (answer_of_read part) c.loop-unit.fault c.read_next-fault.result)
+    (ap (λ (d : CourseData). d.script) gone.same) c.read_next-fault.ensures.goes_over in record {
       room = search rules;
-      script = ap (λ d. d.script) attempt.same ∙ c.loop-unit.invariant.script;
-      spare = let l = attempt.spare in let m = c.loop-unit.invariant.spare in omega arith;
-      so_far = so_far_read c.order_laws.ensures.known_stays a b d (first_units keys c.args.op operation bio i) (first_units keys c.args.op operation bio (i + 1)) u
-          (take (i * size) room) part _ (units_more keys c.args.op operation bio i)
-          (take-put_mid (i * size) (i * size + size - i * size) room part ((i + 1) * size) (omega arith) (search rules))
-          c.loop-unit.invariant.so_far attempt;
+      gone_over = gone_over_more old b new c.args.op operation bio i c.requires.performable c.loop-unit-test.true stays (answer_of_read part) refl refl access.Read
+          (Bytes (take (i * size) room)) (Bytes (take ((i + 1) * size) _)) c.loop-unit.fault c.read_next-fault.result
+          (λ m d made p reached q went none.
+          subst (λ (l : List ℕ). NoneMet (device_of old) d access.Read (us ++ v ∷ []) (Bytes l) (made ++ q.entry ∷ [])) (sym joined)
+          (met_read (device_of old) (device_of b) m made p reached stays d v (Text part) q us went (take (i * size) room) part refl none)) gone over;
     }
 
-pub returns-clause-carries : goal.returns-clause-carries
-returns-clause-carries c =
+pub returns-in-Some-clause-performs : goal.returns-in-Some-clause-performs
+returns-in-Some-clause-performs c =
     let bio = c.args.bio.now in
-    let operation = (ops.Read bio.context bio.sector bio.units) in
-    let a = device_of c.args.self.now in
-    let keys = keys_of c.args.self.now.script in
-    let is : bio_of operation ≡ Some bio = ap (λ (act : Access). Some (record { access = act; context = bio.context; sector = bio.sector; units = bio.units })) (sym c.requires.access) in
+    let operation = ops.Read bio.context bio.sector bio.units in
+    let old = c.args.self.now in
+    let new = c.loop-unit.self in
+    let is : bio_of operation ≡ Some bio =
+    ap (λ (act : Access). Some (record { access = act; context = bio.context; sector = bio.sector; units = bio.units })) (sym c.requires.access) in
+    let bytes : ℕ → BioAnswer = λ n. Bytes (take (n * c.unit_bytes-size.result) c.loop-unit.room) in
     let all : c.loop-unit.unit ≡ bio.units = let l = c.loop-unit-test.false in let m = c.loop-unit.auto.unit-end in omega arith in
-    let bytes : ℕ → List ℕ = λ n. take (n * c.unit_bytes-size.result) c.loop-unit.room in
-    carries_bio a (device_of c.loop-unit.self) c.args.op operation bio (Bytes (bytes bio.units)) c.answer_of.result is c.requires.performable.unrefused refl
-    (subst (λ (n : ℕ). SoFar a (device_of c.loop-unit.self) bio.access (first_units keys c.args.op operation bio n) (Bytes (bytes n))) all
-    (subst (λ (act : Access). SoFar a (device_of c.loop-unit.self) act (first_units keys c.args.op operation bio c.loop-unit.unit) (Bytes (bytes c.loop-unit.unit))) (sym c.requires.access) c.loop-unit.invariant.so_far))
-    c.answer_of.ensures.answer c.answer_of.ensures.range
+    performs_fault old new c.args.op operation bio is c.requires.performable refl (bytes bio.units) c.in-Some.unit
+    (subst (λ (act : Access). GoneOver old new act c.args.op operation bio bio.units (bytes bio.units) (Some c.in-Some.unit)) (sym c.requires.access)
+    (subst (λ (n : ℕ). GoneOver old new access.Read c.args.op operation bio n (bytes n) (Some c.in-Some.unit)) all
+    (subst (GoneOver old new access.Read c.args.op operation bio c.loop-unit.unit (bytes c.loop-unit.unit)) c.in-Some.is c.loop-unit.invariant.gone_over)))
 
-pub returns-then-not-read_unit-clause-carries : goal.returns-then-not-read_unit-clause-carries
-returns-then-not-read_unit-clause-carries c =
+pub returns-in-None-clause-performs : goal.returns-in-None-clause-performs
+returns-in-None-clause-performs c =
     let bio = c.args.bio.now in
-    let operation = (ops.Read bio.context bio.sector bio.units) in
-    let a = device_of c.args.self.now in
-    let keys = keys_of c.args.self.now.script in
-    let b = device_of c.loop-unit.self in
-    let d = device_of c.read_unit.new.self in
-    let i = c.loop-unit.unit in
-    let u = unit_at keys c.args.op operation bio i in
-    let is : bio_of operation ≡ Some bio = ap (λ (act : Access). Some (record { access = act; context = bio.context; sector = bio.sector; units = bio.units })) (sym c.requires.access) in
-    let attempt : AttemptsUnit b d u (answer_of_read c.read_unit.new.place false) =
-    subst (λ (t : Bool). AttemptsUnit b d u (answer_of_read c.read_unit.new.place t)) c.if-not-read_unit.true
-    (subst (λ (s : Script). AttemptsUnit b d (unit_at (keys_of s) c.args.op operation bio i) (answer_of_read c.read_unit.new.place c.read_unit.result)) c.loop-unit.invariant.script c.read_unit.ensures.attempts) in
-    let few : bio.units ≤ max_bio_units = c.requires.performable.few_units in
-    let lt : i < bio.units = c.loop-unit-test.true in
-    carries_fault c.order_laws.ensures.known_stays a b d c.args.op operation bio i (Bytes (take (c.loop-unit.unit * c.unit_bytes-size.result) c.loop-unit.room)) is c.requires.performable.unrefused refl lt (omega arith)
-    (subst (λ (act : Access). SoFar a b act (first_units keys c.args.op operation bio i) (Bytes (take (c.loop-unit.unit * c.unit_bytes-size.result) c.loop-unit.room))) (sym c.requires.access) c.loop-unit.invariant.so_far) attempt
+    let operation = ops.Read bio.context bio.sector bio.units in
+    let old = c.args.self.now in
+    let new = c.loop-unit.self in
+    let is : bio_of operation ≡ Some bio =
+    ap (λ (act : Access). Some (record { access = act; context = bio.context; sector = bio.sector; units = bio.units })) (sym c.requires.access) in
+    let bytes : ℕ → BioAnswer = λ n. Bytes (take (n * c.unit_bytes-size.result) c.loop-unit.room) in
+    let all : c.loop-unit.unit ≡ bio.units = let l = c.loop-unit-test.false in let m = c.loop-unit.auto.unit-end in omega arith in
+    performs_bio old new c.args.op operation bio is c.requires.performable refl (bytes bio.units) c.answer_of.result
+    (subst (λ (act : Access). GoneOver old new act c.args.op operation bio bio.units (bytes bio.units) None) (sym c.requires.access)
+    (subst (λ (n : ℕ). GoneOver old new access.Read c.args.op operation bio n (bytes n) None) all
+    (subst (GoneOver old new access.Read c.args.op operation bio c.loop-unit.unit (bytes c.loop-unit.unit)) c.in-None.is c.loop-unit.invariant.gone_over)))
+    c.answer_of.ensures.answer c.answer_of.ensures.range

@@ -1,9 +1,11 @@
-use Rattle.std.proofs.Common.{subst}
-use Rattle.bc_run.specs.Built.{IsBuilt}
-use Rattle.bc_run.specs.Standing.{CourseData}
-use Rattle.bc_run.proofs.NoDevices.{no_device}
+use Rattle.std.proofs.Common.{◌<◌, length, subst, sym}
+use Rattle.bc_run.specs.Reached.{HasReset}
+use Rattle.bc_run.specs.Standing.{CourseData, device_of}
+use Rattle.bc_run.proofs.Evicting.{is_reset}
 use Rattle.bc_run.proofs.direct.DirectDeviceUnitAllocError.reset.Goals as goal
 
 pub returns : goal.returns
-returns c =
-    absurd (no_device c.args.self.now.script (subst (λ (v : CourseData). IsBuilt v.script) c.self.view_is c.is_built.ensures) c.args._device c.requires.rules)
+returns c = record {
+  done = subst (λ (v : CourseData). HasReset (device_of v) (device_of c.reset.new.self) c.args._op c.args.device) c.self.view_is
+      (is_reset c.self.inside.course c.reset.new.self c.args._op c.args.device c.has_begun.ensures c.has_devices.ensures.devices (subst (λ (v : CourseData). c.args.device < length v.script.targets) (sym c.self.view_is) c.requires.rules) c.reset.ensures);
+}
