@@ -222,7 +222,10 @@ refused serial whole
 refused serial --help
 refused serial --version
 refused --image whole serial
-refused make 1
+refused make
+refused make 0
+refused make 2049
+refused make 1 --threads
 refused threads
 for words in "--shards 2" "--shards=2" "--shards 02" "--shards=+2"; do
     # shellcheck disable=SC2086

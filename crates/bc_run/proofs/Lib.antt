@@ -47,3 +47,6 @@ pub mod WindowNames
 pub mod OneMore
 pub mod TurningUnits
 pub mod Turning
+pub mod MakeWords
+pub mod MakeEnds
+pub mod MakeLines

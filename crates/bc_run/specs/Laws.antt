@@ -4,7 +4,8 @@ use Rattle.std.specs.Prelude.{◌≡◌, ℕ, List, [], ◌∷◌, Some, codes}
 use Rattle.bc_base.specs.Folders.{Files}
 use Rattle.clap.specs.Words.{fault_of}
 use Rattle.clap.specs.declared.error.kind.ErrorKind.{ErrorKind}
-use Rattle.bc_run.specs.Words.{IsCommand, Options, options_of, serial_command}
+use Rattle.bc_run.specs.Words.{AreMakeOptions, IsMakeCommand, IsSerialCommand, MakeOptions, Options, make_command, make_options_of, options_of, serial_command}
+use Rattle.bc_run.specs.Making.{IsMade}
 use Rattle.bc_run.specs.Command.{IsCarriedOut, IsScriptAnd}
 
 -- with these files and options the text was carried out, with this report and this image
@@ -20,14 +21,27 @@ WrittenTextsAgree =
     → IsDone files options text other other_left
     → (one ≡ other) × (one_left ≡ other_left)
 
--- the command with these words after it
+-- `serial` with these words after it
 abbrev pub with_words : List (List ℕ) → List (List ℕ)
 with_words words = codes "serial" ∷ words
 
--- after the command these words are taken, with these options
+-- after `serial` these words are taken, with these options
 abbrev pub Mean : List (List ℕ) → Options → Type 0
-Mean words options = IsCommand (with_words words) × (options_of (with_words words) ≡ options)
+Mean words options = IsSerialCommand (with_words words) × (options_of (with_words words) ≡ options)
 
--- after the command these words are refused, by this kind of error
+-- after `serial` these words are refused, by this kind of error
 abbrev pub AreRefused : List (List ℕ) → ErrorKind → Type 0
 AreRefused words kind = fault_of serial_command (with_words words) ≡ kind ∷ []
+
+-- the numbers of `make` decide its line
+abbrev pub MadeLinesAgree : Type 0
+MadeLinesAgree = (options : MakeOptions) (one other : List ℕ) → AreMakeOptions options
+    → IsMade (λ line. line ≡ one) options → IsMade (λ line. line ≡ other) options → one ≡ other
+
+-- after `make` these words are taken, with these options
+abbrev pub MakeMeans : List (List ℕ) → MakeOptions → Type 0
+MakeMeans words options = IsMakeCommand (codes "make" ∷ words) × (make_options_of (codes "make" ∷ words) ≡ options)
+
+-- after `make` these words are refused, by this kind of error
+abbrev pub MakeRefuses : List (List ℕ) → ErrorKind → Type 0
+MakeRefuses words kind = fault_of make_command (codes "make" ∷ words) ≡ kind ∷ []

@@ -8,7 +8,8 @@ use Rattle.bc_run.specs.declared.status.Status.{Status}
 use Rattle.bc_run.specs.declared.status.Status.TheVariants as statuses
 use Rattle.bc_run.specs.declared.image.TheConstants.{MAX_IMAGE}
 use Rattle.bc_run.specs.declared.words.Options.{Options as Read}
-use Rattle.bc_run.specs.Words.{Options}
+use Rattle.bc_run.specs.declared.make_words.Making.{Making}
+use Rattle.bc_run.specs.Words.{MakeOptions, Options}
 use Rattle.bc_run.specs.Command.{HasAnotherLength, HasError}
 
 -- the status of a stage: its error's, or Ok
@@ -23,6 +24,10 @@ text_of = option_map (λ s. s.now)
 -- what options that were read say
 abbrev pub said_by : Read → Options
 said_by options = record { image = text_of options.image; out = text_of options.out; shards = options.shards }
+
+-- what numbers of `make` that were read say
+abbrev pub made_by : Making → MakeOptions
+made_by making = record { n = making.n; slots = making.slots; shards = making.shards }
 
 -- a text was not read: no script has it, and this is its error; or there was no memory
 abbrev pub IsNotRead : List ℕ → Status → Type 0

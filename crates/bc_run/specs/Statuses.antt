@@ -8,7 +8,8 @@ use Rattle.bc_script.specs.Script.{Script}
 use Rattle.bc_run.specs.declared.status.Status.{Status}
 use Rattle.bc_run.specs.declared.status.Status.TheVariants.{Ok, Usage, BadScript, ReadFault, WriteFault, FolderFault, ImageLength, TooLong, NoMemory, Missing}
 use Rattle.bc_run.specs.declared.image.TheConstants.{MAX_IMAGE}
-use Rattle.bc_run.specs.Words.{Begins, IsCommand, Options, options_of}
+use Rattle.bc_run.specs.Words.{Begins, IsCommand, IsMakeCommand, IsSerialCommand, Options, make_options_of, options_of}
+use Rattle.bc_run.specs.Making.{IsMade}
 use Rattle.bc_run.specs.Command.{HasAnotherLength, IsBadScript, IsCarriedOut, IsScriptAnd}
 
 -- the number that the process ends with
@@ -94,13 +95,46 @@ abbrev pub EndsByScript : CommandRun → Status → Type 0
 EndsByScript run status =
     IsScriptAnd (λ script. ScriptEndsBy run.effects (options_of run.words) script status) run.text
 
--- why a run ended with this status, in the order of its stages; each row also says what the stages before it passed
-abbrev pub EndsBy : CommandRun → Status → Type 0
-EndsBy run Usage = IsCommand run.words → ⊥
-EndsBy run NoMemory = Begins (codes "serial") run.words
-EndsBy run ReadFault = IsCommand run.words × ReadRose run
-EndsBy run (BadScript e) = IsCommand run.words × IfSome run.text (IsBadScript e)
-EndsBy run (TooLong limit) =
-    IsCommand run.words
+-- why a run of `serial` ended with this status, in the order of its stages; each row also says what the stages before it
+-- passed
+abbrev pub SerialEndsBy : CommandRun → Status → Type 0
+SerialEndsBy run Usage = IsSerialCommand run.words → ⊥
+SerialEndsBy run NoMemory = Begins (codes "serial") run.words
+SerialEndsBy run ReadFault = IsSerialCommand run.words × ReadRose run
+SerialEndsBy run (BadScript e) = IsSerialCommand run.words × IfSome run.text (IsBadScript e)
+SerialEndsBy run (TooLong limit) =
+    IsSerialCommand run.words
     × (((limit ≡ MAX_TEXT) × IfSome run.text (λ text. limit < length text)) ⊎ EndsByScript run (TooLong limit))
-EndsBy run status = IsCommand run.words × EndsByScript run status
+SerialEndsBy run status = IsSerialCommand run.words × EndsByScript run status
+
+-- what a run does to its sink: its faults, and the bytes that it holds where it says so
+pub record SinkEffects : Type 0 where
+  pub faults_before : ℕ
+  pub faults_after : ℕ
+  pub held_before : Option (List ℕ)
+  pub held_after : Option (List ℕ)
+
+-- what became of the sink
+abbrev pub sink_of : Effects → SinkEffects
+sink_of e = record {
+  faults_before = e.write_faults_before;
+  faults_after = e.write_faults_after;
+  held_before = e.held_before;
+  held_after = e.held_after;
+}
+
+-- why a run of `make` ended with this status
+abbrev pub MakeEndsBy : List (List ℕ) → SinkEffects → Status → Type 0
+MakeEndsBy words e Usage = IsMakeCommand words → ⊥
+MakeEndsBy words e NoMemory = ⊤
+MakeEndsBy words e WriteFault =
+    IsMakeCommand words × IsMade (AppendsPrefix e.held_before e.held_after) (make_options_of words)
+    × Rose e.faults_before e.faults_after
+MakeEndsBy words e Ok =
+    IsMakeCommand words × IsMade (Appends e.held_before e.held_after) (make_options_of words)
+MakeEndsBy words e other = ⊥
+
+-- why a run ended with this status: the first word says whose reason it is, and where it is no command's the words are refused
+pub record EndsBy (run : CommandRun) (status : Status) : Type 0 where
+  pub by_make : Begins (codes "make") run.words → MakeEndsBy run.words (sink_of run.effects) status
+  pub by_serial : (Begins (codes "make") run.words → ⊥) → SerialEndsBy run status

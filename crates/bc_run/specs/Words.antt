@@ -1,6 +1,6 @@
--- The words of a command as `clap` reads them: the simple command that stands for `serial`, which words it takes, and the
--- values that its options have then.
-use Rattle.std.specs.Prelude.{◌≡◌, ◌≤◌, ℕ, List, [], Option, Some, codes, slice_get}
+-- The words of a command as `clap` reads them: the simple commands that stand for `serial` and `make`, which words they take,
+-- and the values that their options have then.
+use Rattle.std.specs.Prelude.{◌≡◌, ◌⊎◌, ◌≤◌, ℕ, true, List, [], Option, Some, codes, slice_get}
 use Rattle.std.specs.Option.{option_map_or}
 use Rattle.std.specs.Str.Parse.{IsNumeral, digits_value, without_leading_plus}
 use Rattle.clap.specs.Words.{App, Rule, fault_of, first_of, matches_of, new_app, new_rule, with_rule}
@@ -14,20 +14,44 @@ option_rule name = record (new_rule name) { long = Some name }
 abbrev pub number_rule : List ℕ → ℕ → ℕ → Rule
 number_rule name least most = record (option_rule name) { parser = Some (Unsigned least most) }
 
+-- a word that has to be given, a number in this range
+abbrev pub required_number : List ℕ → ℕ → ℕ → Rule
+required_number name least most =
+    record (new_rule name) { required = true; parser = Some (Unsigned least most) }
+
 -- `serial [--image NAME] [--out NAME] [--shards N]` with N in 1..=64
 abbrev pub serial_command : App
 serial_command =
     with_rule (with_rule (with_rule (new_app (codes "serial")) (number_rule (codes "shards") 1 64))
     (option_rule (codes "image"))) (option_rule (codes "out"))
 
+-- `make N [--slots N] [--shards N]` with N in 1..=2048, slots in 1..=32 and shards in 1..=64
+abbrev pub make_command : App
+make_command =
+    with_rule (with_rule (with_rule (new_app (codes "make")) (required_number (codes "n") 1 2048))
+    (number_rule (codes "slots") 1 32)) (number_rule (codes "shards") 1 64)
+
 -- the first word is this one
 abbrev pub Begins : List ℕ → List (List ℕ) → Type 0
 Begins word words = slice_get words 0 ≡ Some word
 
--- the words are valid: the first is the command, and clap finds no fault in the others
-pub record IsCommand (words : List (List ℕ)) : Type 0 where
+-- the words are those of `serial`: that is the first one, and clap finds no fault in the others
+pub record IsSerialCommand (words : List (List ℕ)) : Type 0 where
   pub named : Begins (codes "serial") words
   pub taken : fault_of serial_command words ≡ []
+
+-- the words are those of `make`
+pub record IsMakeCommand (words : List (List ℕ)) : Type 0 where
+  pub named : Begins (codes "make") words
+  pub taken : fault_of make_command words ≡ []
+
+-- the words are valid: they are those of a command
+abbrev pub IsCommand : List (List ℕ) → Type 0
+IsCommand words = IsSerialCommand words ⊎ IsMakeCommand words
+
+-- the first word is a command's
+abbrev pub NamesCommand : List (List ℕ) → Type 0
+NamesCommand words = Begins (codes "serial") words ⊎ Begins (codes "make") words
 
 -- what the options of `serial` say: where the image comes from, where it goes to, and over how many shards
 pub record Options : Type 0 where
@@ -43,7 +67,7 @@ number_of value = digits_value 10 (without_leading_plus value)
 abbrev pub value_of : List ℕ → List (List ℕ) → Option (List ℕ)
 value_of name words = first_of name (matches_of serial_command words)
 
--- the options of valid words: without them an image of zeros, which goes nowhere, over one shard
+-- the options of valid words of `serial`: without them an image of zeros, which goes nowhere, over one shard
 abbrev pub options_of : List (List ℕ) → Options
 options_of words = record {
   image = value_of (codes "image") words;
@@ -59,3 +83,28 @@ IsNumberIn least most value =
 -- a number of shards that a run may have
 abbrev pub IsShardCount : ℕ → Type 0
 IsShardCount n = (1 ≤ n) × (n ≤ 64)
+
+-- what the words of `make` say: how many pairs of a write and a read each thread has, how many keyslots the device has, and
+-- over how many shards the image lies
+pub record MakeOptions : Type 0 where
+  pub n : ℕ
+  pub slots : ℕ
+  pub shards : ℕ
+
+-- the number that an option of `make` has, where the words have it, and else this one
+abbrev pub made_number : List ℕ → ℕ → List (List ℕ) → ℕ
+made_number name other words = option_map_or number_of (first_of name (matches_of make_command words)) other
+
+-- the options of valid words of `make`, which have the first number: without the others one keyslot and eight shards
+abbrev pub make_options_of : List (List ℕ) → MakeOptions
+make_options_of words = record {
+  n = made_number (codes "n") 1 words;
+  slots = made_number (codes "slots") 1 words;
+  shards = made_number (codes "shards") 8 words;
+}
+
+-- the numbers are in the ranges of the options of `make`
+pub record AreMakeOptions (options : MakeOptions) : Type 0 where
+  pub n : (1 ≤ options.n) × (options.n ≤ 2048)
+  pub slots : (1 ≤ options.slots) × (options.slots ≤ 32)
+  pub shards : IsShardCount options.shards

@@ -63,7 +63,7 @@ fn image_under<F: Folder>(
 }
 
 /// An image of zeros, as long as the script's disk.
-fn zeros(alloc: Global, script: &Script) -> Result<Vec<u8>, Status>
+pub(crate) fn zeros(alloc: Global, script: &Script) -> Result<Vec<u8>, Status>
     ensures ok { IfOk result (λ image. image.items ≡ zeros_for script.now) }
     ensures memory { IfErr result (λ e. e ≡ Status.NoMemory) }
 {

@@ -1,4 +1,5 @@
-//! Runs scripts: reads the words, the script and the image, carries it out, puts the image and writes the report.
+//! Runs scripts: reads the words, the script and the image, carries it out, puts the image and writes the report. Or makes a
+//! script, carries that out, and writes the digest of the image that is left.
 //!
 //! [`run`] does all that the program does, over a source, a sink and a folder. [`serial`] carries a script out over an image,
 //! one operation after the other. What both promise is a lawful run: the report and the image are those of a keyed
@@ -16,6 +17,8 @@
 
 // a run of the program, stage by stage
 mod image;
+mod make;
+mod make_words;
 mod program;
 mod status;
 mod words;
@@ -43,7 +46,7 @@ mod ciphers;
 mod laws;
 
 pub use image::MAX_IMAGE;
-pub use laws::{serial_runs_agree, words_by_example};
+pub use laws::{make_lines_agree, make_words_by_example, serial_runs_agree, words_by_example};
 pub use one_caller::{Finished, serial};
 pub use program::run;
 pub use status::Status;

@@ -11,13 +11,15 @@ ghost use Rattle.bc_report.specs.LawfulRun.{LawfulRun};
 ghost use Rattle.bc_report.specs.RunOf.{run_of};
 ghost use Rattle.bc_report.specs.SerialRun.{IsSerial};
 ghost use Rattle.bc_script.specs.declared.limits.TheConstants.{MAX_TEXT};
-ghost use Rattle.bc_run.specs.Words.{Begins, IsCommand, IsShardCount, options_of};
+ghost use Rattle.bc_run.specs.Words.{Begins, IsCommand, IsMakeCommand, IsSerialCommand, IsShardCount, NamesCommand, options_of};
 ghost use Rattle.bc_run.specs.Command.{HasImageFor, IsTextOf, bytes_of_disk};
-ghost use Rattle.bc_run.specs.Statuses.{ChangesOnly, EndsBy, NamesFile, ScriptEndsBy};
+ghost use Rattle.bc_run.specs.Statuses.{ChangesOnly, EndsBy, NamesFile, ScriptEndsBy, SerialEndsBy};
 ghost use Rattle.bc_run.specs.Stages.{status_of, IsNotRead, said_by};
 ghost use Rattle.bc_script.specs.Script as specs;
 
 use crate::image::{opening_image, put_image};
+use crate::make::make;
+use crate::make_words::is_make;
 use crate::one_caller::{Finished, serial};
 use crate::status::Status;
 use crate::words::{Options, options_of_words};
@@ -29,8 +31,10 @@ use std::alloc::{AllocError, Global};
 
 /// Runs the command that the words say, and returns how that ended. The words are those after the program's name.
 ///
-/// The first word is the command, `serial`; the others are read by clap as its options, `--image NAME`, `--out NAME` and
-/// `--shards N` with N in 1 to 64. The stages follow one another, and the first that refuses ends the run:
+/// The first word is the command, `serial` or `make`; the others are read by clap.
+///
+/// The options of `serial` are `--image NAME`, `--out NAME` and `--shards N` with N in 1 to 64. Its stages follow one another,
+/// and the first that refuses ends the run:
 ///
 /// 1. The words are read.
 /// 2. The script is read from `script` to its end, at most 16 MiB.
@@ -42,8 +46,13 @@ use std::alloc::{AllocError, Global};
 /// 7. The image that is left is put under the name of `--out`. Without it no name is put.
 /// 8. The report is written to `out`.
 ///
-/// Nothing is written before the image is put, and nothing is put before the whole report stands. `gate` isn't used by
-/// this command.
+/// Nothing is written before the image is put, and nothing is put before the whole report stands.
+///
+/// `make N` with N in 1 to 2048 has the options `--slots N` with N in 1 to 32, else 1, and `--shards N` with N in 1 to 64,
+/// else 8. It generates a script (see [`generate`](bc_script::generate)), carries it out over zeros, and writes one line with
+/// the digest of the image that is left. It reads nothing from `script`, and gets and puts nothing.
+///
+/// `gate` isn't used by these commands.
 ///
 /// # Errors
 ///
@@ -56,9 +65,9 @@ use std::alloc::{AllocError, Global};
 /// - [`Status::Missing`]: the folder doesn't have the image.
 /// - [`Status::ImageLength`]: the image has another length than the script's disk.
 /// - [`Status::WriteFault`]: the sink failed, and its count of faults rose. It holds a prefix of the report, and the image
-///   is put.
+///   is put; or a prefix of the line of `make`.
 ///
-/// [`Status::NoMemory`] can come at each stage but the last. After it, and after each other status but `Ok`, `WriteFault`
+/// [`Status::NoMemory`] can come at each stage but the last, and before the line is written. After it, and after each other status but `Ok`, `WriteFault`
 /// and `FolderFault`, no name has changed; after each but `Ok` and `WriteFault`, nothing has been written.
 pub fn run<Rt, S: Source, K: Sink, F: Folder, G>(
     _rt: &Rt,
@@ -88,8 +97,10 @@ pub fn run<Rt, S: Source, K: Sink, F: Folder, G>(
     }) result }
     ensures usage { (IsCommand (map string_bytes words.now) → ⊥)
         → (result ≡ Status.Usage)
-        ⊎ ((result ≡ Status.NoMemory) × Begins (codes "serial") (map string_bytes words.now)) }
-    ensures end { result ≡ Status.Ok → IsAtEnd (S.left script.new) }
+        ⊎ ((result ≡ Status.NoMemory) × NamesCommand (map string_bytes words.now)) }
+    ensures end { IsSerialCommand (map string_bytes words.now) → result ≡ Status.Ok → IsAtEnd (S.left script.new) }
+    ensures make { Begins (codes "make") (map string_bytes words.now)
+        → (script.new ≡ script.old) × (folder.new ≡ folder.old) }
     ensures untouched { result ≢ Status.Ok → result ≢ Status.WriteFault
         → Keeps (K.held out.old) (K.held out.new) }
     ensures same { result ≢ Status.Ok → result ≢ Status.WriteFault → result ≢ Status.FolderFault
@@ -106,15 +117,22 @@ pub fn run<Rt, S: Source, K: Sink, F: Folder, G>(
 
     // A script within the limit is carried out over zeros or the image that the folder has, unless a count of faults rose or
     // memory ran out.
-    ensures complete { IsCommand (map string_bytes words.now)
+    ensures complete { IsSerialCommand (map string_bytes words.now)
         → IfSome (S.left script.old) (λ text. (asked : specs.Script) → IsTextOf text asked
         → HasImageFor (F.files folder.old) (options_of (map string_bytes words.now)).image asked
         → (Rose (S.faults script.old) (S.faults script.new) → ⊥)
         → (Rose (F.faults folder.old) (F.faults folder.new) → ⊥)
         → (Rose (K.faults out.old) (K.faults out.new) → ⊥)
         → (result ≡ Status.Ok) ⊎ (result ≡ Status.NoMemory)) }
+    // And what is generated is carried out, unless the sink's count rose or memory ran out.
+    ensures make_complete { IsMakeCommand (map string_bytes words.now)
+        → (Rose (K.faults out.old) (K.faults out.new) → ⊥)
+        → (result ≡ Status.Ok) ⊎ (result ≡ Status.NoMemory) }
 {
     no_proper_prefix();
+    if is_make(words) {
+        return make(alloc, words, out);
+    }
     match stages(alloc, words, script, out, folder) {
         Ok(()) => Status::Ok,
         Err(status) => status,
@@ -129,7 +147,7 @@ fn stages<S: Source, K: Sink, F: Folder>(
     out: &mut K,
     folder: &mut F,
 ) -> Result<(), Status>
-    ensures status { EndsBy (record {
+    ensures status { SerialEndsBy (record {
       words = map string_bytes words.now;
       text = S.left source.old;
       read_faults_before = S.faults source.old;
@@ -238,7 +256,7 @@ fn script_of_text(alloc: Global, text: &[u8]) -> Result<Script, Status>
 }
 
 /// Carries the script out over the image, with so many shards.
-fn carry_out(
+pub(crate) fn carry_out(
     alloc: Global,
     script: &Script,
     image: Vec<u8>,
@@ -269,8 +287,8 @@ fn text_of_report(alloc: Global, report: &Report) -> Result<Vec<u8>, Status>
     }
 }
 
-/// Writes the text of the report.
-fn write_text<K: Sink>(out: &mut K, text: &[u8]) -> Result<(), Status>
+/// Writes the text of a report, or the line of `make`.
+pub(crate) fn write_text<K: Sink>(out: &mut K, text: &[u8]) -> Result<(), Status>
     ensures ok { OnOk result (Appends (K.held out.old) (K.held out.new) text.now) }
     ensures prefix { AppendsPrefix (K.held out.old) (K.held out.new) text.now }
     ensures fault { IfErr result (λ e. e ≡ Status.WriteFault) }

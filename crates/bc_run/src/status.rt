@@ -6,11 +6,11 @@ ghost use Rattle.bc_run.specs.Statuses.{code_of};
 use bc_script::ScriptError;
 use thiserror::Error;
 
-/// How a run ends. Each status but `Ok` says why the report wasn't written, or not all of it; its text is the line that a
+/// How a run ends. Each status but `Ok` says why what the command writes wasn't written, or not all of it; its text is the line that a
 /// user is shown, and that of `Ok` is empty.
 #[derive(Clone, Copy, Debug, PartialEq, Eq, Error)]
 pub enum Status {
-    /// The report is written.
+    /// The report is written, or the line of `make`.
     #[error("")]
     Ok,
     /// The words are no command, or clap refuses those after it.
@@ -22,7 +22,7 @@ pub enum Status {
     /// The source failed.
     #[error("reading failed")]
     ReadFault,
-    /// The sink failed. It holds a prefix of the report.
+    /// The sink failed. It holds a prefix of the report, or of the line of `make`.
     #[error("writing failed")]
     WriteFault,
     /// The folder failed.

@@ -18,6 +18,9 @@ const FIRST_SCRIPT: &[u8] = b"blkcrypt 1\ndisk 1\nfallback on\n\
 const FIRST_REPORT: &[u8] = b"report 1\nthread 0\ndone\ndone fill 00\n\
     shard 0 2\n0 0 0 soft\n0 1 0 soft\nend\n";
 
+const MAKE_1: &[u8] = b"make 1: bios 32 units 32 done 32 faults 0 \
+    image 0dc92f9b0c04df3cfcff33347b68bd5bf34b2206e06e1c5a2126f3d4c92d81d5\n";
+
 // ---- helpers
 
 fn owned(alloc: Global, words: &[&str]) -> Result<Vec<String>, Fail> {
@@ -167,14 +170,36 @@ fn sectors_are_read_under_the_number_that_is_asked_for(rt: HostRuntime) -> Resul
 // ---- runs that don't
 
 #[test]
+fn make_1_writes_one_line_whatever_the_slots_and_shards(rt: HostRuntime) -> Result<(), Fail> {
+    let commands: [&[&str]; 2] = [
+        &["make", "1"],
+        &["make", "1", "--slots", "32", "--shards=3"],
+    ];
+    for words in commands {
+        let mut out = sink(rt.alloc())?;
+        let status = status_of(&rt, words, EMPTY_SCRIPT, 4096, &mut out)?;
+        assert_eq!(rt; status, Status::Ok);
+        assert_eq!(rt; out.held(), MAKE_1);
+    }
+    Ok(())
+}
+
+#[test]
 fn words_that_are_no_command_are_refused(rt: HostRuntime) -> Result<(), Fail> {
-    let wrong: [&[&str]; 17] = [
+    let wrong: [&[&str]; 24] = [
         &[],
         &["serial", "x"],
         &["Serial"],
         &["serial "],
         &["threads"],
-        &["make", "1"],
+        &["make"],
+        &["make", "0"],
+        &["make", "2049"],
+        &["make", "1", "1"],
+        &["make", "1", "--slots", "33"],
+        &["make", "1", "--shards", "65"],
+        &["make", "1", "--threads"],
+        &["make", "1", "--helpers", "0"],
         &["--help"],
         &["--version"],
         &["serial", "--help"],

@@ -1,10 +1,10 @@
-//! The words of a command, read by `clap`.
+//! The words of the command `serial`, read by `clap`.
 
 ghost use Rattle.std.specs.Prelude.{false, ◌≡◌, ◌⊎◌, ◌≢◌, IfSome, map, codes, IfOk, IfErr, OnOk};
 ghost use Rattle.std.specs.String.{string_bytes};
 ghost use Rattle.std.specs.Option.{option_map_or};
 ghost use Rattle.clap.specs.Words.{FailsBy, kind_of, HasMatchesOf, IsPlainArg, fault_of, first_value, found_of, rule_of};
-ghost use Rattle.bc_run.specs.Words.{IsNumberIn, Begins, IsCommand, IsShardCount, options_of, option_rule, number_rule, serial_command, number_of};
+ghost use Rattle.bc_run.specs.Words.{IsNumberIn, Begins, IsSerialCommand, IsShardCount, options_of, option_rule, number_rule, serial_command, number_of};
 ghost use Rattle.bc_run.specs.Stages.{said_by};
 
 use crate::status::Status;
@@ -29,11 +29,11 @@ pub(crate) fn options_of_words<'w>(
     alloc: Global,
     words: &'w [String],
 ) -> Result<Options<'w>, Status>
-    ensures taken { OnOk result (IsCommand (map string_bytes words.now)) }
+    ensures taken { OnOk result (IsSerialCommand (map string_bytes words.now)) }
     ensures said { IfOk result (λ options. said_by options ≡ options_of (map string_bytes words.now)) }
     ensures range { IfOk result (λ options. IsShardCount options.shards) }
     ensures statuses { IfErr result (λ e.
-        ((e ≡ Status.Usage) × (IsCommand (map string_bytes words.now) → ⊥))
+        ((e ≡ Status.Usage) × (IsSerialCommand (map string_bytes words.now) → ⊥))
         ⊎ ((e ≡ Status.NoMemory) × Begins (codes "serial") (map string_bytes words.now))) }
 {
     named(words)?;
@@ -69,7 +69,7 @@ fn option_named<'a>(alloc: Global, name: &'a str) -> Arg<'a>
 }
 
 /// An option whose value is a number in this range.
-fn number_named<'a>(alloc: Global, name: &'a str, least: u64, most: u64) -> Arg<'a>
+pub(crate) fn number_named<'a>(alloc: Global, name: &'a str, least: u64, most: u64) -> Arg<'a>
     ensures rule { rule_of result ≡ number_rule name.entry.now least most }
     ensures plain { IsPlainArg result }
     ensures local { result.global ≡ false }
@@ -104,7 +104,7 @@ fn shards_of(matches: &ArgMatches<'_>) -> u16
 }
 
 /// The status of a refusal.
-fn status_of(error: &Error) -> Status
+pub(crate) fn status_of(error: &Error) -> Status
     ensures memory { kind_of error.now ≡ ErrorKind.OutOfMemory → result ≡ Status.NoMemory }
     ensures usage { kind_of error.now ≢ ErrorKind.OutOfMemory → result ≡ Status.Usage }
 {

@@ -1,0 +1,12 @@
+use Rattle.std.proofs.Common.{◌∙◌, ap}
+use Rattle.std.proofs.lemmas.Result.{IfOk-weaker}
+use Rattle.bc_run.specs.Making.{line_of}
+use Rattle.bc_run.specs.Stages.{made_by}
+use Rattle.bc_run.proofs.MakeEnds.{is_made}
+use Rattle.bc_run.proofs.make.made.Goals as goal
+
+pub returns-clause-made : goal.returns-clause-made
+returns-clause-made c =
+    IfOk-weaker c.line_left.result _ _ (λ line is.
+    is_made (made_by c.args.making) c.in_ok-script.script c.in_ok-finished.finished.report c.in_ok-finished.finished.image.items line.items
+    c.in_ok-script.ensures.script c.in_ok-finished.ensures.run (is ∙ ap (line_of c.args.making.n) c.deref.ensures.value)) c.line_left.ensures.line

@@ -1,0 +1,138 @@
+//! The command `make`: a script is generated and carried out over zeros, and the digest of what is left is written.
+
+ghost use Rattle.std.specs.Prelude.{◌≡◌, ◌≢◌, ◌≤◌, ◌++◌, map, codes, IfOk, IfErr, OnOk, Err};
+ghost use Rattle.std.specs.String.{string_bytes};
+ghost use Rattle.std.specs.Io.KnownBytes.{Keeps};
+ghost use Rattle.bc_base.specs.Outside.{HasCause};
+ghost use Rattle.bc_script.specs.Generated.{generated};
+ghost use Rattle.bc_report.specs.SerialRun.{IsSerialRun};
+ghost use Rattle.bc_run.specs.Words.{AreMakeOptions, Begins, IsShardCount};
+ghost use Rattle.bc_run.specs.Command.{zeros_for};
+ghost use Rattle.bc_run.specs.Making.{IsMade, counted, line_of};
+ghost use Rattle.bc_run.specs.Statuses.{MakeEndsBy};
+ghost use Rattle.bc_run.specs.Stages.{made_by, status_of};
+
+use crate::image::zeros;
+use crate::make_words::{Making, making_of_words};
+use crate::one_caller::Finished;
+use crate::program::{carry_out, write_text};
+use crate::status::Status;
+use bc_base::Sink;
+use bc_script::{Script, generate};
+use bc_text::{put_hex, put_number};
+use sha2::{Digest, Sha256};
+use std::alloc::{AllocError, Global};
+
+/// How many data units the script of `make` writes and reads for each of its number: sixteen threads write one and read it.
+const UNITS: u64 = 32;
+
+/// Runs the command `make`, which the first word names, and returns how that ended.
+pub(crate) fn make<K: Sink>(alloc: Global, words: &[String], out: &mut K) -> Status
+    requires named { Begins (codes "make") (map string_bytes words.now) }
+    ensures status { MakeEndsBy (map string_bytes words.now) (record {
+      faults_before = K.faults out.old;
+      faults_after = K.faults out.new;
+      held_before = K.held out.old;
+      held_after = K.held out.new;
+    }) result }
+    ensures untouched { result ≢ Status.Ok → result ≢ Status.WriteFault
+        → Keeps (K.held out.old) (K.held out.new) }
+    ensures cause { HasCause (K.faults out.old) (K.faults out.new) (result ≡ Status.WriteFault) }
+{
+    match write_line(alloc, words, out) {
+        Ok(()) => Status::Ok,
+        Err(status) => status,
+    }
+}
+
+/// Reads the words, carries the script of their numbers out, and writes the line. An `Err` is never `Ok`'s status.
+fn write_line<K: Sink>(alloc: Global, words: &[String], out: &mut K) -> Result<(), Status>
+    requires named { Begins (codes "make") (map string_bytes words.now) }
+    ensures status { MakeEndsBy (map string_bytes words.now) (record {
+      faults_before = K.faults out.old;
+      faults_after = K.faults out.new;
+      held_before = K.held out.old;
+      held_after = K.held out.new;
+    }) (status_of result) }
+    ensures not_ok { IfErr result (λ status. status ≢ Status.Ok) }
+    ensures untouched { IfErr result (λ status. status ≢ Status.WriteFault
+        → Keeps (K.held out.old) (K.held out.new)) }
+    ensures cause { HasCause (K.faults out.old) (K.faults out.new) (result ≡ Err Status.WriteFault) }
+{
+    let making = making_of_words(alloc, words)?;
+    let line = made(alloc, making)?;
+    write_text(out, &line)
+}
+
+/// Carries the script of these numbers out, and returns the line.
+fn made(alloc: Global, making: Making) -> Result<Vec<u8>, Status>
+    requires ranges { AreMakeOptions (made_by making) }
+    ensures made { IfOk result (λ line. IsMade (λ written. written ≡ line.items) (made_by making)) }
+    ensures memory { IfErr result (λ e. e ≡ Status.NoMemory) }
+{
+    let script = script_of(alloc, making)?;
+    let finished = over_zeros(alloc, &script, making.shards)?;
+    line_left(alloc, making.n, &finished.image)
+}
+
+/// Carries the script out over zeros.
+fn over_zeros(alloc: Global, script: &Script, shards: u16) -> Result<Finished, Status>
+    requires shards { IsShardCount shards }
+    ensures run { IfOk result (λ finished.
+        IsSerialRun script.now (zeros_for script.now) shards finished.report finished.image.items) }
+    ensures memory { IfErr result (λ e. e ≡ Status.NoMemory) }
+{
+    let image = zeros(alloc, script)?;
+    let finished = carry_out(alloc, script, image, shards)?;
+    Ok(finished)
+}
+
+/// The script of these numbers.
+fn script_of(alloc: Global, making: Making) -> Result<Script, Status>
+    requires ranges { AreMakeOptions (made_by making) }
+    ensures script { IfOk result (λ script. script ≡ generated making.n making.slots) }
+    ensures memory { IfErr result (λ e. e ≡ Status.NoMemory) }
+{
+    match generate(alloc, making.n, making.slots) {
+        Ok(script) => Ok(script),
+        Err(AllocError) => Err(Status::NoMemory),
+    }
+}
+
+/// The line of a run that leaves this image.
+fn line_left(alloc: Global, n: u32, image: &[u8]) -> Result<Vec<u8>, Status>
+    requires { n ≤ 2048 }
+    ensures line { IfOk result (λ line. line.items ≡ line_of n image.now) }
+    ensures memory { IfErr result (λ e. e ≡ Status.NoMemory) }
+{
+    match line_of(alloc, n, image) {
+        Ok(line) => Ok(line),
+        Err(AllocError) => Err(Status::NoMemory),
+    }
+}
+
+/// The bytes of that line.
+fn line_of(alloc: Global, n: u32, image: &[u8]) -> Result<Vec<u8>, AllocError>
+    requires { n ≤ 2048 }
+    ensures { IfOk result (λ line. line.items ≡ line_of n image.now) }
+{
+    let units = UNITS * u64::from(n);
+    let mut line = Vec::new(alloc);
+    put_counted(&mut line, b"make ", u64::from(n))?;
+    put_counted(&mut line, b": bios ", units)?;
+    put_counted(&mut line, b" units ", units)?;
+    put_counted(&mut line, b" done ", units)?;
+    put_counted(&mut line, b" faults ", 0)?;
+    line.extend_from_slice(b" image ")?;
+    put_hex(&mut line, &Sha256::digest(image))?;
+    line.push(b'\n')?;
+    Ok(line)
+}
+
+/// Appends a number behind a word.
+fn put_counted(line: &mut Vec<u8>, word: &[u8], number: u64) -> Result<(), AllocError>
+    ensures { OnOk result (line.new.items ≡ line.old.items ++ counted word.now number) }
+{
+    line.extend_from_slice(word)?;
+    put_number(line, number)
+}
