@@ -1,3 +1,5 @@
 pub mod Walk
 pub mod Telling
+pub mod Marks
+pub mod Becoming
 pub mod Whole

@@ -1,11 +1,9 @@
 -- The pieces of a request, as one.
-use Rattle.std.proofs.Common.{◌≡◌, ◌≢◌, ℕ, zero, suc, ◌+◌, ◌<◌, ◌≤◌, inl, inr, Bool, true, false, cond, not, List, [], ◌∷◌, ◌++◌, length, take, drop, map, set, get_or, append-nil, append_assoc, refl, sym, ap, subst, ◌∙◌, arith, Option, Some, None, length-drop}
-use Rattle.std.specs.Prelude.{filter, zip, nat_lt, slice_get, sum_by}
+use Rattle.std.proofs.Common.{◌≡◌, ℕ, zero, suc, ◌+◌, ◌<◌, ◌≤◌, inl, inr, Bool, true, false, cond, not, List, [], ◌∷◌, ◌++◌, length, take, drop, map, append-nil, append_assoc, refl, sym, ap, subst, ◌∙◌, arith, Option, Some, length-drop}
+use Rattle.std.specs.Prelude.{filter, slice_get, sum_by}
 use Rattle.std.specs.List.{AllZip, range_with_len}
 use Rattle.std.proofs.Math.Logic.{⊎_elim}
-use Rattle.std.proofs.Math.Nat.{min-eq_left, min-eq_right}
-use Rattle.std.proofs.lemmas.Bool.{ltb-true, false_from_ne_true, cases_eq, cases_lt}
-use Rattle.std.proofs.lemmas.List.{map-append}
+use Rattle.std.proofs.lemmas.Bool.{cases_lt}
 use Rattle.std.proofs.lemmas.List.Elements.{filter-append}
 use Rattle.std.proofs.lemmas.List.Sums.{sum_by-cons, fold-append}
 use Rattle.bc_base.specs.Lists.{Each, list_at}
@@ -15,9 +13,8 @@ use Rattle.bc_bio.specs.declared.access.Access.{Access}
 use Rattle.bc_bio.specs.declared.unit.Unit.{Unit}
 use Rattle.bc_bio.specs.declared.marked_bio.MarkedBio.{MarkedBio}
 use Rattle.bc_bio.specs.PlannedUnit.{PlannedUnit}
-use Rattle.bc_bio.specs.declared.unit_place.UnitPlace.{UnitPlace}
 use Rattle.bc_bio.specs.Windows.{NamedUnit, TaggedBio, count_units}
-use Rattle.bc_bio.specs.Requests.{RequestParts, tagged_bios, place_of, first_fault, is_after, is_over, unit_in}
+use Rattle.bc_bio.specs.Requests.{RequestParts, tagged_bios, place_of, is_after, is_over, unit_in}
 use Rattle.bc_medium.specs.declared.entry.Entry.{Entry}
 use Rattle.bc_medium.specs.declared.unit_name.UnitName.{UnitName}
 use Rattle.bc_medium.specs.declared.via.Via.{Via}
@@ -30,8 +27,7 @@ use Rattle.bc_stack.specs.declared.target.Target.{Target}
 use Rattle.bc_queue.specs.RequestUnits.{named_at, access_at, written_bytes, planned_at, planned_part, faults_of, with_fault_at, with_faults, attempted_in, failed_among}
 use Rattle.bc_queue.specs.Carrying.{AccessFacts, GoesOn, IsCarried, CarriesOut, answer_of}
 use Rattle.bc_queue.specs.Laws.{AttemptedByNames, TagsDiffer, MarkSame}
-use Rattle.bc_queue.proofs.Lists.{at_append, get_or_set, get_or_set_other, zip_append, zip_more, pairs_append, range_split, each_filter, each_range, filter_same}
-use Rattle.bc_queue.proofs.Contents.{in_order}
+use Rattle.bc_queue.proofs.Lists.{at_append, zip_append, zip_more, range_split, each_filter, each_range, filter_same}
 use Rattle.bc_queue.proofs.Marks.{over, over_is}
 use Rattle.bc_queue.proofs.Growing.{told_more}
 use Rattle.bc_queue.proofs.Walk.{same_access_at, same_named_at}
@@ -41,67 +37,8 @@ use Rattle.bc_disk.specs.Told.{Tells}
 use Rattle.bc_disk.specs.Attempted.{by_way, IsCarriedItsWay, CarriesUnits, CarriesWhole, HasNoFault}
 use Rattle.bc_disk.proofs.Walk.{drop_all, length-units_of_request}
 use Rattle.bc_disk.proofs.Telling.{tells_none, tells_more}
-
--- ---- marks of later units
-
-not_less : (a b : ℕ) → b ≤ a → nat_lt a b ≡ false
-not_less a b le = false_from_ne_true (nat_lt a b) (λ t. let lt = ltb-true a b t in absurd (omega (arith, le, lt)))
-
--- a fault doesn't put its own unit, nor one before it, behind it
-stays : (m n : ℕ) (fault : Option ℕ) → m ≤ n → is_after m (Some (first_fault n fault)) ≡ is_after m fault
-stays m n None le = not_less n m le
-stays m n (Some fault) le = ⊎_elim
-    (λ (less : fault < n). ap (λ (k : ℕ). nat_lt k m) (min-eq_right (weaker less)))
-    (λ (past : n ≤ fault). ap (λ (k : ℕ). nat_lt k m) (min-eq_left past) ∙ not_less n m le ∙ sym (not_less fault m (further past)))
-    (cases_lt fault n)
-  where
-    weaker : fault < n → fault ≤ n
-    weaker less = omega (arith, less)
-
-    further : n ≤ fault → m ≤ fault
-    further past = omega (arith, past, le)
-
-over_stays : (tagged : List TaggedBio) (faults : List (Option ℕ)) (n m : ℕ) → m ≤ n → over tagged (with_fault_at tagged faults n) m ≡ over tagged faults m
-over_stays tagged faults n m le =
-    let pn : UnitPlace = place_of tagged n in
-    let pm : UnitPlace = place_of tagged m in
-    let value : Option ℕ = Some (first_fault pn.unit (get_or faults pn.bio None)) in
-    ⊎_elim
-    (λ (same : pm.bio ≡ pn.bio).
-    ⊎_elim
-    (λ (here : get_or (set faults pn.bio value) pn.bio None ≡ value).
-    ap (λ (k : ℕ). is_after pm.unit (get_or (set faults pn.bio value) k None)) same
-    ∙ ap (is_after pm.unit) here
-    ∙ stays pm.unit pn.unit (get_or faults pn.bio None) (in_order tagged n m same le)
-    ∙ ap (λ (k : ℕ). is_after pm.unit (get_or faults k None)) (sym same))
-    (λ (none : set faults pn.bio value ≡ faults). ap (λ (l : List (Option ℕ)). is_after pm.unit (get_or l pm.bio None)) none)
-    (get_or_set faults pn.bio value None))
-    (λ (apart : pm.bio ≢ pn.bio). ap (is_after pm.unit) (get_or_set_other faults pn.bio pm.bio value None apart))
-    (cases_eq pm.bio pn.bio)
-
-all_stay : (tagged : List TaggedBio) (faults : List (Option ℕ)) (numbers : List ℕ) (m : ℕ) → Each (λ n. m ≤ n) numbers → over tagged (with_faults tagged faults numbers) m ≡ over tagged faults m
-all_stay tagged faults [] m each = refl
-all_stay tagged faults (n ∷ numbers) m each = all_stay tagged (with_fault_at tagged faults n) numbers m each.1 ∙ over_stays tagged faults n m each.0
-
--- ---- numbers of failed entries
-
-pub failed_within : (P : ℕ → Type 0) (ns : List ℕ) (es : List Entry) → Each P ns → Each P (failed_among ns es)
-failed_within P [] es each = tt
-failed_within P (n ∷ ns) [] each = tt
-failed_within P (n ∷ ns) (e ∷ es) each = of_bool e.failed (failed_within P ns es each.1)
-  where
-    of_bool : (b : Bool) → Each P (failed_among ns es) → Each P (map (λ (made : ℕ × Entry). made.0) (cond b ((n, e) ∷ filter (λ (made : ℕ × Entry). made.1.failed) (zip ns es)) (filter (λ (made : ℕ × Entry). made.1.failed) (zip ns es))))
-    of_bool true rest = (each.0, rest)
-    of_bool false rest = rest
-
-failed_append : (R : ℕ → Entry → Type 0) (xs ys : List ℕ) (es fs : List Entry) → AllZip R xs es → failed_among (xs ++ ys) (es ++ fs) ≡ failed_among xs es ++ failed_among ys fs
-failed_append R xs ys es fs all =
-    ap (λ (l : List (ℕ × Entry)). map (λ (made : ℕ × Entry). made.0) (filter (λ (made : ℕ × Entry). made.1.failed) l)) (pairs_append R xs ys es fs all)
-    ∙ ap (map (λ (made : ℕ × Entry). made.0)) (filter-append (λ (made : ℕ × Entry). made.1.failed) (zip xs es) (zip ys fs))
-    ∙ map-append (λ (made : ℕ × Entry). made.0) (filter (λ (made : ℕ × Entry). made.1.failed) (zip xs es)) (filter (λ (made : ℕ × Entry). made.1.failed) (zip ys fs))
-
-names_append : (es fs : List Entry) → failed_names (es ++ fs) ≡ failed_names es ++ failed_names fs
-names_append es fs = ap (map name_of_entry) (filter-append (λ (e : Entry). e.failed) es fs) ∙ map-append name_of_entry (filter (λ (e : Entry). e.failed) es) (filter (λ (e : Entry). e.failed) fs)
+use Rattle.bc_disk.proofs.Marks.{all_stay, failed_within, failed_append, names_append, no_fault_at}
+use Rattle.bc_disk.proofs.Becoming.{becomes_all}
 
 -- ---- one unit, over longer orders, and of the request as it was at first
 
@@ -241,11 +178,6 @@ piece_within keys request first piece is within =
     let same : length piece ≡ length (part_of keys request first (length piece)) = ap length is in
     omega (arith, units, left, short, same, within)
 
-no_fault_at : (bios : List MarkedBio) (k : ℕ) → HasNoFault bios → get_or (faults_of bios) k None ≡ None
-no_fault_at [] k none = refl
-no_fault_at (marked ∷ bios) zero none = none.0
-no_fault_at (marked ∷ bios) (suc k) none = no_fault_at bios k none.1
-
 fresh : (keys : List KeyData) (caller : ℕ) (bios : List MarkedBio) → HasNoFault bios → MarkSame keys caller [] bios
 fresh keys caller bios none n within = ap not (sym (over_is bios n ∙ ap (is_after (place_of (tagged_bios bios) n).unit) (no_fault_at bios (place_of (tagged_bios bios) n).bio none)))
 
@@ -331,6 +263,7 @@ carries_whole stay law Exact keys targets old new before after pieces p reaches 
       tells = f.tells;
       units = f.units;
       attempts = λ none differ. attempts_all old.access new.access before after f.tells.made f.units (f.marks [] differ (fresh old.access.keys old.access.caller before.bios none));
+      becomes = λ none. becomes_all old.access new.access before after f.tells.made f.units none;
     }
 
 -- the pieces of a request have all its units
