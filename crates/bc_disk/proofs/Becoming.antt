@@ -1,5 +1,5 @@
 -- What became of the bios of a request, from what became of its units by their numbers.
-use Rattle.std.proofs.Common.{◌≡◌, ℕ, zero, suc, ◌+◌, ◌-◌, ◌<◌, ◌≤◌, inr, Bool, true, false, cond, not, List, [], ◌∷◌, length, take, get_or, refl, sym, ap, subst, ◌∙◌, arith, Option, Some, None}
+use Rattle.std.proofs.Common.{◌≡◌, ℕ, zero, suc, ◌+◌, ◌-◌, ◌<◌, ◌≤◌, inr, Bool, true, false, cond, not, List, [], ◌∷◌, length, take, drop, map, get_or, refl, sym, ap, subst, ◌∙◌, arith, Option, Some, None}
 use Rattle.std.specs.Prelude.{nat_lt, slice_get, option_and_then, MatchOption}
 use Rattle.std.specs.Option.{option_map, option_map_or, unwrap_or}
 use Rattle.std.specs.List.{AllZip, range_with_len}
@@ -11,7 +11,7 @@ use Rattle.std.proofs.lemmas.Option.{none-some, same_Some}
 use Rattle.bc_base.specs.Lists.{At, Each, list_at}
 use Rattle.bc_key.specs.KeyData.{KeyData}
 use Rattle.bc_bio.specs.declared.access.Access.{Access}
-use Rattle.bc_bio.specs.declared.access.Access.TheVariants.{Read}
+use Rattle.bc_bio.specs.declared.access.Access.TheVariants.{Read, Write}
 use Rattle.bc_bio.specs.declared.bio.Bio.{Bio}
 use Rattle.bc_bio.specs.declared.unit.Unit.{Unit}
 use Rattle.bc_bio.specs.declared.unit.Unit.TheVariants.{Full}
@@ -27,6 +27,7 @@ use Rattle.bc_medium.specs.declared.entry.Entry.{Entry}
 use Rattle.bc_medium.specs.declared.unit_at.UnitAt.{UnitAt}
 use Rattle.bc_medium.specs.Entries.{name_of_entry, unit_name, IsToldAt, told_by, IsTold}
 use Rattle.bc_medium.specs.Growth.{IsEntryOf}
+use Rattle.bc_medium.specs.KeyedDisk.{Sectors, Faulted, Written, Text}
 use Rattle.bc_medium.specs.LawfulOrders.{name_of}
 use Rattle.bc_medium.specs.Places.{shard_of}
 use Rattle.bc_queue.specs.RequestUnits.{no_unit, named_at, access_at, written_bytes, planned_at, faults_of, with_faults, attempted_in, failed_among}
@@ -35,7 +36,8 @@ use Rattle.bc_queue.proofs.Lists.{get_map, get_or_map, each_filter, each_range}
 use Rattle.bc_queue.proofs.Contents.{same_number}
 use Rattle.bc_queue.proofs.Marks.{over_is}
 use Rattle.bc_disk.specs.Attempted.{IsCarriedItsWay, CarriesUnits, HasNoFault}
-use Rattle.bc_disk.specs.Becoming.{planned_in, IsAnswered, IsStopped, Becomes}
+use Rattle.bc_disk.specs.Becoming.{planned_in, IsAnswered, IsStopped, OpensWith, KnowsUnit, KnowsDone, KnowsFault, Becomes}
+use Rattle.bc_disk.proofs.Walk.{drop_all}
 use Rattle.bc_disk.proofs.Marks.{not_less, failed_within, no_fault_at, In, in_range, in_filter, member, found, failed_found, IsMarked, marked_by, Source, source}
 
 -- ---- places of a bio's units
@@ -147,6 +149,92 @@ planned_is keys bios n k i marked place at within =
     ∙ ap (λ (a : Access). let p : PlannedUnit = record { tag = t.tag; unit = i; access = a; context = (named_unit keys t i).context; sector = (named_unit keys t i).sector; bytes = written_bytes a (unit_in bios n) } in p) access
     ∙ ap (λ (x : Option Unit). let p : PlannedUnit = record { tag = t.tag; unit = i; access = marked.bio.access; context = (named_unit keys t i).context; sector = (named_unit keys t i).sector; bytes = written_bytes marked.bio.access x } in p) unit
 
+-- ---- what is known of a bio
+
+each_map : {X Y : Type 0} (P : Y → Type 0) (f : X → Y) (xs : List X) → Each (λ x. P (f x)) xs → Each P (map f xs)
+each_map P f [] each = tt
+each_map P f (x ∷ xs) each = (each.0, each_map P f xs each.1)
+
+drop_at : {X : Type 0} (xs : List X) (k : ℕ) (x : X) → At xs k x → drop k xs ≡ x ∷ drop (k + 1) xs
+drop_at [] k x at = absurd (none-some x at)
+drop_at (y ∷ xs) zero x at = ap (λ z. z ∷ xs) (same_Some y x at)
+drop_at (y ∷ xs) (suc k) x at = drop_at xs k x at ∙ ap (λ n. x ∷ drop n (y ∷ xs)) (next k)
+  where
+    next : (k : ℕ) → suc (k + 1) ≡ suc k + 1
+    next k = omega arith
+
+range_at : (first count k : ℕ) → k < count → At (range_with_len first count) k (first + k)
+range_at first zero k within = absurd (omega (arith, within))
+range_at first (suc count) zero within = ap (λ n. Some n) (plus_none first)
+  where
+    plus_none : (n : ℕ) → n ≡ n + 0
+    plus_none n = omega arith
+range_at first (suc count) (suc k) within = range_at (first + 1) count k (omega (arith, within)) ∙ ap (λ n. Some n) (over first k)
+  where
+    over : (n k : ℕ) → n + 1 + k ≡ n + suc k
+    over n k = omega arith
+
+module _ (facts : AccessFacts) (seen : List (List Entry)) (base : ℕ → Sectors) (opens : OpensWith facts base) (old new : Bio) where
+  known_of : (i : ℕ) (failed : Bool) (a : IsAnswered facts seen old new i failed) → KnowsUnit facts seen base (planned_in facts.keys old i) (answer_of old.access failed a.bytes)
+  known_of i failed a = a.known base (subst (λ s. facts.opening s ≡ Some (base s)) (sym a.shard) (opens (planned_in facts.keys old i).sector))
+
+  -- a unit that was read, and its bytes
+  record IsRead (i : ℕ) : Type 0 where
+    pub text : List ℕ
+    pub known : KnowsUnit facts seen base (planned_in facts.keys old i) (Text text)
+    pub at : At new.units i (Full text)
+
+  record AreRead (first count : ℕ) : Type 0 where
+    pub texts : List (List ℕ)
+    pub known : AllZip (λ u text. KnowsUnit facts seen base u (Text text)) (map (planned_in facts.keys old) (range_with_len first count)) texts
+    pub units : drop first new.units ≡ map (λ text. Full text) texts
+
+  are_read : (first count : ℕ) → length new.units ≡ first + count → ((i : ℕ) → first ≤ i → i < first + count → IsRead i) → AreRead first count
+  are_read first zero long reads = record { texts = []; known = tt; units = drop_all new.units first (omega (arith, long)) }
+  are_read first (suc count) long reads =
+      let here = reads first (omega arith) (omega arith) in
+      let rest = are_read (first + 1) count (omega (arith, long)) (λ i least below. reads i (omega (arith, least)) (omega (arith, below))) in record {
+        texts = here.text ∷ rest.texts;
+        known = (here.known, rest.known);
+        units = drop_at new.units first (Full here.text) here.at ∙ ap (λ l. Full here.text ∷ l) rest.units;
+      }
+
+  knows_done : length new.units ≡ length old.units → ((i : ℕ) → i < length old.units → IsAnswered facts seen old new i false) → KnowsDone facts seen base old new old.access
+  knows_done long done = of_access old.access refl
+    where
+      of_access : (a : Access) → old.access ≡ a → KnowsDone facts seen base old new a
+      of_access Write is =
+          each_map (λ u. KnowsUnit facts seen base u Written) (planned_in facts.keys old) (range_with_len 0 (length old.units))
+          (each_range (λ i. KnowsUnit facts seen base (planned_in facts.keys old i) Written) 0 (length old.units) (λ i least below.
+          let a = done i (omega (arith, below)) in
+          subst (λ x. KnowsUnit facts seen base (planned_in facts.keys old i) (answer_of x false a.bytes)) is (known_of i false a)))
+      of_access Read is =
+          let all = are_read 0 (length old.units) (omega (arith, long)) (λ i least below.
+          let a = done i (omega (arith, below)) in
+          let r : IsRead i = record {
+            text = a.bytes;
+            known = subst (λ x. KnowsUnit facts seen base (planned_in facts.keys old i) (answer_of x false a.bytes)) is (known_of i false a);
+            at = a.content ∙ ap (λ x. Some (content_of x false a.place a.bytes)) is;
+          } in r) in (all.texts, all.known, all.units)
+
+  knows_fault : (unit : ℕ) → IsStopped facts seen old new unit → KnowsFault facts seen base old unit
+  knows_fault unit s =
+      let none : 0 + unit ≡ unit = omega arith in (
+        get_map (planned_in facts.keys old) (range_with_len 0 (length old.units)) unit
+            ∙ ap (option_map (planned_in facts.keys old)) (range_at 0 (length old.units) unit s.within)
+            ∙ ap (λ (n : ℕ). Some (planned_in facts.keys old n)) none,
+        subst (λ x. KnowsUnit facts seen base (planned_in facts.keys old unit) x) (of_access old.access s.fault.bytes) (known_of unit true s.fault),
+      )
+    where
+      of_access : (a : Access) (bytes : List ℕ) → answer_of a true bytes ≡ Faulted
+      of_access Write bytes = refl
+      of_access Read bytes = refl
+
+known_bio : (facts : AccessFacts) (seen : List (List Entry)) (old new : MarkedBio) → tagged_of new.bio ≡ tagged_of old.bio → (o : Option ℕ) → MatchOption o ((i : ℕ) → i < length old.bio.units → IsAnswered facts seen old.bio new.bio i false) (IsStopped facts seen old.bio new.bio)
+    → (base : ℕ → Sectors) → OpensWith facts base → MatchOption o (KnowsDone facts seen base old.bio new.bio old.bio.access) (KnowsFault facts seen base old.bio)
+known_bio facts seen old new same None done base opens = knows_done facts seen base opens old.bio new.bio (ap (λ (t : TaggedBio). t.bio.units) same) done
+known_bio facts seen old new same (Some unit) stopped base opens = knows_fault facts seen base opens old.bio new.bio unit stopped
+
 -- ---- one bio
 
 zip_by_place : {X Y : Type 0} (R : X → Y → Type 0) (xs : List X) (ys : List Y) → length xs ≡ length ys → ((k : ℕ) (x : X) (y : Y) → k < length xs → At xs k x → At ys k y → R x y) → AllZip R xs ys
@@ -255,7 +343,8 @@ module _ (old new : AccessFacts) (before after : RequestParts) (made : List Entr
         }
 
     becomes_one : k < length before.bios → Becomes old new.seen was is
-    becomes_one bio = record { same = same_tagged; outcome = of_fault is.fault refl }
+    becomes_one bio =
+        let outcome = of_fault is.fault refl in record { same = same_tagged; outcome = outcome; known = known_bio old new.seen was is same_tagged is.fault outcome }
       where
         of_fault : (o : Option ℕ) → is.fault ≡ o → MatchOption o ((i : ℕ) → i < length was.bio.units → IsAnswered old new.seen was.bio is.bio i false) (IsStopped old new.seen was.bio is.bio)
         of_fault None fault = λ i within. done i within bio (ap (is_after i) fault) (λ mark marked. absurd (none-some mark (sym fault ∙ marked)))
