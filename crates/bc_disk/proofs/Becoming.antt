@@ -230,7 +230,7 @@ module _ (facts : AccessFacts) (seen : List (List Entry)) (base : ℕ → Sector
       of_access Write bytes = refl
       of_access Read bytes = refl
 
-known_bio : (facts : AccessFacts) (seen : List (List Entry)) (old new : MarkedBio) → tagged_of new.bio ≡ tagged_of old.bio → (o : Option ℕ) → MatchOption o ((i : ℕ) → i < length old.bio.units → IsAnswered facts seen old.bio new.bio i false) (IsStopped facts seen old.bio new.bio)
+pub known_bio : (facts : AccessFacts) (seen : List (List Entry)) (old new : MarkedBio) → tagged_of new.bio ≡ tagged_of old.bio → (o : Option ℕ) → MatchOption o ((i : ℕ) → i < length old.bio.units → IsAnswered facts seen old.bio new.bio i false) (IsStopped facts seen old.bio new.bio)
     → (base : ℕ → Sectors) → OpensWith facts base → MatchOption o (KnowsDone facts seen base old.bio new.bio old.bio.access) (KnowsFault facts seen base old.bio)
 known_bio facts seen old new same None done base opens = knows_done facts seen base opens old.bio new.bio (ap (λ (t : TaggedBio). t.bio.units) same) done
 known_bio facts seen old new same (Some unit) stopped base opens = knows_fault facts seen base opens old.bio new.bio unit stopped

@@ -3,3 +3,4 @@ pub mod Telling
 pub mod Marks
 pub mod Becoming
 pub mod Whole
+pub mod Staying
