@@ -1,2 +1,6 @@
 pub mod Walk
 pub mod Telling
+pub mod Marks
+pub mod Becoming
+pub mod Whole
+pub mod Staying

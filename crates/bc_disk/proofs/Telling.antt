@@ -23,28 +23,28 @@ use Rattle.bc_queue.specs.Queues.{IsUnderKey}
 use Rattle.bc_disk.specs.Pieces.{DeviceFacts, CarriesPiece, CarriesPieces, NotesOn, access_by, at_device}
 use Rattle.bc_disk.specs.Told.{HasHoldBetween, Tells, events_on}
 
-begins_itself : {E : Type 0} (xs : List E) → StartsWith xs xs
+pub begins_itself : {E : Type 0} (xs : List E) → StartsWith xs xs
 begins_itself xs = ([], sym (append-nil xs))
 
-begins_trans : {E : Type 0} (xs ys zs : List E) → StartsWith ys xs → StartsWith zs ys → StartsWith zs xs
+pub begins_trans : {E : Type 0} (xs ys zs : List E) → StartsWith ys xs → StartsWith zs ys → StartsWith zs xs
 begins_trans xs ys zs p q = (p.0 ++ q.0, q.1 ∙ ap (λ l. l ++ q.0) p.1 ∙ append_assoc xs p.0 q.0)
 
-each_append : {X : Type 0} (P : X → Type 0) (xs ys : List X) → Each P xs → Each P ys → Each P (xs ++ ys)
+pub each_append : {X : Type 0} (P : X → Type 0) (xs ys : List X) → Each P xs → Each P ys → Each P (xs ++ ys)
 each_append P [] ys p q = q
 each_append P (x ∷ xs) ys p q = (p.0, each_append P xs ys p.1 q)
 
-each_more : {X : Type 0} (P Q : X → Type 0) → ((x : X) → P x → Q x) → (xs : List X) → Each P xs → Each Q xs
+pub each_more : {X : Type 0} (P Q : X → Type 0) → ((x : X) → P x → Q x) → (xs : List X) → Each P xs → Each Q xs
 each_more P Q more [] p = tt
 each_more P Q more (x ∷ xs) p = (more x p.0, each_more P Q more xs p.1)
 
 module _ (shards caller : ℕ) where
-  grows_none : (fronts : List (List Entry)) → Grows shards caller fronts fronts []
+  pub grows_none : (fronts : List (List Entry)) → Grows shards caller fronts fronts []
   grows_none fronts = record {
     fronts = λ shard. begins_itself (list_at fronts shard);
     own_entries = λ shard within. sym (append-nil (own caller_of caller (list_at fronts shard)));
   }
 
-  grows_append : (a b c : List (List Entry)) (es fs : List Entry) → Grows shards caller a b es → Grows shards caller b c fs → Grows shards caller a c (es ++ fs)
+  pub grows_append : (a b c : List (List Entry)) (es fs : List Entry) → Grows shards caller a b es → Grows shards caller b c fs → Grows shards caller a c (es ++ fs)
   grows_append a b c es fs p q = record {
     fronts = λ shard. begins_trans (list_at a shard) (list_at b shard) (list_at c shard) (p.fronts shard) (q.fronts shard);
     own_entries = λ shard within.
@@ -54,7 +54,7 @@ module _ (shards caller : ℕ) where
         ∙ ap (λ l. own caller_of caller (list_at a shard) ++ l) (sym (filter-append (lies_in shards shard) es fs));
   }
 
-notes_append : (caller : ℕ) (a b c : List Noted) (es fs : List Event) → NotesOn caller a b es → NotesOn caller b c fs → NotesOn caller a c (es ++ fs)
+pub notes_append : (caller : ℕ) (a b c : List Noted) (es fs : List Event) → NotesOn caller a b es → NotesOn caller b c fs → NotesOn caller a c (es ++ fs)
 notes_append caller a b c es fs p q = record {
   front = begins_trans a b c p.front q.front;
   adds =
@@ -64,7 +64,7 @@ notes_append caller a b c es fs p q = record {
       ∙ ap (λ l. own author_of caller a ++ l) (sym (map-append (note caller) es fs));
 }
 
-held_more : (slots : ℕ → ℕ) (older old new newer : List (List Noted)) → ((device : ℕ) → StartsWith (list_at old device) (list_at older device)) → ((device : ℕ) → StartsWith (list_at newer device) (list_at new device)) → (e : Entry) → HasHoldBetween slots old new e → HasHoldBetween slots older newer e
+pub held_more : (slots : ℕ → ℕ) (older old new newer : List (List Noted)) → ((device : ℕ) → StartsWith (list_at old device) (list_at older device)) → ((device : ℕ) → StartsWith (list_at newer device) (list_at new device)) → (e : Entry) → HasHoldBetween slots old new e → HasHoldBetween slots older newer e
 held_more slots older old new newer before after e h = record {
   device = h.device;
   slot = h.slot;
@@ -79,7 +79,7 @@ held_more slots older old new newer before after e h = record {
 }
 
 -- the entries of one piece
-entries_held : (old new : DeviceFacts) (before after : RequestParts) (first device count : ℕ) (p : CarriesPiece old new before after first device count) (numbers : List ℕ) (es : List Entry)
+pub entries_held : (old new : DeviceFacts) (before after : RequestParts) (first device count : ℕ) (p : CarriesPiece old new before after first device count) (numbers : List ℕ) (es : List Entry)
     → AllZip (IsCarried (access_by (ways.Inline device p.slot p.epoch) old) new.access.seen before.bios after.bios) numbers es → Each (IsUnderKey p.under.key.0) es → Each (HasHoldBetween old.slots old.noted new.noted) es
 entries_held old new before after first device count p [] [] all keyed = tt
 entries_held old new before after first device count p [] (e ∷ es) all keyed = absurd all
@@ -100,7 +100,7 @@ entries_held old new before after first device count p (n ∷ numbers) (e ∷ es
   entries_held old new before after first device count p numbers es all.1 keyed.1,
 )
 
-tells_none : (facts : DeviceFacts) → Tells facts facts []
+unfoldable pub tells_none : (facts : DeviceFacts) → Tells facts facts []
 tells_none facts = record {
   same = record { keys = refl; shards = refl; caller = refl; targets = refl; slots = refl };
   made = [];
@@ -111,7 +111,7 @@ tells_none facts = record {
   held = tt;
 }
 
-tells_more : (old mid new : DeviceFacts) (before after : RequestParts) (first device count : ℕ) (piece : List NamedUnit) (pieces : List (List NamedUnit)) → CarriesPiece old mid before after first device count → Tells mid new pieces → Tells old new (piece ∷ pieces)
+unfoldable pub tells_more : (old mid new : DeviceFacts) (before after : RequestParts) (first device count : ℕ) (piece : List NamedUnit) (pieces : List (List NamedUnit)) → CarriesPiece old mid before after first device count → Tells mid new pieces → Tells old new (piece ∷ pieces)
 tells_more old mid new before after first device count piece pieces p q =
     let grows : Grows old.access.shards old.access.caller mid.access.seen new.access.seen q.made =
     subst (λ c. Grows old.access.shards c mid.access.seen new.access.seen q.made) p.same.caller (subst (λ k. Grows k mid.access.caller mid.access.seen new.access.seen q.made) p.same.shards q.grows) in

@@ -6,7 +6,9 @@
 #![tactic(auto)]
 
 mod device_access;
+mod laws;
 mod request_pieces;
 
 pub use device_access::DeviceAccess;
+pub use laws::piece_laws;
 pub use request_pieces::carry_out_pieces;

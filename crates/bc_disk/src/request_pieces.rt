@@ -5,10 +5,13 @@ ghost use Rattle.bc_bio.specs.Windows.{IsRequest, NamedUnit};
 ghost use Rattle.bc_bio.specs.Requests.{tagged_bios};
 ghost use Rattle.bc_disk.specs.Pieces.{CarriesPieces, GoesByDevices, pieces_in};
 ghost use Rattle.bc_disk.specs.Told.{Tells};
+ghost use Rattle.bc_disk.specs.Attempted.{CarriesWhole};
 
 use crate::DeviceAccess;
 use bc_bio::Request;
 use bc_key::Keys;
+use bc_medium::order_laws;
+use bc_queue::request_laws;
 use bc_stack::Stack;
 
 /// Carries out all data units of a request over the devices on which they lie: cut where the device changes, piece after
@@ -35,11 +38,15 @@ pub fn carry_out_pieces<R, P, A: DeviceAccess<R, P>>(
         (pieces_in keys.now.keys stack.now.targets request.old) }
     ensures tells { Tells (A.facts access.now pass.old) (A.facts access.now pass.new)
         (pieces_in keys.now.keys stack.now.targets request.old) }
+    ensures whole { CarriesWhole (A.facts access.now pass.old) (A.facts access.now pass.new) request.old request.new
+        (pieces_in keys.now.keys stack.now.targets request.old) }
     ensures bios { tagged_bios request.new.bios ≡ tagged_bios request.old.bios }
     ensures room { (rest : List (List NamedUnit)) →
         A.affords access.now pass.old (pieces_in keys.now.keys stack.now.targets request.old ++ rest) →
         A.affords access.now pass.new rest }
 {
+    order_laws();
+    request_laws();
     let units = request.units();
     let mut first = 0;
     while first < units {

@@ -1,4 +1,4 @@
-use Rattle.std.proofs.Common.{◌≡◌, ◌+◌, List, drop, sym, ap, subst, arith, ◌++◌}
+use Rattle.std.proofs.Common.{◌≡◌, ◌+◌, ◌≤◌, List, drop, sym, ap, subst, arith, ◌++◌}
 use Rattle.bc_bio.specs.Windows.{NamedUnit, count_units, units_of_request}
 use Rattle.bc_bio.specs.Requests.{tagged_bios}
 use Rattle.bc_stack.specs.declared.target.Target.{Target}
@@ -6,6 +6,7 @@ use Rattle.bc_stack.specs.Pieces.{pieces_of}
 use Rattle.bc_disk.specs.Pieces.{IsOnDevice, units_in, pieces_in}
 use Rattle.bc_disk.proofs.Walk.{carried_none, carried_more, carried_all, drop_all, length-units_of_request, next_piece, on_device, still_performable}
 use Rattle.bc_disk.proofs.Telling.{pieces_tell}
+use Rattle.bc_disk.proofs.Whole.{carries_whole, pieces_reach}
 use Rattle.bc_disk.proofs.request_pieces.carry_out_pieces.Goals as goal
 
 pub loop-first-init : goal.loop-first-init
@@ -66,6 +67,16 @@ returns-clause-tells g c =
     let new = g.A.DeviceAccess.facts c.args.access.now c.loop-first.pass in
     pieces_tell g.A.DeviceAccess.exact c.args.keys.now.keys c.args.stack.now.targets old new c.args.request.now c.loop-first.request 0 (pieces_in c.args.keys.now.keys c.args.stack.now.targets c.args.request.now)
     (carried_all g.A.DeviceAccess.exact c.args.keys.now.keys c.args.stack.now.targets old new c.args.request.now c.loop-first.request c.loop-first.first c.loop-first.invariant.carried (omega (arith, past, c.units-units.ensures)))
+
+pub returns-clause-whole : goal.returns-clause-whole
+returns-clause-whole g c =
+    let past = c.loop-first-test.false in
+    let old = g.A.DeviceAccess.facts c.args.access.now c.args.pass.now in
+    let new = g.A.DeviceAccess.facts c.args.access.now c.loop-first.pass in
+    let all : count_units (tagged_bios c.args.request.now.bios) ≤ c.loop-first.first = omega (arith, past, c.units-units.ensures) in
+    carries_whole c.order_laws.ensures.answers_stay c.request_laws.ensures.by_names g.A.DeviceAccess.exact c.args.keys.now.keys c.args.stack.now.targets old new c.args.request.now c.loop-first.request (pieces_in c.args.keys.now.keys c.args.stack.now.targets c.args.request.now)
+    (carried_all g.A.DeviceAccess.exact c.args.keys.now.keys c.args.stack.now.targets old new c.args.request.now c.loop-first.request c.loop-first.first c.loop-first.invariant.carried all)
+    (pieces_reach g.A.DeviceAccess.exact c.args.keys.now.keys c.args.stack.now.targets old new c.args.request.now c.loop-first.request c.loop-first.first c.loop-first.invariant.carried all)
 
 pub returns-clause-bios : goal.returns-clause-bios
 returns-clause-bios g c = c.loop-first.invariant.carried.bios

@@ -1,0 +1,27 @@
+-- Laws of requests that were carried out over devices: parts of one request are one part, and what became of a bio stays so.
+use Rattle.std.specs.Prelude.{ℕ, ◌+◌, List, ◌++◌}
+use Rattle.bc_base.specs.Lists.{list_at}
+use Rattle.bc_base.specs.Story.{StartsWith}
+use Rattle.bc_bio.specs.declared.marked_bio.MarkedBio.{MarkedBio}
+use Rattle.bc_bio.specs.Requests.{RequestParts}
+use Rattle.bc_medium.specs.declared.entry.Entry.{Entry}
+use Rattle.bc_medium.specs.declared.via.Via.{Via}
+use Rattle.bc_queue.specs.Carrying.{AccessFacts, GoesOn}
+use Rattle.bc_disk.specs.Attempted.{by_way, CarriesUnits}
+use Rattle.bc_disk.specs.Becoming.{Becomes}
+
+-- two parts of a request, one after the other, are one part
+abbrev pub PartsAppend : Type 0
+PartsAppend =
+    (old mid new : AccessFacts) (before now after : RequestParts) (first count more : ℕ) (es fs : List Entry)
+    → ((via : Via) → GoesOn (by_way via old) (by_way via mid))
+    → ((shard : ℕ) → StartsWith (list_at new.seen shard) (list_at mid.seen shard))
+    → CarriesUnits old mid before now first count es → CarriesUnits mid new now after (first + count) more fs
+    → CarriesUnits old new before after first (count + more) (es ++ fs)
+
+-- what became of a bio, and what its caller knows of it, stays so along all longer orders
+abbrev pub BecomesStays : Type 0
+BecomesStays =
+    (facts : AccessFacts) (old new : List (List Entry)) (was is : MarkedBio)
+    → ((shard : ℕ) → StartsWith (list_at new shard) (list_at old shard)) → Becomes facts old was is
+    → Becomes facts new was is
