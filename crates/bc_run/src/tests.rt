@@ -432,7 +432,10 @@ fn a_device_without_uses_has_an_empty_journal(rt: HostRuntime) -> Result<(), Fai
     let text = b"blkcrypt 1\ndisk 1\nfallback off\ndevice 0 1 32 1 0 8\nend\n";
     let status = status_of(&rt, &["serial"], text.as_slice(), 4096, &mut out)?;
     assert_eq!(rt; status, Status::Ok);
-    assert_eq!(rt; out.held(), b"report 1\nshard 0 0\ndevice 0 0\nend\n".as_slice());
+    assert_eq!(rt;
+        out.held(),
+        b"report 1\nshard 0 0\ndevice 0 0\nend\n".as_slice()
+    );
     Ok(())
 }
 

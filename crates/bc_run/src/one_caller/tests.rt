@@ -454,7 +454,8 @@ fn slots_are_taken_as_they_became_idle(rt: HostRuntime) -> Result<(), Fail> {
             b"thread\nwrite a 0 1 0 fill 00\nwrite b 0 1 0 fill 00\nwrite c 0 1 0 fill 00\nwrite a 0 1 0 fill 00\nend\n".as_slice(),
             b"report 1\nthread 0\ndone\ndone\ndone\ndone\nshard 0 4\n0 0 0 inline 0 0 0\n0 1 0 inline 0 1 2\n\
             0 2 0 inline 0 0 4\n0 3 0 inline 0 1 6\ndevice 0 8\nprogram 0 0\nidle 0\nprogram 1 1\nidle 1\n\
-            program 0 2\nidle 0\nprogram 1 0\nidle 1\nend\n".as_slice(),
+            program 0 2\nidle 0\nprogram 1 0\nidle 1\nend\n"
+                .as_slice(),
         ),
         (
             b"thread\nwrite a 0 1 0 fill 00\nwrite b 0 1 0 fill 00\nwrite a 0 1 0 fill 00\nwrite c 0 1 0 fill 00\nend\n",
@@ -497,7 +498,8 @@ fn a_bio_is_cut_where_the_device_changes(rt: HostRuntime) -> Result<(), Fail> {
         (
             b"blkcrypt 1\ndisk 2\nfallback on\ndevice 0 1 1 1 0 8\ndevice 1 1 1 1 0 8\n".as_slice(),
             b"report 1\nthread 0\ndone\nshard 0 4\n0 0 0 inline 0 0 0\n0 0 1 inline 0 0 0\n0 0 2 inline 1 0 0\n\
-            0 0 3 inline 1 0 0\ndevice 0 2\nprogram 0 0\nidle 0\ndevice 1 2\nprogram 0 0\nidle 0\nend\n".as_slice(),
+            0 0 3 inline 1 0 0\ndevice 0 2\nprogram 0 0\nidle 0\ndevice 1 2\nprogram 0 0\nidle 0\nend\n"
+                .as_slice(),
         ),
         (
             b"blkcrypt 1\ndisk 2\nfallback on\ndevice 0 1 1 9 0 8\ndevice 1 1 1 8 0 8\n",
