@@ -1,23 +1,16 @@
 -- Inside a window: it begins, a bio of it begins, and a unit of a bio is reached and attempted.
-use Rattle.std.proofs.Common.{◌≡◌, ℕ, false, ◌≤◌, Option, None, List, [], ◌∷◌, ◌++◌, refl, sym, ap, subst, ◌∙◌}
-use Rattle.std.specs.Prelude.{flat_map, option_map, IfSome}
-use Rattle.std.proofs.Math.Logic.{⊎_elim}
+use Rattle.std.proofs.Common.{◌≡◌, ℕ, Option, None, List, [], ◌∷◌, ◌++◌, refl, sym, ap, subst}
+use Rattle.std.specs.Prelude.{option_map, IfSome}
 use Rattle.std.proofs.lemmas.List.{append-nil}
 use Rattle.bc_base.specs.Lists.{list_at}
 use Rattle.bc_bio.specs.declared.extent.Extent.{Extent}
-use Rattle.bc_bio.specs.Chunks.{joins_last}
-use Rattle.bc_bio.specs.Windows.{TaggedBio, joins}
+use Rattle.bc_bio.specs.Windows.{TaggedBio}
 use Rattle.bc_medium.specs.declared.entry.Entry.{Entry}
-use Rattle.bc_script.specs.Script.{Script, keys_of}
-use Rattle.bc_report.specs.SerialRun.{DeviceUse, holds_for}
+use Rattle.bc_script.specs.Script.{Script}
 use Rattle.bc_run.specs.declared.open_hold.OpenHold.{OpenHold}
 use Rattle.bc_run.specs.Standing.{CourseData}
-use Rattle.bc_run.specs.Uses.{after_uses}
-use Rattle.bc_run.specs.InTurn.{last_request, open_after, under_hold, StillHolds, InTurn, part_of, MayFollow}
-use Rattle.bc_run.proofs.Cutting.{joins_by_last}
-use Rattle.bc_run.proofs.Extending.{all_kept, keep_same}
-use Rattle.bc_run.proofs.Splitting.{open_by, split_at, uses_window, open_window, holds_begin, open_begin, open_first}
-use Rattle.bc_run.proofs.TurnSteps.{uses_of_window}
+use Rattle.bc_run.specs.InTurn.{under_hold, StillHolds, InTurn, part_of}
+use Rattle.bc_run.proofs.Splitting.{open_by, open_begin, open_first}
 pub use Rattle.bc_run.proofs.TurningUnits.{unit_reached, unit_attempted}
 
 -- ---- a window begins
