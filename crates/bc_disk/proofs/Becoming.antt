@@ -43,10 +43,10 @@ use Rattle.bc_disk.proofs.Marks.{not_less, failed_within, no_fault_at, In, in_ra
 -- ---- places of a bio's units
 
 -- the number of the first unit of bio number k
-abbrev first_of : List TaggedBio → ℕ → ℕ
+abbrev pub first_of : List TaggedBio → ℕ → ℕ
 first_of tagged k = count_units (take k tagged)
 
-place_at : (tagged : List TaggedBio) (k i : ℕ) (t : TaggedBio) → At tagged k t → i < t.bio.units → place_of tagged (first_of tagged k + i) ≡ record { bio = k; unit = i }
+pub place_at : (tagged : List TaggedBio) (k i : ℕ) (t : TaggedBio) → At tagged k t → i < t.bio.units → place_of tagged (first_of tagged k + i) ≡ record { bio = k; unit = i }
 place_at [] k i t at within = absurd (none-some t at)
 place_at (u ∷ tagged) zero i t at within =
     let same : u ≡ t = same_Some u t at in
@@ -65,7 +65,7 @@ place_at (u ∷ tagged) (suc k) i t at within =
     ∙ ap (λ (q : UnitPlace). let p : UnitPlace = record { bio = q.bio + 1; unit = q.unit } in p) (place_at tagged k i t at within)
     ∙ ap (λ (m : ℕ). let p : UnitPlace = record { bio = m; unit = i } in p) next
 
-number_within : (tagged : List TaggedBio) (k i : ℕ) (t : TaggedBio) → At tagged k t → i < t.bio.units → first_of tagged k + i < count_units tagged
+pub number_within : (tagged : List TaggedBio) (k i : ℕ) (t : TaggedBio) → At tagged k t → i < t.bio.units → first_of tagged k + i < count_units tagged
 number_within [] k i t at within = absurd (none-some t at)
 number_within (u ∷ tagged) zero i t at within =
     let same : u.bio.units ≡ t.bio.units = ap (λ (x : TaggedBio). x.bio.units) (same_Some u t at) in
@@ -133,7 +133,7 @@ unit_at bios n k i marked place at =
     ap (λ (p : UnitPlace). option_and_then (λ (m : MarkedBio). slice_get m.bio.units p.unit) (slice_get bios p.bio)) place
     ∙ ap (λ (o : Option MarkedBio). option_and_then (λ (m : MarkedBio). slice_get m.bio.units i) o) at
 
-planned_is : (keys : List KeyData) (bios : List MarkedBio) (n k i : ℕ) (marked : MarkedBio) → place_in bios n ≡ record { bio = k; unit = i } → At bios k marked → n < count_units (tagged_bios bios) → planned_at keys bios n ≡ planned_in keys marked.bio i
+pub planned_is : (keys : List KeyData) (bios : List MarkedBio) (n k i : ℕ) (marked : MarkedBio) → place_in bios n ≡ record { bio = k; unit = i } → At bios k marked → n < count_units (tagged_bios bios) → planned_at keys bios n ≡ planned_in keys marked.bio i
 planned_is keys bios n k i marked place at within =
     let tagged : List TaggedBio = tagged_bios bios in
     let t : TaggedBio = tagged_of marked.bio in
