@@ -1,6 +1,6 @@
 -- What became of the bios of a request, from what became of its units by their numbers.
-use Rattle.std.proofs.Common.{◌≡◌, ℕ, zero, suc, ◌+◌, ◌-◌, ◌<◌, ◌≤◌, inr, Bool, true, false, cond, not, List, [], ◌∷◌, length, take, drop, map, get_or, refl, sym, ap, subst, ◌∙◌, arith, Option, Some, None}
-use Rattle.std.specs.Prelude.{nat_lt, slice_get, option_and_then, MatchOption}
+use Rattle.std.proofs.Common.{◌≡◌, ℕ, zero, suc, ◌+◌, ◌-◌, ◌<◌, ◌≤◌, inl, inr, Bool, true, false, cond, not, List, [], ◌∷◌, length, take, drop, map, get_or, refl, sym, ap, subst, ◌∙◌, arith, Option, Some, None}
+use Rattle.std.specs.Prelude.{filter, zip, nat_lt, slice_get, option_and_then, MatchOption, ⊤}
 use Rattle.std.specs.Option.{option_map, option_map_or, unwrap_or}
 use Rattle.std.specs.List.{AllZip, range_with_len}
 use Rattle.std.proofs.Math.Logic.{⊎_elim}
@@ -25,28 +25,30 @@ use Rattle.bc_bio.specs.Requests.{RequestParts, tagged_of, tagged_bios, place_of
 use Rattle.bc_bio.proofs.RequestLaws.{unit_found}
 use Rattle.bc_medium.specs.declared.entry.Entry.{Entry}
 use Rattle.bc_medium.specs.declared.unit_at.UnitAt.{UnitAt}
+use Rattle.bc_medium.specs.declared.unit_name.UnitName.{UnitName}
 use Rattle.bc_medium.specs.Entries.{name_of_entry, unit_name, IsToldAt, told_by, IsTold}
-use Rattle.bc_medium.specs.Growth.{IsEntryOf}
+use Rattle.bc_medium.specs.Growth.{IsEntryOf, failed_names}
 use Rattle.bc_medium.specs.KeyedDisk.{Sectors, Faulted, Written, Text}
 use Rattle.bc_medium.specs.LawfulOrders.{name_of}
 use Rattle.bc_medium.specs.Places.{shard_of}
 use Rattle.bc_queue.specs.RequestUnits.{no_unit, named_at, access_at, written_bytes, planned_at, faults_of, with_faults, attempted_in, failed_among}
 use Rattle.bc_queue.specs.Carrying.{AccessFacts, answer_of, content_of}
+use Rattle.bc_queue.specs.Laws.{TagsDiffer}
 use Rattle.bc_queue.proofs.Lists.{get_map, get_or_map, each_filter, each_range}
 use Rattle.bc_queue.proofs.Contents.{same_number}
 use Rattle.bc_queue.proofs.Marks.{over_is}
 use Rattle.bc_disk.specs.Attempted.{IsCarriedItsWay, CarriesUnits, HasNoFault}
-use Rattle.bc_disk.specs.Becoming.{planned_in, IsAnswered, IsStopped, OpensWith, KnowsUnit, KnowsDone, KnowsFault, Becomes}
+use Rattle.bc_disk.specs.Becoming.{MarksFirst, planned_in, IsAnswered, IsStopped, OpensWith, KnowsUnit, KnowsDone, KnowsFault, Becomes}
 use Rattle.bc_disk.proofs.Walk.{drop_all}
 use Rattle.bc_disk.proofs.Marks.{not_less, failed_within, no_fault_at, In, in_range, in_filter, member, found, failed_found, IsMarked, marked_by, Source, source}
 
 -- ---- places of a bio's units
 
 -- the number of the first unit of bio number k
-abbrev first_of : List TaggedBio → ℕ → ℕ
+abbrev pub first_of : List TaggedBio → ℕ → ℕ
 first_of tagged k = count_units (take k tagged)
 
-place_at : (tagged : List TaggedBio) (k i : ℕ) (t : TaggedBio) → At tagged k t → i < t.bio.units → place_of tagged (first_of tagged k + i) ≡ record { bio = k; unit = i }
+pub place_at : (tagged : List TaggedBio) (k i : ℕ) (t : TaggedBio) → At tagged k t → i < t.bio.units → place_of tagged (first_of tagged k + i) ≡ record { bio = k; unit = i }
 place_at [] k i t at within = absurd (none-some t at)
 place_at (u ∷ tagged) zero i t at within =
     let same : u ≡ t = same_Some u t at in
@@ -65,7 +67,7 @@ place_at (u ∷ tagged) (suc k) i t at within =
     ∙ ap (λ (q : UnitPlace). let p : UnitPlace = record { bio = q.bio + 1; unit = q.unit } in p) (place_at tagged k i t at within)
     ∙ ap (λ (m : ℕ). let p : UnitPlace = record { bio = m; unit = i } in p) next
 
-number_within : (tagged : List TaggedBio) (k i : ℕ) (t : TaggedBio) → At tagged k t → i < t.bio.units → first_of tagged k + i < count_units tagged
+pub number_within : (tagged : List TaggedBio) (k i : ℕ) (t : TaggedBio) → At tagged k t → i < t.bio.units → first_of tagged k + i < count_units tagged
 number_within [] k i t at within = absurd (none-some t at)
 number_within (u ∷ tagged) zero i t at within =
     let same : u.bio.units ≡ t.bio.units = ap (λ (x : TaggedBio). x.bio.units) (same_Some u t at) in
@@ -133,7 +135,7 @@ unit_at bios n k i marked place at =
     ap (λ (p : UnitPlace). option_and_then (λ (m : MarkedBio). slice_get m.bio.units p.unit) (slice_get bios p.bio)) place
     ∙ ap (λ (o : Option MarkedBio). option_and_then (λ (m : MarkedBio). slice_get m.bio.units i) o) at
 
-planned_is : (keys : List KeyData) (bios : List MarkedBio) (n k i : ℕ) (marked : MarkedBio) → place_in bios n ≡ record { bio = k; unit = i } → At bios k marked → n < count_units (tagged_bios bios) → planned_at keys bios n ≡ planned_in keys marked.bio i
+pub planned_is : (keys : List KeyData) (bios : List MarkedBio) (n k i : ℕ) (marked : MarkedBio) → place_in bios n ≡ record { bio = k; unit = i } → At bios k marked → n < count_units (tagged_bios bios) → planned_at keys bios n ≡ planned_in keys marked.bio i
 planned_is keys bios n k i marked place at within =
     let tagged : List TaggedBio = tagged_bios bios in
     let t : TaggedBio = tagged_of marked.bio in
@@ -235,6 +237,56 @@ pub known_bio : (facts : AccessFacts) (seen : List (List Entry)) (old new : Mark
 known_bio facts seen old new same None done base opens = knows_done facts seen base opens old.bio new.bio (ap (λ (t : TaggedBio). t.bio.units) same) done
 known_bio facts seen old new same (Some unit) stopped base opens = knows_fault facts seen base opens old.bio new.bio unit stopped
 
+-- ---- names of failed entries
+
+abbrev named_by : AccessFacts → List MarkedBio → ℕ → UnitName
+named_by old before n = name_of old.caller (planned_at old.keys before n)
+
+failed_are : (old : AccessFacts) (seen : List (List Entry)) (before after : List MarkedBio) (ns : List ℕ) (es : List Entry) → AllZip (IsCarriedItsWay old seen before after) ns es → failed_names es ≡ map (named_by old before) (failed_among ns es)
+failed_are old seen before after [] [] all = refl
+failed_are old seen before after [] (e ∷ es) all = absurd all
+failed_are old seen before after (n ∷ ns) [] all = absurd all
+failed_are old seen before after (n ∷ ns) (e ∷ es) all = of_bool e.failed (ap unit_name all.0.entry.unit) (failed_are old seen before after ns es all.1)
+  where
+    of_bool : (b : Bool) → name_of_entry e ≡ named_by old before n → failed_names es ≡ map (named_by old before) (failed_among ns es)
+        → map name_of_entry (cond b (e ∷ filter (λ x. x.failed) es) (filter (λ x. x.failed) es)) ≡ map (named_by old before) (map (λ (made : ℕ × Entry). made.0) (cond b ((n, e) ∷ filter (λ (made : ℕ × Entry). made.1.failed) (zip ns es)) (filter (λ (made : ℕ × Entry). made.1.failed) (zip ns es))))
+    of_bool true is rest = ap (λ x. x ∷ failed_names es) is ∙ ap (λ l. named_by old before n ∷ l) rest
+    of_bool false is rest = rest
+
+in_place : (ns : List ℕ) (n : ℕ) → In n ns → (place : ℕ) × At ns place n
+in_place [] n there = absurd there
+in_place (m ∷ ns) n there = ⊎_elim
+    (λ (here : n ≡ m). let at : (place : ℕ) × At (m ∷ ns) place n = (0, ap (λ k. Some k) (sym here)) in at)
+    (λ (later : In n ns). let rest = in_place ns n later in let at : (place : ℕ) × At (m ∷ ns) place n = (suc rest.0, rest.1) in at)
+    there
+
+each_in : (P : ℕ → Type 0) (ns : List ℕ) → ((n : ℕ) → In n ns → P n) → Each P ns
+each_in P [] f = tt
+each_in P (n ∷ ns) f = (f n (inl refl), each_in P ns (λ m there. f m (inr there)))
+
+get_or_at : {X : Type 0} (xs : List X) (k : ℕ) (x d : X) → At xs k x → get_or xs k d ≡ x
+get_or_at [] k x d at = absurd (none-some x at)
+get_or_at (y ∷ xs) zero x d at = same_Some y x at
+get_or_at (y ∷ xs) (suc k) x d at = get_or_at xs k x d at
+
+-- a unit's bio is there
+bio_at : (tagged : List TaggedBio) (n : ℕ) → n < count_units tagged → (t : TaggedBio) × At tagged (place_of tagged n).bio t
+bio_at [] n within = absurd (omega (arith, within))
+bio_at (u ∷ tagged) n within = of_bool (nat_lt n u.bio.units) refl (λ less. bio_at tagged (n - u.bio.units) less)
+  where
+    later : (k : ℕ) (t : TaggedBio) → At tagged k t → At (u ∷ tagged) (k + 1) t
+    later k t at = let next : k + 1 ≡ suc k = omega arith in ap (slice_get (u ∷ tagged)) next ∙ at
+
+    of_bool : (b : Bool) → nat_lt n u.bio.units ≡ b → (n - u.bio.units < count_units tagged → (t : TaggedBio) × At tagged (place_of tagged (n - u.bio.units)).bio t) →
+        let p : UnitPlace = cond b (record { bio = 0; unit = n }) (record { bio = (place_of tagged (n - u.bio.units)).bio + 1; unit = (place_of tagged (n - u.bio.units)).unit }) in
+        (t : TaggedBio) × At (u ∷ tagged) p.bio t
+    of_bool true is rest = (u, refl)
+    of_bool false is rest =
+        let past : u.bio.units ≤ n = ltb-false n u.bio.units is in
+        let sum : count_units (u ∷ tagged) ≡ u.bio.units + count_units tagged = sum_by-cons (λ (x : TaggedBio). x.bio.units) u tagged in
+        let r = rest (omega (arith, past, sum, within)) in
+        (r.0, later (place_of tagged (n - u.bio.units)).bio r.0 r.1)
+
 -- ---- one bio
 
 zip_by_place : {X Y : Type 0} (R : X → Y → Type 0) (xs : List X) (ys : List Y) → length xs ≡ length ys → ((k : ℕ) (x : X) (y : Y) → k < length xs → At xs k x → At ys k y → R x y) → AllZip R xs ys
@@ -255,6 +307,11 @@ module _ (old new : AccessFacts) (before after : RequestParts) (made : List Entr
 
   abbrev Carried : ℕ → Entry → Type 0
   Carried = IsCarriedItsWay old new.seen before.bios after.bios
+
+  -- each of them is a unit of the request
+  all_below : Each (λ n. n < count_units tagged) failed
+  all_below = failed_within (λ n. n < count_units tagged) numbers made
+      (each_filter (λ n. n < count_units tagged) (λ n. not (is_over after.bios n)) (range_with_len 0 (count_units tagged)) (each_range (λ n. n < count_units tagged) 0 (count_units tagged) (λ j from below. omega (arith, below))))
 
   module _ (k : ℕ) (was is : MarkedBio) (was_at : At before.bios k was) (is_at : At after.bios k is) where
     tagged_at : At tagged k (tagged_of was.bio)
@@ -327,9 +384,7 @@ module _ (old new : AccessFacts) (before after : RequestParts) (made : List Entr
 
     stopped : (mark : ℕ) → is.fault ≡ Some mark → k < length before.bios → Source tagged failed k mark → IsStopped old new.seen was.bio is.bio mark
     stopped mark fault bio s =
-        let all : Each (λ n. n < count_units tagged) failed = failed_within (λ n. n < count_units tagged) numbers made
-        (each_filter (λ n. n < count_units tagged) (λ n. not (is_over after.bios n)) (range_with_len 0 (count_units tagged)) (each_range (λ n. n < count_units tagged) 0 (count_units tagged) (λ j from below. omega (arith, below)))) in
-        let below : s.n < count_units tagged = member (λ n. n < count_units tagged) failed s.n all s.there in
+        let below : s.n < count_units tagged = member (λ n. n < count_units tagged) failed s.n all_below s.there in
         let here : (place_of tagged s.n).unit < length was.bio.units = place_within tagged s.n (tagged_of was.bio) below (ap (slice_get tagged) s.bio_is ∙ tagged_at) in
         let within : mark < length was.bio.units = subst (λ (j : ℕ). j < length was.bio.units) s.unit_is here in
         let u = unit_of mark within in
@@ -352,6 +407,66 @@ module _ (old new : AccessFacts) (before after : RequestParts) (made : List Entr
             (λ (marked : get_or (faults_of before.bios) k None ≡ Some mark). absurd (none-some mark (sym (no_fault_at before.bios k none) ∙ marked)))
             (λ (s : Source tagged failed k mark). stopped mark fault bio s)
             (source tagged (faults_of before.bios) failed k mark (ap (λ (l : List (Option ℕ)). get_or l k None) (sym c.faults) ∙ mark_is ∙ fault))
+
+  -- the names of the failed entries are those of their units
+  names : failed_names made ≡ map (λ n. name_of old.caller (planned_at old.keys before.bios n)) failed
+  names = failed_are old new.seen before.bios after.bios numbers made c.carried
+
+  module _ (differ : TagsDiffer tagged) (k : ℕ) (was is : MarkedBio) (was_at : At before.bios k was) (is_at : At after.bios k is) (bio : k < length before.bios) where
+    abbrev Least : UnitName → Type 0
+    Least name = name.op ≡ was.bio.tag → (mark : ℕ) × (is.fault ≡ Some mark) × (mark ≤ name.unit)
+
+    mark_told : (unit : ℕ) → IsMarked (faults_of after.bios) k unit → (mark : ℕ) × (is.fault ≡ Some mark) × (mark ≤ unit)
+    mark_told unit m = (m.mark, sym (mark_is k was is was_at is_at) ∙ m.is, m.at_most)
+
+    least_of : (n : ℕ) → In n failed → Least (name_of old.caller (planned_at old.keys before.bios n))
+    least_of n there same =
+        let below : n < count_units tagged = member (λ m. m < count_units tagged) failed n all_below there in
+        let t = bio_at tagged n below in
+        let p : UnitPlace = place_of tagged n in
+        let named : named_at old.keys before.bios n ≡ named_unit old.keys t.0 p.unit =
+        ap (λ (o : Option NamedUnit). unwrap_or o no_unit) (unit_found old.keys tagged n t.0 below) ∙ ap (λ (x : TaggedBio). named_unit old.keys x p.unit) (get_or_at tagged p.bio t.0 t.0 t.1) in
+        let tags : t.0.tag ≡ was.bio.tag = sym (ap (λ (u : NamedUnit). u.tag) named) ∙ same in
+        let here : p.bio ≡ k = differ p.bio k t.0 (tagged_of was.bio) t.1 (tagged_at k was is was_at is_at) tags in
+        let marked : IsMarked (with_faults tagged (faults_of before.bios) failed) p.bio p.unit =
+        marked_by tagged (faults_of before.bios) failed n (subst (λ (j : ℕ). j < length (faults_of before.bios)) (sym here) (long k was is was_at is_at bio)) there in
+        let m : IsMarked (faults_of after.bios) k p.unit = subst (λ (l : List (Option ℕ)). IsMarked l k p.unit) (sym c.faults) (subst (λ (j : ℕ). IsMarked (with_faults tagged (faults_of before.bios) failed) j p.unit) here marked) in
+        let number_is : (named_at old.keys before.bios n).unit ≡ p.unit = ap (λ (u : NamedUnit). u.unit) named in
+        subst (λ (j : ℕ). (mark : ℕ) × (is.fault ≡ Some mark) × (mark ≤ j)) (sym number_is) (mark_told p.unit m)
+
+    marks_one : MarksFirst old.caller made was is
+    marks_one = record {
+      least = subst (λ l. Each Least l) (sym names) (each_map Least (λ n. name_of old.caller (planned_at old.keys before.bios n)) failed (each_in (λ n. Least (name_of old.caller (planned_at old.keys before.bios n))) failed least_of));
+      failed = of_fault is.fault refl;
+    }
+      where
+        of_source : (mark : ℕ) → is.fault ≡ Some mark → Source tagged failed k mark → (place : ℕ) × At (failed_names made) place (record { thread = old.caller; op = was.bio.tag; unit = mark })
+        of_source mark fault s =
+            let stop = stopped k was is was_at is_at mark fault bio s in
+            let u = unit_of k was is was_at is_at mark stop.within in
+            let same : s.n ≡ number k was is was_at is_at mark = same_number tagged (number k was is was_at is_at mark) s.n (s.bio_is ∙ sym (ap (λ (p : UnitPlace). p.bio) u.place)) (s.unit_is ∙ sym (ap (λ (p : UnitPlace). p.unit) u.place)) in
+            let at = in_place failed s.n s.there in (
+              at.0,
+              ap (λ (l : List UnitName). slice_get l at.0) names
+                  ∙ get_map (λ n. name_of old.caller (planned_at old.keys before.bios n)) failed at.0
+                  ∙ ap (option_map (λ n. name_of old.caller (planned_at old.keys before.bios n))) at.1
+                  ∙ ap (λ n. Some (name_of old.caller (planned_at old.keys before.bios n))) same
+                  ∙ ap (λ (v : PlannedUnit). Some (name_of old.caller v)) u.planned,
+            )
+
+        of_fault : (o : Option ℕ) → is.fault ≡ o → MatchOption o ⊤ (λ unit. (place : ℕ) × At (failed_names made) place (record { thread = old.caller; op = was.bio.tag; unit = unit }))
+        of_fault None fault = tt
+        of_fault (Some mark) fault = ⊎_elim
+            (λ (marked : get_or (faults_of before.bios) k None ≡ Some mark). absurd (none-some mark (sym (no_fault_at before.bios k none) ∙ marked)))
+            (λ (s : Source tagged failed k mark). of_source mark fault s)
+            (source tagged (faults_of before.bios) failed k mark (ap (λ (l : List (Option ℕ)). get_or l k None) (sym c.faults) ∙ mark_is k was is was_at is_at ∙ fault))
+
+  pub marks_all : TagsDiffer tagged → AllZip (MarksFirst old.caller made) before.bios after.bios
+  marks_all differ =
+      let one = length-map before.bios (λ (m : MarkedBio). tagged_of m.bio) in
+      let other = length-map after.bios (λ (m : MarkedBio). tagged_of m.bio) in
+      let both : length (tagged_bios after.bios) ≡ length (tagged_bios before.bios) = ap length c.bios in
+      zip_by_place (MarksFirst old.caller made) before.bios after.bios (omega (arith, one, other, both)) (λ k was is within was_at is_at. marks_one differ k was is was_at is_at within)
 
   pub becomes_all : AllZip (Becomes old new.seen) before.bios after.bios
   becomes_all =

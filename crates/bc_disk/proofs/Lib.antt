@@ -4,3 +4,4 @@ pub mod Marks
 pub mod Becoming
 pub mod Whole
 pub mod Staying
+pub mod ByBios

@@ -38,7 +38,7 @@ use Rattle.bc_disk.specs.Attempted.{by_way, IsCarriedItsWay, CarriesUnits, Carri
 use Rattle.bc_disk.proofs.Walk.{drop_all, length-units_of_request}
 use Rattle.bc_disk.proofs.Telling.{tells_none, tells_more}
 use Rattle.bc_disk.proofs.Marks.{all_stay, failed_within, failed_append, names_append, no_fault_at}
-use Rattle.bc_disk.proofs.Becoming.{becomes_all}
+use Rattle.bc_disk.proofs.Becoming.{becomes_all, marks_all}
 
 -- ---- one unit, over longer orders, and of the request as it was at first
 
@@ -263,6 +263,7 @@ carries_whole stay law Exact keys targets old new before after pieces p reaches 
       tells = f.tells;
       units = f.units;
       attempts = λ none differ. attempts_all old.access new.access before after f.tells.made f.units (f.marks [] differ (fresh old.access.keys old.access.caller before.bios none));
+      marks = λ none differ. marks_all old.access new.access before after f.tells.made f.units none differ;
       becomes = λ none. becomes_all old.access new.access before after f.tells.made f.units none;
     }
 

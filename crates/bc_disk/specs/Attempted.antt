@@ -13,7 +13,7 @@ use Rattle.bc_queue.specs.Carrying.{AccessFacts, IsCarried, IsLeft}
 use Rattle.bc_queue.specs.Laws.{TagsDiffer}
 use Rattle.bc_disk.specs.Pieces.{DeviceFacts}
 use Rattle.bc_disk.specs.Told.{Tells}
-use Rattle.bc_disk.specs.Becoming.{Becomes}
+use Rattle.bc_disk.specs.Becoming.{Becomes, MarksFirst}
 
 -- the same caller's way, where a unit goes so
 abbrev pub by_way : Via → AccessFacts → AccessFacts
@@ -40,8 +40,8 @@ abbrev pub HasNoFault : List MarkedBio → Type 0
 HasNoFault bios = Each (λ marked. marked.fault ≡ None) bios
 
 -- A request was carried out as a whole. Where none of its bios had met a fault and no two of them have one tag, the caller's
--- new entries are those of its units that are to be attempted, each once, in their order; and each bio has become what its
--- mark says.
+-- new entries are those of its units that are to be attempted, each once, in their order, and a bio's mark is the number of the
+-- first of its units whose entry failed. Each bio has become what its mark says.
 pub record CarriesWhole (old new : DeviceFacts) (before after : RequestParts) (pieces : List (List NamedUnit))
     : Type 0 where
   pub tells : Tells old new pieces
@@ -49,4 +49,6 @@ pub record CarriesWhole (old new : DeviceFacts) (before after : RequestParts) (p
   pub attempts : HasNoFault before.bios → TagsDiffer (tagged_bios before.bios)
       → Attempts old.access.caller []
       (planned_part old.access.keys before.bios 0 (count_units (tagged_bios before.bios))) tells.made
+  pub marks : HasNoFault before.bios → TagsDiffer (tagged_bios before.bios)
+      → AllZip (MarksFirst old.access.caller tells.made) before.bios after.bios
   pub becomes : HasNoFault before.bios → AllZip (Becomes old.access new.access.seen) before.bios after.bios

@@ -1,5 +1,5 @@
 -- What becomes of the bios of a request that was carried out: what a reply to each is read off.
-use Rattle.std.specs.Prelude.{◌≡◌, ℕ, ◌<◌, Bool, true, false, List, length, map, slice_get, Some, MatchOption}
+use Rattle.std.specs.Prelude.{◌≡◌, ℕ, ◌<◌, ◌≤◌, Bool, true, false, List, length, map, slice_get, Some, MatchOption, ⊤}
 use Rattle.std.specs.List.{AllZip, range_with_len}
 use Rattle.bc_base.specs.declared.place.Place.{Place}
 use Rattle.bc_base.specs.Lists.{At, Each, list_at}
@@ -16,7 +16,7 @@ use Rattle.bc_bio.specs.Requests.{tagged_of}
 use Rattle.bc_bio.specs.Windows.{named_unit}
 use Rattle.bc_medium.specs.declared.entry.Entry.{Entry}
 use Rattle.bc_medium.specs.Entries.{IsToldAt}
-use Rattle.bc_medium.specs.Growth.{Knows}
+use Rattle.bc_medium.specs.Growth.{Knows, failed_names}
 use Rattle.bc_medium.specs.KeyedDisk.{Sectors, UnitAnswer, Faulted, Written, Text}
 use Rattle.bc_medium.specs.LawfulOrders.{name_of}
 use Rattle.bc_medium.specs.Places.{shard_of}
@@ -97,3 +97,12 @@ pub record Becomes (facts : AccessFacts) (seen : List (List Entry)) (old new : M
   pub known : (base : ℕ → Sectors) → OpensWith facts base
       → MatchOption new.fault (KnowsDone facts seen base old.bio new.bio old.bio.access)
       (KnowsFault facts seen base old.bio)
+
+-- A bio's mark is the number of the first of its units whose entry failed: where an entry of its tag failed it has a mark,
+-- of that unit or one before, and the unit of a mark has an entry that failed.
+pub record MarksFirst (caller : ℕ) (made : List Entry) (old new : MarkedBio) : Type 0 where
+  pub least : Each
+      (λ name. name.op ≡ old.bio.tag → (mark : ℕ) × (new.fault ≡ Some mark) × (mark ≤ name.unit)) (failed_names made)
+  pub failed : MatchOption new.fault ⊤
+      (λ unit. (place : ℕ)
+      × At (failed_names made) place (record { thread = caller; op = old.bio.tag; unit = unit }))

@@ -1,14 +1,18 @@
--- Laws of requests that were carried out over devices: parts of one request are one part, and what became of a bio stays so.
-use Rattle.std.specs.Prelude.{ℕ, ◌+◌, List, ◌++◌}
+-- Laws of requests that were carried out over devices: parts of one request are one part, its units are those of its bios,
+-- and what became of a bio stays so.
+use Rattle.std.specs.Prelude.{◌≡◌, ℕ, ◌+◌, List, ◌++◌, flat_map}
 use Rattle.bc_base.specs.Lists.{list_at}
 use Rattle.bc_base.specs.Story.{StartsWith}
 use Rattle.bc_bio.specs.declared.marked_bio.MarkedBio.{MarkedBio}
-use Rattle.bc_bio.specs.Requests.{RequestParts}
+use Rattle.bc_key.specs.KeyData.{KeyData}
+use Rattle.bc_bio.specs.Requests.{RequestParts, tagged_bios}
+use Rattle.bc_bio.specs.Windows.{count_units}
 use Rattle.bc_medium.specs.declared.entry.Entry.{Entry}
 use Rattle.bc_medium.specs.declared.via.Via.{Via}
+use Rattle.bc_queue.specs.RequestUnits.{planned_part}
 use Rattle.bc_queue.specs.Carrying.{AccessFacts, GoesOn}
 use Rattle.bc_disk.specs.Attempted.{by_way, CarriesUnits}
-use Rattle.bc_disk.specs.Becoming.{Becomes}
+use Rattle.bc_disk.specs.Becoming.{Becomes, planned_units}
 
 -- two parts of a request, one after the other, are one part
 abbrev pub PartsAppend : Type 0
@@ -25,3 +29,10 @@ BecomesStays =
     (facts : AccessFacts) (old new : List (List Entry)) (was is : MarkedBio)
     → ((shard : ℕ) → StartsWith (list_at new shard) (list_at old shard)) → Becomes facts old was is
     → Becomes facts new was is
+
+-- the units of a request are those of its bios, one bio after the other
+abbrev pub PlannedByBios : Type 0
+PlannedByBios =
+    (keys : List KeyData) (bios : List MarkedBio)
+    → planned_part keys bios 0 (count_units (tagged_bios bios))
+    ≡ flat_map (λ marked. planned_units keys marked.bio) bios
