@@ -1,7 +1,7 @@
 """The script of `make N` and the line that it writes, by an independent model; and a comparison with the program.
 
     make_model.py [PROGRAM]     checks the model against what is worked out by hand and against the digests below, and the
-                                program's lines with them where there is one
+                                lines of the program, which is blkcrypt's own where no other one is named
     make_model.py N [SLOTS]     prints the script of `make N`
 
 The digest is computed twice: by the model of scripts (script_model.py), which reads the script's text and carries it out
@@ -98,15 +98,14 @@ def compared(program):
         found = {hashlib.sha256(image_of(count)).hexdigest(), digest_of(count, 1, 8), digest_of(count, 32, 3)}
         if found != {digest}:
             return fail(f"make {count}: the models' digests are {sorted(found)}, and the one noted here is {digest}")
-    for count, digest in DIGESTS.items() if program else []:
+    for count, digest in DIGESTS.items():
         for words in [[], ["--slots", "32", "--shards", "1"], ["--slots", "2", "--shards", "64"], []]:
             begun = time.monotonic()
             ran = subprocess.run([program, "make", str(count), *words], stdin=subprocess.DEVNULL, capture_output=True, timeout=300)
             if (ran.returncode, ran.stdout.decode(), ran.stderr) != (0, line_of(count, digest), b""):
                 return fail(f"make {count} {' '.join(words)} ends with {ran.returncode} after {time.monotonic() - begun:.1f} s, and"
                             f" writes {ran.stdout.decode()!r} and {ran.stderr.decode()!r}, not {line_of(count, digest)!r}")
-    program_too = "and the program's" if program else "alone, since the program has no make yet,"
-    print(f"make: the models' digests {program_too} are those noted, for N of {', '.join(map(str, DIGESTS))}")
+    print(f"make: the models' digests and the program's are those noted, for N of {', '.join(map(str, DIGESTS))}")
     return 0
 
 
@@ -114,7 +113,7 @@ def main(words):
     if words and words[0].isdecimal():
         sys.stdout.buffer.write(script_of(int(words[0]), int(words[1]) if len(words) > 1 else 1))
         return 0
-    return compared(words[0] if words else None)
+    return compared(words[0] if words else "crates/blkcrypt/out/blkcrypt")
 
 
 if __name__ == "__main__":
