@@ -11,7 +11,7 @@ use Rattle.bc_base.specs.Outside.{AppendsPrefix, HasCause, Rose}
 use Rattle.bc_base.specs.Folders.{Files, HasSame}
 use Rattle.bc_run.specs.declared.status.Status.{Status}
 use Rattle.bc_run.specs.declared.status.Status.TheVariants.{Ok, Usage, BadScript, ReadFault, WriteFault, FolderFault, ImageLength, TooLong, NoMemory, Missing}
-use Rattle.bc_run.specs.Words.{Begins, IsCommand, IsMakeCommand, IsSerialCommand, MakeOptions, NamesCommand, make_options_of}
+use Rattle.bc_run.specs.Words.{Begins, IsCommand, IsMakeCommand, MakeOptions, NamesCommand, make_options_of}
 use Rattle.bc_run.specs.Making.{IsMade, line_of}
 use Rattle.bc_script.specs.Generated.{generated}
 use Rattle.bc_run.specs.Statuses.{ChangesOnly, CommandRun, EndsBy, MakeEndsBy, SerialEndsBy, SinkEffects, sink_of}
