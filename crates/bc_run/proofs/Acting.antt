@@ -1,13 +1,13 @@
 -- One act more, and from the last act to what is known of the section.
-use Rattle.std.proofs.Common.{◌≡◌, ℕ, zero, suc, ◌+◌, ◌<◌, ◌≤◌, ◌⊎◌, inl, inr, Bool, true, false, cond, List, [], ◌∷◌, ◌++◌, length, map, append-nil, append_assoc, refl, sym, ap, subst, ◌∙◌, arith, Option, Some, None}
-use Rattle.std.specs.Prelude.{◌==◌, ◌&&◌, ◌||◌, nat_lt, filter, filter_map, flat_map, count_by, sum_by, IsTrue, option_and_then}
+use Rattle.std.proofs.Common.{◌≡◌, ℕ, ◌+◌, ◌<◌, ◌≤◌, Bool, true, false, cond, List, [], ◌∷◌, ◌++◌, map, append-nil, refl, sym, ap, subst, ◌∙◌, arith, Option, Some, None}
+use Rattle.std.specs.Prelude.{◌==◌, ◌&&◌, ◌||◌, nat_lt, filter, filter_map, flat_map, count_by, IsTrue, option_and_then}
 use Rattle.std.specs.List.{AllByRecursion, AllZip, enumerate_from, range_with_len, list_any}
 use Rattle.std.proofs.lemmas.Bool.{true≢false, ne_eqb}
 use Rattle.std.proofs.lemmas.Grind.{flat_map-append}
 use Rattle.std.proofs.lemmas.List.Sums.{sum_by-cons, sum_by-append}
 use Rattle.std.proofs.lemmas.Option.{none-some, same_Some}
 use Rattle.bc_base.specs.Lists.{list_at}
-use Rattle.bc_base.specs.Story.{own, StartsWith}
+use Rattle.bc_base.specs.Story.{own}
 use Rattle.bc_bio.specs.PlannedUnit.{PlannedUnit}
 use Rattle.bc_bio.specs.declared.context.Context.{Context}
 use Rattle.bc_bio.specs.declared.access.Access.TheVariants.{Read, Write}
@@ -21,7 +21,7 @@ use Rattle.bc_medium.specs.LawfulOrders.{name_of, is_attempted, is_earlier}
 use Rattle.bc_medium.specs.Growth.{lies_in, Grows, IsEntryOf, failed_names, attempted_by, Attempts}
 use Rattle.bc_profile.specs.declared.event.Event.{Event}
 use Rattle.bc_profile.specs.declared.noted.Noted.{Noted}
-use Rattle.bc_profile.specs.Story.{author_of, event_in, events_of}
+use Rattle.bc_profile.specs.Story.{author_of, event_in}
 use Rattle.bc_profile.specs.Laws.{ProgrammingsStay, LaterHoldsNameLater, HoldsBehindEvictions}
 use Rattle.bc_script.specs.declared.op.Op.{Op}
 use Rattle.bc_script.specs.declared.op.Op.TheVariants as ops
@@ -34,11 +34,11 @@ use Rattle.bc_report.specs.Evictions.{Eviction, evictions_in, is_evict, is_busy,
 use Rattle.bc_report.specs.Programmings.{InlineEntry, entry_by, passes, InOrder}
 use Rattle.bc_report.specs.Counts.{is_reset_of, touches_under, touches_any, is_reset, is_programming_of, is_idle}
 use Rattle.bc_compose.specs.SectionDone.{key_of_entry, inline_of, SaysItsWay, NamesOwn, own_events, Bounds, IsReply, SectionDone}
-use Rattle.bc_compose.specs.Ordered.{Pairs, Notes, GoesInline, Rises, HasHold, IsTakenOut, Held, Ordered}
+use Rattle.bc_compose.specs.Ordered.{Pairs, Notes, GoesInline, Rises, HasHold, IsTakenOut, Held}
 use Rattle.bc_compose.specs.Acted.{is_act, Acted}
 use Rattle.bc_run.proofs.Lists.{In, all_at, all_from_in, all_append, in_of_filter, in_of_map, in_of_filter_map, beside}
 use Rattle.bc_run.proofs.Growing.{begins_itself, grows_none, grows_append, After, attempts_append, attempts_fresh, named}
-use Rattle.bc_run.proofs.Carrying.{op_of_unit, not_earlier}
+use Rattle.bc_run.proofs.Carrying.{op_of_unit}
 use Rattle.bc_run.proofs.Ordering.{submitted, evicted, goes_on, all_pairs}
 
 -- ---- bounds add up

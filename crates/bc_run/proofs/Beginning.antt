@@ -14,7 +14,7 @@ use Rattle.bc_medium.specs.KeyedDisk.{image_sectors}
 use Rattle.bc_medium.specs.ShardOrder.{ShardData, opened}
 use Rattle.bc_medium.specs.Shards.{opened_with, orders_of}
 use Rattle.bc_script.specs.Script.{Script, IsScript, keys_of, sectors_in, max_ops, max_units}
-use Rattle.bc_run.specs.Keyslots.{KeyslotsData, max_events}
+use Rattle.bc_run.specs.Keyslots.{KeyslotsData}
 use Rattle.bc_run.specs.declared.open_hold.OpenHold.{OpenHold}
 use Rattle.bc_run.specs.Standing.{AreOpenings, Stands, HaveRoom, IsCourse, sectors_at, IsBegun}
 use Rattle.bc_run.proofs.Lists.{at_exists}

@@ -7,7 +7,6 @@ use Rattle.std.proofs.lemmas.Bool.{ne_eqb, and_left, and_right}
 use Rattle.std.proofs.lemmas.List.Sums.{sum_by-append, sum_by-cons}
 use Rattle.std.proofs.lemmas.List.{length-take}
 use Rattle.std.proofs.lemmas.Grind.{flat_map-append}
-use Rattle.std.proofs.lemmas.Option.{none-some}
 use Rattle.bc_base.specs.Lists.{list_at}
 use Rattle.bc_base.specs.Story.{StartsWith}
 use Rattle.bc_key.specs.KeyData.{KeyData}
@@ -24,7 +23,6 @@ use Rattle.bc_medium.specs.Growth.{Attempts, Knows, failed_names}
 use Rattle.bc_medium.specs.Outcome.{BioAnswer, Wrote, Bytes, Fault}
 use Rattle.bc_profile.specs.declared.noted.Noted.{Noted}
 use Rattle.bc_script.specs.declared.op.Op.{Op}
-use Rattle.bc_script.specs.declared.op.Op.TheVariants as ops
 use Rattle.bc_script.specs.Script.{Script, keys_of}
 use Rattle.bc_script.specs.Bios.{bio_of, refusal_of}
 use Rattle.bc_script.specs.Plan.{unit_at, units_of, units_of_bio}

@@ -19,7 +19,6 @@ use Rattle.bc_medium.specs.Entries.{caller_of, left_by, name_of_entry}
 use Rattle.bc_medium.specs.declared.via.Via.{Via}
 use Rattle.bc_medium.specs.declared.via.Via.TheVariants as vias
 use Rattle.bc_bio.specs.declared.context.Context.{Context}
-use Rattle.bc_profile.specs.declared.event.Event.{Event}
 use Rattle.bc_profile.specs.declared.uses.Use.TheVariants as made
 use Rattle.bc_profile.specs.SlotJournal.{opening, IsLawful}
 use Rattle.bc_profile.specs.OneCaller.{journal_of}

@@ -5,7 +5,7 @@ use Rattle.std.specs.Option.{option_map_or}
 use Rattle.std.specs.List.{AllByRecursion, last_or}
 use Rattle.std.proofs.lemmas.Bool.{true≢false}
 use Rattle.std.proofs.lemmas.Grind.{flat_map-append}
-use Rattle.bc_base.specs.Lists.{Each, list_at}
+use Rattle.bc_base.specs.Lists.{list_at}
 use Rattle.bc_key.specs.declared.keys.KeyNo.{KeyNo}
 use Rattle.bc_bio.specs.declared.extent.Extent.{Extent}
 use Rattle.bc_bio.specs.Chunks.{chunk_by, chunks_and, chunks_with, joins_last}
@@ -22,7 +22,7 @@ use Rattle.bc_report.specs.SerialRun.{DeviceUse, holds_for, inline_key, is_on, n
 use Rattle.bc_run.specs.declared.open_hold.OpenHold.{OpenHold}
 use Rattle.bc_run.specs.Standing.{CourseData}
 use Rattle.bc_run.specs.Uses.{MakesUses, NamesOwnUse, NamesUse, after_uses}
-use Rattle.bc_run.specs.InTurn.{InTurn, MayFollow, StillHolds, last_request, last_unit, open_after, part_of, under_hold}
+use Rattle.bc_run.specs.InTurn.{InTurn, MayFollow, StillHolds, last_request, last_unit, part_of, under_hold}
 
 -- ---- chunks with one more element
 

@@ -1,21 +1,19 @@
 -- A bio that is performed, unit by unit: how far it was gone over, and what each unit adds.
-use Rattle.std.proofs.Common.{◌≡◌, ℕ, ◌+◌, ◌<◌, ◌≤◌, Bool, true, false, cond, List, [], ◌∷◌, ◌++◌, length, append-nil, append_assoc, refl, sym, ap, subst, ◌∙◌, arith, Option, Some, None}
+use Rattle.std.proofs.Common.{◌≡◌, ℕ, ◌+◌, ◌<◌, ◌≤◌, Bool, true, false, cond, List, [], ◌∷◌, ◌++◌, append-nil, append_assoc, refl, sym, ap, subst, ◌∙◌, arith, Option, Some, None}
 use Rattle.std.specs.Prelude.{MatchOption}
 use Rattle.std.specs.List.{AllByRecursion}
 use Rattle.bc_bio.specs.declared.access.Access.{Access}
-use Rattle.bc_bio.specs.declared.access.Access.TheVariants.{Read, Write}
 use Rattle.bc_bio.specs.declared.extent.Extent.{Extent}
 use Rattle.bc_bio.specs.Extent.{context_after}
 use Rattle.bc_bio.specs.PlannedUnit.{PlannedUnit}
 use Rattle.bc_bio.specs.Windows.{TaggedBio}
 use Rattle.bc_medium.specs.declared.entry.Entry.{Entry}
 use Rattle.bc_medium.specs.declared.unit_at.UnitAt.{UnitAt}
-use Rattle.bc_medium.specs.KeyedDisk.{UnitAnswer, Faulted, Written, Text}
-use Rattle.bc_medium.specs.Entries.{name_of_entry}
+use Rattle.bc_medium.specs.KeyedDisk.{UnitAnswer, Faulted}
 use Rattle.bc_medium.specs.Growth.{IsEntryOf}
 use Rattle.bc_medium.specs.Laws.{KnownStays}
 use Rattle.bc_medium.specs.LawfulOrders.{name_of}
-use Rattle.bc_medium.specs.Outcome.{BioAnswer, Wrote, Bytes, is_fault}
+use Rattle.bc_medium.specs.Outcome.{BioAnswer, is_fault}
 use Rattle.bc_script.specs.declared.op.Op.{Op}
 use Rattle.bc_script.specs.Script.{IsScript, Script, keys_of}
 use Rattle.bc_script.specs.Bios.{bio_of}
@@ -26,12 +24,14 @@ use Rattle.bc_report.specs.Answers.{answer_of_outcome}
 use Rattle.bc_report.specs.Report.{IsAnswer}
 use Rattle.bc_run.specs.Sections.{DeviceData, CarriesOne, cost}
 use Rattle.bc_run.specs.declared.open_hold.OpenHold.{OpenHold}
-use Rattle.bc_run.specs.Standing.{AttemptsUnit, CourseData, IsPerformable, answer_of_read, answer_of_write, device_of, first_units}
+use Rattle.bc_run.specs.Standing.{AttemptsUnit, CourseData, IsPerformable, device_of, first_units}
 use Rattle.bc_run.specs.Keyslots.{stories_of}
 use Rattle.bc_run.specs.InTurn.{AttemptsOn, GoesOver, InTurn, MayFollow, PerformsBio, Reaches, part_of, via_in}
 use Rattle.bc_run.proofs.Growing.{named}
-use Rattle.bc_run.proofs.Attempting.{Made, NoneMet, OneMet, carries_bio, carries_fault, made_more, made_none, made_reached, met_fault, met_reached, met_read, met_wrote, none_met, units_more}
-use Rattle.bc_run.proofs.Turning.{bio_begins, in_turn_same, unit_attempted, unit_reached}
+use Rattle.bc_run.proofs.Attempting.{Made, NoneMet, OneMet, carries_bio, carries_fault, made_more, made_none, made_reached, met_fault, met_reached, units_more}
+use Rattle.bc_run.proofs.Following.{bio_begins}
+use Rattle.bc_run.proofs.Turning.{in_turn_same}
+use Rattle.bc_run.proofs.TurningUnits.{unit_attempted, unit_reached}
 
 -- in a window, the first n units of a bio come after what was gone over before it, and these entries after those before them
 abbrev pub TurnsTo : CourseData → CourseData → ℕ → Extent → ℕ → List Entry → Type 0

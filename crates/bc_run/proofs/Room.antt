@@ -1,15 +1,14 @@
 -- What uses of devices leave of the room of their journals.
-use Rattle.std.proofs.Common.{◌≡◌, ℕ, zero, suc, ◌-◌, ◌+◌, ◌*◌, ◌<◌, ◌≤◌, Bool, true, false, cond, List, [], ◌∷◌, ◌++◌, length, set, refl, sym, ap, subst, ◌∙◌, arith, Option, Some, None, length-append, append-nil}
+use Rattle.std.proofs.Common.{ℕ, zero, suc, ◌-◌, ◌+◌, ◌*◌, ◌≤◌, Bool, true, false, cond, List, [], ◌∷◌, ◌++◌, length, set, ap, arith, Option, Some, None, length-append, append-nil}
 use Rattle.std.specs.Prelude.{map, is_some}
 use Rattle.std.specs.List.{enumerate_from}
 use Rattle.std.specs.Option.{option_map_or}
 use Rattle.bc_base.specs.Lists.{list_at}
-use Rattle.bc_key.specs.declared.keys.KeyNo.{KeyNo}
 use Rattle.bc_profile.specs.declared.event.Event.{Event}
 use Rattle.bc_profile.specs.declared.event.Event.TheVariants as events
 use Rattle.bc_profile.specs.declared.uses.Use.{Use}
 use Rattle.bc_profile.specs.declared.uses.Use.TheVariants as uses
-use Rattle.bc_profile.specs.OneCaller.{events_of_hold, events_of_use, first_idle, journal_of, slot_for, slot_with}
+use Rattle.bc_profile.specs.OneCaller.{events_of_use, first_idle, slot_for, slot_with}
 use Rattle.bc_profile.specs.SlotJournal.{Slots, slots_after}
 use Rattle.bc_script.specs.Script.{Script}
 use Rattle.bc_compose.specs.Ordered.{slots_of}

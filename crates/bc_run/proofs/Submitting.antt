@@ -1,6 +1,6 @@
 -- What the end of a window tells: its bios were submitted.
-use Rattle.std.proofs.Common.{◌≡◌, ℕ, zero, suc, ◌+◌, ◌<◌, ◌≤◌, ◌⊎◌, inl, inr, Bool, true, false, cond, List, [], ◌∷◌, ◌++◌, length, map, drop, append_assoc, refl, sym, ap, subst, ◌∙◌, arith, Option, Some, None}
-use Rattle.std.specs.Prelude.{◌==◌, filter_map, slice_get, IfSome, IsSomeAnd, IsTrue, position, unwrap_or, option_and_then, option_map}
+use Rattle.std.proofs.Common.{◌≡◌, ℕ, zero, suc, ◌<◌, ◌≤◌, ◌⊎◌, inl, inr, Bool, true, false, cond, List, [], ◌∷◌, ◌++◌, length, map, drop, append_assoc, refl, sym, ap, subst, ◌∙◌, arith, Option, Some, None}
+use Rattle.std.specs.Prelude.{◌==◌, filter_map, slice_get, IfSome, IsSomeAnd, position, unwrap_or, option_and_then, option_map}
 use Rattle.std.specs.Option.{option_map_or}
 use Rattle.std.specs.List.{AllByRecursion, cons_option, enumerate_from, last_or}
 use Rattle.std.proofs.Math.Logic.{⊎_elim}
@@ -9,11 +9,9 @@ use Rattle.std.proofs.lemmas.Bool.{true≢false, cases_lt, eqb-true}
 use Rattle.std.proofs.lemmas.List.{map-append}
 use Rattle.std.proofs.lemmas.List.Quantifiers.{position-Some}
 use Rattle.std.proofs.lemmas.Option.{none-some, same_Some}
-use Rattle.bc_base.specs.Lists.{Each, list_at}
-use Rattle.bc_base.specs.Story.{StartsWith}
+use Rattle.bc_base.specs.Lists.{list_at}
 use Rattle.bc_key.specs.KeyData.{KeyData}
 use Rattle.bc_key.specs.KeyList.{key_at}
-use Rattle.bc_key.specs.declared.keys.KeyNo.{KeyNo}
 use Rattle.bc_bio.specs.declared.context.Context.{Context}
 use Rattle.bc_stack.specs.declared.target.Target.{Target}
 use Rattle.bc_stack.specs.Devices.{all_support, device_at, has_sector}
@@ -35,11 +33,11 @@ use Rattle.bc_script.specs.Bios.{is_inline}
 use Rattle.bc_script.specs.Way.{Way, plain, soft, inline, way_of}
 use Rattle.bc_script.specs.Windows as turns
 use Rattle.bc_report.specs.declared.answer.Answer.{Answer}
-use Rattle.bc_report.specs.Programmings.{InlineEntry, Programs, entry_by}
+use Rattle.bc_report.specs.Programmings.{Programs, entry_by}
 use Rattle.bc_report.specs.SerialRun.{DeviceUse, uses_of_turn}
 use Rattle.bc_report.specs.Ways.{way_in}
 use Rattle.bc_compose.specs.SectionDone.{NamesOwn, SaysItsWay, inline_of, key_of_entry}
-use Rattle.bc_compose.specs.Ordered.{GoesInline, HasHold, Held, Notes, slots_of}
+use Rattle.bc_compose.specs.Ordered.{HasHold, Held, Notes, slots_of}
 use Rattle.bc_run.specs.Keyslots.{stories_of}
 use Rattle.bc_run.specs.Sections.{Carries, journal_seen}
 use Rattle.bc_run.specs.Standing.{CourseData, HasBegun, device_of}

@@ -1,11 +1,11 @@
 -- Sections that follow one another.
-use Rattle.std.proofs.Common.{◌≡◌, ℕ, zero, suc, ◌+◌, ◌<◌, ◌≤◌, List, [], ◌∷◌, ◌++◌, length, map, take, drop, get_or, Bool, false, None, append-nil, refl, sym, ap, subst, ◌∙◌, arith, length-append}
+use Rattle.std.proofs.Common.{◌≡◌, ℕ, zero, suc, ◌+◌, ◌<◌, ◌≤◌, List, [], ◌∷◌, ◌++◌, length, map, take, drop, get_or, false, None, append-nil, refl, sym, ap, subst, ◌∙◌, arith, length-append}
 use Rattle.std.specs.Prelude.{◌==◌, filter, flat_map, IsTrue, sum_by}
 use Rattle.std.specs.List.{AllByRecursion, enumerate_from, list_any}
 use Rattle.std.proofs.Math.Path.{fun_ext}
 use Rattle.std.proofs.Math.Seq.{drop-append_seam}
 use Rattle.std.proofs.Math.Logic.{⊎_elim}
-use Rattle.std.proofs.lemmas.Bool.{eq-eqb, ne_eqb, cases_lt}
+use Rattle.std.proofs.lemmas.Bool.{ne_eqb, cases_lt}
 use Rattle.std.proofs.lemmas.List.{length-take}
 use Rattle.std.proofs.lemmas.List.Elements.{filter-append}
 use Rattle.std.proofs.lemmas.List.Sums.{sum_by-append, sum_by-cons}
@@ -32,7 +32,7 @@ use Rattle.bc_run.specs.Reached.{CarriesSection}
 use Rattle.bc_run.specs.Keyslots.{stories_of}
 use Rattle.bc_run.specs.Standing.{CourseData, HasBegun, device_of}
 use Rattle.bc_run.specs.Uses.{MakesUses, is_for}
-use Rattle.bc_run.proofs.Lists.{In, in_of_filter, in_of_flat_map, all_at, all_from_in, all_append, from_append, filter_none, filter_all, list_at_left, list_at_last, take_next, enumerate_push}
+use Rattle.bc_run.proofs.Lists.{In, in_of_filter, in_of_flat_map, all_at, all_from_in, all_append, from_append, filter_none, list_at_left, list_at_last, take_next, enumerate_push}
 use Rattle.bc_run.proofs.Growing.{begins_itself, begins_trans, made_by}
 use Rattle.bc_run.proofs.Sectioning.{begun_itself, same_section, list_at_each, length-each, same_by_places, told_on, events_at, events_are, told_are, told_same, told_own, told_front, told_below, not_of_sections}
 use Rattle.bc_run.proofs.Stories.{own_notes_other, story_at}

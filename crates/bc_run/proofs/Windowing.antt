@@ -1,8 +1,8 @@
 -- The bios of a window, performed one after the other.
-use Rattle.std.proofs.Common.{◌≡◌, ℕ, zero, suc, ◌+◌, ◌<◌, ◌≤◌, ◌⊎◌, inl, inr, Bool, true, false, cond, List, [], ◌∷◌, ◌++◌, length, map, drop, take, get_or, refl, sym, ap, subst, ◌∙◌, arith, Option, Some, None}
-use Rattle.std.specs.Prelude.{◌==◌, slice_get, slice_set, filter_map, IfSome, IsSomeAnd, unwrap_or, option_map}
+use Rattle.std.proofs.Common.{◌≡◌, ℕ, zero, suc, ◌+◌, ◌<◌, ◌≤◌, inl, inr, Bool, true, false, cond, List, [], ◌∷◌, ◌++◌, length, map, drop, take, get_or, refl, sym, ap, subst, ◌∙◌, arith, Option, Some, None}
+use Rattle.std.specs.Prelude.{slice_get, slice_set, IfSome, IsSomeAnd, unwrap_or, option_map}
 use Rattle.std.specs.Option.{option_map_or}
-use Rattle.std.specs.List.{AllByRecursion, AllZip, cons_option, enumerate_from, last_or, list_any}
+use Rattle.std.specs.List.{AllByRecursion, AllZip, cons_option, enumerate_from, last_or}
 use Rattle.std.proofs.Math.Logic.{⊎_elim}
 use Rattle.std.proofs.lemmas.Bool.{true≢false}
 use Rattle.std.proofs.lemmas.Option.{none-some, same_Some}
@@ -22,8 +22,7 @@ use Rattle.bc_script.specs.Bios.{bio_of}
 use Rattle.bc_report.specs.declared.answer.Answer.{Answer}
 use Rattle.bc_compose.specs.SectionDone.{IsReply}
 use Rattle.bc_compose.specs.Ordered.{Pairs}
-use Rattle.bc_run.specs.declared.open_hold.OpenHold.{OpenHold}
-use Rattle.bc_run.specs.Sections.{DeviceData, Carries, CarriesOne, cost, cost_in}
+use Rattle.bc_run.specs.Sections.{DeviceData, cost, cost_in}
 use Rattle.bc_run.specs.Standing.{CourseData, device_of}
 use Rattle.bc_run.specs.Uses.{tagged_bio, bios_of}
 use Rattle.bc_run.specs.Reached.{numbered, IsAcceptedBio, MayBePlugged, Settled}

@@ -157,8 +157,8 @@ pub record AttemptsOn (old new : CourseData) (u : PlannedUnit) (answer : UnitAns
   pub same : new ≡ record old { shards = new.shards }
   pub via : unit.entry.via ≡ via_in old u.context
 
--- Unit number n of a bio was gone over: it was reached, and then attempted where no unit before it met a fault. The number of
--- the unit that met one, if one did, was `before` and is `after`.
+-- Unit number n of a bio was gone over: it was reached, and then attempted where no unit before it met a fault. The
+-- number of the unit that met one, if one did, was `before` and is `after`.
 pub record GoesOver (old new : CourseData) (bio : Extent) (n : ℕ) (u : PlannedUnit) (answer : Bool → UnitAnswer)
     (before after : Option ℕ) : Type 0 where
   pub mid : CourseData

@@ -1,6 +1,6 @@
 -- What carrying out operations of a section does, as its thread's device shows it; and what sections do that follow one
 -- another.
-use Rattle.std.specs.Prelude.{◌≡◌, ℕ, ◌+◌, ◌<◌, ◌≤◌, Bool, IsTrue, List, [], ◌∷◌, ◌++◌, length, map, filter, flat_map, sum_by, ⊤}
+use Rattle.std.specs.Prelude.{◌≡◌, ℕ, ◌+◌, ◌<◌, ◌≤◌, Bool, IsTrue, List, [], ◌∷◌, ◌++◌, length, map, filter, flat_map, sum_by}
 use Rattle.std.specs.List.{enumerate_from, AllZip}
 use Rattle.bc_base.specs.Lists.{Each, EachFrom, list_at}
 use Rattle.bc_base.specs.Story.{StartsWith, IsFront}
@@ -16,7 +16,6 @@ use Rattle.bc_script.specs.declared.op.Op.TheVariants as ops
 use Rattle.bc_script.specs.Script.{Script, unit_count}
 use Rattle.bc_script.specs.Plan.{units_of}
 use Rattle.bc_report.specs.declared.answer.Answer.{Answer}
-use Rattle.bc_report.specs.Evictions.{IsEvictionAnswer}
 use Rattle.bc_report.specs.Report.{IsAnswer}
 use Rattle.bc_report.specs.SerialRun.{uses_of_section}
 use Rattle.bc_compose.specs.SectionDone.{SaysItsWay, IsReply, SectionDone}

@@ -2,7 +2,7 @@
 -- which hold an inline entry names.
 use Rattle.std.specs.Prelude.{◌≡◌, ℕ, ◌<◌, ◌++◌, Bool, true, false, List, [], ◌∷◌, length, map, filter_map, Option, Some, option_map, ⊤}
 use Rattle.std.specs.List.{list_any}
-use Rattle.bc_base.specs.Lists.{Each, list_at}
+use Rattle.bc_base.specs.Lists.{Each}
 use Rattle.bc_bio.specs.declared.context.Context.{Context}
 use Rattle.bc_bio.specs.Windows.{TaggedBio}
 use Rattle.bc_medium.specs.declared.entry.Entry.{Entry}

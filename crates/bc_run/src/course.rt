@@ -155,7 +155,8 @@ impl Course<'_> {
     pub(crate) fn runs_on(&self, last: &Option<Extent>, bio: &Extent) -> bool
         requires last { IfSome last.now (IsPlaced (keys_of self.now.script)) }
         requires bio { IsPlaced (keys_of self.now.script) bio.now }
-        ensures { result ≡ option_map_or (λ first. back_runs_on (keys_of self.now.script) first bio.now) last.now false }
+        ensures { result
+            ≡ option_map_or (λ first. back_runs_on (keys_of self.now.script) first bio.now) last.now false }
     {
         match last {
             Some(first) => back_runs_on(self.ciphers.keys(), first, bio),
@@ -163,8 +164,8 @@ impl Course<'_> {
         }
     }
 
-    /// Takes a hold for data unit number `unit` of a bio, where it goes inline and the hold that is open isn't of its key on its
-    /// device. What fits is one less.
+    /// Takes a hold for data unit number `unit` of a bio, where it goes inline and the hold that is open isn't of its key
+    /// on its device. What fits is one less.
     fn reach(&mut self, bio: &Extent, unit: u64)
         requires performable { IsPerformable self.old.script bio.now }
         requires unit { unit < bio.now.units }
@@ -290,8 +291,8 @@ impl Course<'_> {
         }
     }
 
-    /// Goes over data unit number `unit` of a bio: reaches it, and writes it where none before it met a fault. Returns the number
-    /// of the one that met a fault, if one did.
+    /// Goes over data unit number `unit` of a bio: reaches it, and writes it where none before it met a fault. Returns
+    /// the number of the one that met a fault, if one did.
     fn write_next(
         &mut self,
         alloc: Global,
@@ -366,8 +367,8 @@ impl Course<'_> {
         requires room { length room.old ≡ 131072 }
         requires spare { bio.now.units ≤ self.old.left }
         ensures room { length room.new ≡ length room.old }
-        ensures performs { PerformsBio self.old self.new op (Op.Read bio.now.context bio.now.sector bio.now.units) bio.now
-            result }
+        ensures performs { PerformsBio self.old self.new op
+            (Op.Read bio.now.context bio.now.sector bio.now.units) bio.now result }
     {
         order_laws();
         let size = bio.unit_bytes(self.ciphers.keys());
@@ -382,8 +383,8 @@ impl Course<'_> {
         }
     }
 
-    /// Goes over data unit number `unit` of a bio: reaches it, and reads it into its place where none before it met a fault. Returns
-    /// the number of the one that met a fault, if one did.
+    /// Goes over data unit number `unit` of a bio: reaches it, and reads it into its place where none before it met a
+    /// fault. Returns the number of the one that met a fault, if one did.
     fn read_next(
         &mut self,
         op: u32,

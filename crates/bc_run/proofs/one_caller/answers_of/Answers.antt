@@ -1,4 +1,4 @@
-use Rattle.std.proofs.Common.{◌≡◌, ◌<◌, List, length, map, get_or, subst, Some, None, Option}
+use Rattle.std.proofs.Common.{◌≡◌, ◌<◌, List, length, get_or, subst, None, Option}
 use Rattle.bc_report.specs.declared.answer.Answer.{Answer}
 use Rattle.bc_run.proofs.Windowing.{none_noted}
 use Rattle.bc_run.proofs.one_caller.answers_of.Goals as goal

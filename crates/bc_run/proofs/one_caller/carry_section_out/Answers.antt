@@ -1,4 +1,4 @@
-use Rattle.std.proofs.Common.{◌≡◌, ◌∙◌, ℕ, List, [], length, map, drop, sym, ap, subst, Some, None, arith}
+use Rattle.std.proofs.Common.{◌≡◌, ◌∙◌, ℕ, List, [], length, drop, sym, ap, subst, Some, None, arith}
 use Rattle.std.proofs.lemmas.List.{length-map}
 use Rattle.bc_base.specs.Lists.{list_at}
 use Rattle.bc_base.specs.Story.{own}

@@ -2,7 +2,7 @@ use Rattle.std.proofs.Common.{take, ◌≡◌, ◌≤◌, List, [], refl, sym, a
 use Rattle.std.specs.List.{AllByRecursion}
 use Rattle.std.specs.Prelude.{sum_by}
 use Rattle.bc_script.specs.declared.op.Op.{Op}
-use Rattle.bc_script.specs.Script.{Script, keys_of, IsOp, IsScriptSection, max_ops, max_threads}
+use Rattle.bc_script.specs.Script.{Script, IsScriptSection, max_ops, max_threads}
 use Rattle.bc_report.specs.declared.answer.Answer.{Answer}
 use Rattle.bc_run.specs.Sections.{SectionsDone, cost_of_section}
 use Rattle.bc_run.specs.Reached.{CarriesSection}

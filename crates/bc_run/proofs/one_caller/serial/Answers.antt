@@ -1,4 +1,4 @@
-use Rattle.std.proofs.Common.{◌≡◌, ◌∙◌, ℕ, ◌+◌, ◌*◌, ◌<◌, ◌≤◌, ◌^◌, List, [], length, map, Vec, Global, sym, ap, subst, arith}
+use Rattle.std.proofs.Common.{◌≡◌, ◌∙◌, ℕ, ◌*◌, ◌<◌, ◌≤◌, ◌^◌, List, length, map, Vec, Global, sym, ap, subst, arith}
 use Rattle.std.specs.Prelude.{sum_by}
 use Rattle.bc_base.specs.Lists.{AllAt, Each}
 use Rattle.bc_base.specs.RamStores.{HaveAllSectors, contents}
@@ -12,7 +12,7 @@ use Rattle.bc_report.specs.RunOf.{run_of}
 use Rattle.bc_report.specs.SerialRun.{IsSerial}
 use Rattle.bc_compose.specs.Closed.{line_of}
 use Rattle.bc_run.specs.Keyslots.{KeyslotsData}
-use Rattle.bc_run.specs.Sections.{SectionsDone, cost_of_section}
+use Rattle.bc_run.specs.Sections.{SectionsDone}
 use Rattle.bc_run.specs.Standing.{CourseData, HasBegun, device_of}
 use Rattle.bc_run.proofs.Lists.{map-map, each_of_map}
 use Rattle.bc_run.proofs.Beginning.{no_event}

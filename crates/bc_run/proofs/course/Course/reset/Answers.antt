@@ -1,4 +1,4 @@
-use Rattle.std.proofs.Common.{◌≡◌, ◌-◌, ◌≤◌, sym, ap, subst}
+use Rattle.std.proofs.Common.{◌-◌, ◌≤◌, sym, ap, subst}
 use Rattle.bc_profile.specs.declared.uses.Use.TheVariants as uses
 use Rattle.bc_run.specs.Keyslots.{KeyslotsData}
 use Rattle.bc_run.specs.Standing.{CourseData, HaveRoom}

@@ -1,14 +1,13 @@
-use Rattle.std.proofs.Common.{◌≡◌, ◌∙◌, ◌<◌, ◌≤◌, ℕ, List, refl, sym, ap, subst, arith, length, get_or, Some, None, take}
+use Rattle.std.proofs.Common.{◌≡◌, ◌∙◌, ◌<◌, ℕ, refl, sym, ap, subst, arith, length, get_or, Some, None, take}
 use Rattle.std.specs.Prelude.{slice_get}
 use Rattle.std.proofs.lemmas.Option.{slice_get_read}
 use Rattle.std.proofs.lemmas.List.{take_all}
-use Rattle.bc_script.specs.declared.op.Op.{Op}
 use Rattle.bc_script.specs.Script.{Script, IsScript, keys_of}
 use Rattle.bc_bio.specs.Conditions.{IsPlaced}
 use Rattle.bc_run.specs.Sections.{DeviceData}
 use Rattle.bc_run.specs.Reached.{MayBePlugged, Submitted, numbered}
 use Rattle.bc_run.specs.Standing.{CourseData, HasBegun, device_of}
-use Rattle.bc_run.specs.InTurn.{InTurn, InWindow}
+use Rattle.bc_run.specs.InTurn.{InWindow}
 use Rattle.bc_run.proofs.Lists.{all_read}
 use Rattle.bc_run.proofs.Turning.{window_begins}
 use Rattle.bc_run.proofs.Counting.{numbered_accepted}
