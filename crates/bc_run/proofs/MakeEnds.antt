@@ -11,7 +11,7 @@ use Rattle.bc_base.specs.Outside.{AppendsPrefix, HasCause, Rose}
 use Rattle.bc_base.specs.Folders.{Files, HasSame}
 use Rattle.bc_run.specs.declared.status.Status.{Status}
 use Rattle.bc_run.specs.declared.status.Status.TheVariants.{Ok, Usage, BadScript, ReadFault, WriteFault, FolderFault, ImageLength, TooLong, NoMemory, Missing}
-use Rattle.bc_run.specs.Words.{Begins, IsCommand, IsMakeCommand, MakeOptions, NamesCommand, make_options_of}
+use Rattle.bc_run.specs.Words.{Begins, IsCommand, IsMakeCommand, IsSerialCommand, MakeOptions, NamesCommand, make_options_of}
 use Rattle.bc_run.specs.Making.{IsMade, line_of}
 use Rattle.bc_script.specs.Generated.{generated}
 use Rattle.bc_run.specs.Statuses.{ChangesOnly, CommandRun, EndsBy, MakeEndsBy, SerialEndsBy, SinkEffects, sink_of}
@@ -168,3 +168,7 @@ not_read words e status h is = subst (MakeEndsBy words e) is h
 
 pub not_folder : (words : List (List ℕ)) (e : SinkEffects) (status : Status) → MakeEndsBy words e status → status ≡ FolderFault → ⊥
 not_folder words e status h is = subst (MakeEndsBy words e) is h
+
+-- words of `serial` end as a run of `serial` does
+pub serial_ends : (run : CommandRun) (status : Status) → EndsBy run status → IsSerialCommand run.words → SerialEndsBy run status
+serial_ends run status ended serial = ended.by_serial (λ make. not_both run.words make serial.named)
