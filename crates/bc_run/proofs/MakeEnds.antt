@@ -168,3 +168,7 @@ not_read words e status h is = subst (MakeEndsBy words e) is h
 
 pub not_folder : (words : List (List ℕ)) (e : SinkEffects) (status : Status) → MakeEndsBy words e status → status ≡ FolderFault → ⊥
 not_folder words e status h is = subst (MakeEndsBy words e) is h
+
+-- words of `serial` end as a run of `serial` does
+pub serial_ends : (run : CommandRun) (status : Status) → EndsBy run status → IsSerialCommand run.words → SerialEndsBy run status
+serial_ends run status ended serial = ended.by_serial (λ make. not_both run.words make serial.named)

@@ -1,7 +1,6 @@
 -- The numbers of `make` decide its line.
-use Rattle.std.proofs.Common.{◌≡◌, ◌∙◌, List, ℕ, sym, ap, subst}
+use Rattle.std.proofs.Common.{◌≡◌, ◌∙◌, sym, ap, subst}
 use Rattle.bc_script.specs.Script.{IsScript}
-use Rattle.bc_script.specs.Generated.{generated}
 use Rattle.bc_script.proofs.GeneratedRules.{is_script}
 use Rattle.bc_report.specs.SerialRun.{IsSerialRun}
 use Rattle.bc_compose.specs.Composed.{SerialRunsAgree}

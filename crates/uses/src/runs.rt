@@ -21,6 +21,7 @@ fn serial_words(alloc: Global) -> Result<Vec<String>, AllocError>
 }
 
 /// Carries out the script that a text says, over zeros. The sink holds the report.
+#[tactic(auto, using(bc_run::proofs::MakeEnds::serial_ends))]
 pub fn report_of<Rt>(rt: &Rt, alloc: Global, text: Vec<u8>) -> Result<MemSink, Status>
     ensures { IfOk result (λ sink. IsScriptAnd (IsCarriedOut (λ report left. sink.held ≡ report)
         (Some (bytes_of [])) (record { image = None; out = None; shards = 1 })) (Some text.items)) }

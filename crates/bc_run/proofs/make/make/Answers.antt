@@ -1,5 +1,3 @@
-use Rattle.std.proofs.Common.{◌≡◌}
-use Rattle.bc_run.specs.declared.status.Status.TheVariants as statuses
 use Rattle.bc_run.proofs.MakeEnds.{no_fault}
 use Rattle.bc_run.proofs.make.make.Goals as goal
 
