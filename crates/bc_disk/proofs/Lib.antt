@@ -5,3 +5,4 @@ pub mod Becoming
 pub mod Whole
 pub mod Staying
 pub mod ByBios
+pub mod ManyCallers
