@@ -19,7 +19,7 @@ if ! [ -x "$ciphers" ]; then
 fi
 scratch=$(mktemp -d) || exit 1
 trap 'rm -rf "$scratch"' EXIT
-truncate -s 67108864 "$scratch/disk"
+head -c 67108864 /dev/urandom >"$scratch/disk"
 printf 'blkcrypt 1\ndisk 16384\nfallback on\nend\n' >"$scratch/script"
 
 # timed NAME COMMAND...: microseconds of a command
@@ -53,7 +53,7 @@ while [ "$round" -lt "$rounds" ]; do
     done
     echo "$sum" >>"$scratch/alone"
     timed image "$program" serial --image "$scratch/disk" --out "$scratch/left"
-    timed copy cp "$scratch/disk" "$scratch/copied"
+    timed copy cp --reflink=never --sparse=never "$scratch/disk" "$scratch/copied"
     round=$((round + 1))
 done
 
