@@ -1,5 +1,5 @@
--- What the command `serial` carries out: the script that its text says, over the image that its words name or over zeros,
--- with the shards that they say.
+-- What the command `serial` carries out: the script that its text says, over the image that its words name or over
+-- zeros, with the shards that they say.
 use Rattle.std.specs.Prelude.{◌≡◌, ℕ, ◌*◌, ◌≤◌, List, length, replicate, Option, Some, MatchOption, IfSome, IsSomeAnd}
 use Rattle.bc_base.specs.declared.geometry.TheConstants.{BLOCK_BYTES}
 use Rattle.bc_base.specs.Folders.{Files, Has}
@@ -82,7 +82,8 @@ pub record IsScriptAnd (Holds : Script → Type 0) (text : Option (List ℕ)) : 
   pub holds : Holds script
 
 -- the script's disk has so many bytes, and the folder has another number of bytes under the name, within 64 MiB
-pub record HasAnotherLength (files : Option Files) (name : Option (List ℕ)) (script : Script) (want got : ℕ) : Type 0 where
+pub record HasAnotherLength (files : Option Files) (name : Option (List ℕ)) (script : Script) (want got : ℕ)
+    : Type 0 where
   pub want_is : want ≡ bytes_of_disk script
   pub image : List ℕ
   pub under : IsSomeAnd name (λ n. Has files n image)

@@ -1,10 +1,11 @@
--- The law of runs by one caller that were written: a script's text, the words and the files decide the text that the command
--- writes and the image that it leaves. And what words of the command mean, for examples.
+-- The law of runs by one caller that were written: a script's text, the words and the files decide the text that the
+-- command writes and the image that it leaves. And what words of the command mean, for examples.
 use Rattle.std.specs.Prelude.{◌≡◌, ℕ, List, [], ◌∷◌, Some, codes}
 use Rattle.bc_base.specs.Folders.{Files}
 use Rattle.clap.specs.Words.{fault_of}
 use Rattle.clap.specs.declared.error.kind.ErrorKind.{ErrorKind}
-use Rattle.bc_run.specs.Words.{AreMakeOptions, IsMakeCommand, IsSerialCommand, MakeOptions, Options, make_command, make_options_of, options_of, serial_command}
+use Rattle.bc_run.specs.Words.{AreMakeOptions, IsMakeCommand, IsSerialCommand, MakeOptions, Options, make_command}
+use Rattle.bc_run.specs.Words.{make_options_of, options_of, serial_command}
 use Rattle.bc_run.specs.Making.{IsMade}
 use Rattle.bc_run.specs.Command.{IsCarriedOut, IsScriptAnd}
 

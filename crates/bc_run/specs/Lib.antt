@@ -4,9 +4,3 @@ pub mod Making
 pub mod Statuses
 pub mod Laws
 pub mod Stages
-pub mod Uses
-pub mod Sections
-pub mod Keyslots
-pub mod Standing
-pub mod Reached
-pub mod InTurn

@@ -1,5 +1,5 @@
--- What the stages of `run` answer: the status that a stage ends with, what the options say as text, why a text was not read
--- as a script, and why there is no image. No public contract rests on belief in these.
+-- What the stages of `run` answer: the status that a stage ends with, what the options say as text, why a text was not
+-- read as a script, and why there is no image. No public contract rests on belief in these.
 use Rattle.std.specs.Prelude.{◌≡◌, ⊤, ℕ, List, Option, Result, Ok, Err, option_map, is_some, true, IsSomeAnd}
 use Rattle.std.specs.Borrow.{Bor}
 use Rattle.bc_base.specs.Folders.{Files, HasLonger, Lacks}

@@ -1,12 +1,14 @@
 -- How a run ends: the number of each status, and what each status says of the run.
-use Rattle.std.specs.Prelude.{◌≡◌, ◌⊎◌, ◌<◌, ⊤, ℕ, List, length, Option, IfSome, IsSomeAnd, MatchOption, is_some, true, codes}
+use Rattle.std.specs.Prelude.{◌≡◌, ◌⊎◌, ◌<◌, ⊤, ℕ, List, length, Option, IfSome, IsSomeAnd, MatchOption, is_some, true}
+use Rattle.std.specs.Prelude.{codes}
 use Rattle.std.specs.Io.KnownBytes.{Appends}
 use Rattle.bc_base.specs.Outside.{Rose, AppendsPrefix}
 use Rattle.bc_base.specs.Folders.{Files, Has, HasLonger, HasSame, HasSameBut, Lacks}
 use Rattle.bc_script.specs.declared.limits.TheConstants.{MAX_TEXT}
 use Rattle.bc_script.specs.Script.{Script}
 use Rattle.bc_run.specs.declared.status.Status.{Status}
-use Rattle.bc_run.specs.declared.status.Status.TheVariants.{Ok, Usage, BadScript, ReadFault, WriteFault, FolderFault, ImageLength, TooLong, NoMemory, Missing}
+use Rattle.bc_run.specs.declared.status.Status.TheVariants.{Ok, Usage, BadScript, ReadFault, WriteFault, FolderFault}
+use Rattle.bc_run.specs.declared.status.Status.TheVariants.{ImageLength, TooLong, NoMemory, Missing}
 use Rattle.bc_run.specs.declared.image.TheConstants.{MAX_IMAGE}
 use Rattle.bc_run.specs.Words.{Begins, IsMakeCommand, IsSerialCommand, Options, make_options_of, options_of}
 use Rattle.bc_run.specs.Making.{IsMade}
@@ -25,8 +27,8 @@ code_of (TooLong limit) = 7
 code_of NoMemory = 9
 code_of Missing = 10
 
--- what a run does to its folder and its sink: before and after the run the files that the folder has where it says so, its
--- faults, the faults of the sink, and the bytes that the sink holds where it says so
+-- what a run does to its folder and its sink: before and after the run the files that the folder has where it says so,
+-- its faults, the faults of the sink, and the bytes that the sink holds where it says so
 pub record Effects : Type 0 where
   pub files_before : Option Files
   pub files_after : Option Files
@@ -37,8 +39,8 @@ pub record Effects : Type 0 where
   pub held_before : Option (List ℕ)
   pub held_after : Option (List ℕ)
 
--- a run of a command as its caller sees it: the words, the text that was left in the source where it says so, the faults of
--- the source before and after the run, and what became of folder and sink
+-- a run of a command as its caller sees it: the words, the text that was left in the source where it says so, the
+-- faults of the source before and after the run, and what became of folder and sink
 pub record CommandRun : Type 0 where
   pub words : List (List ℕ)
   pub text : Option (List ℕ)
@@ -95,8 +97,8 @@ abbrev pub EndsByScript : CommandRun → Status → Type 0
 EndsByScript run status =
     IsScriptAnd (λ script. ScriptEndsBy run.effects (options_of run.words) script status) run.text
 
--- why a run of `serial` ended with this status, in the order of its stages; each row also says what the stages before it
--- passed
+-- why a run of `serial` ended with this status, in the order of its stages; each row also says what the stages before
+-- it passed
 abbrev pub SerialEndsBy : CommandRun → Status → Type 0
 SerialEndsBy run Usage = IsSerialCommand run.words → ⊥
 SerialEndsBy run NoMemory = Begins (codes "serial") run.words
@@ -134,7 +136,8 @@ MakeEndsBy words e Ok =
     IsMakeCommand words × IsMade (Appends e.held_before e.held_after) (make_options_of words)
 MakeEndsBy words e other = ⊥
 
--- why a run ended with this status: the first word says whose reason it is, and where it is no command's the words are refused
+-- why a run ended with this status: the first word says whose reason it is, and where it is no command's the words are
+-- refused
 pub record EndsBy (run : CommandRun) (status : Status) : Type 0 where
   pub by_make : Begins (codes "make") run.words → MakeEndsBy run.words (sink_of run.effects) status
   pub by_serial : (Begins (codes "make") run.words → ⊥) → SerialEndsBy run status

@@ -1,5 +1,5 @@
--- The words of a command as `clap` reads them: the simple commands that stand for `serial` and `make`, which words they take,
--- and the values that their options have then.
+-- The words of a command as `clap` reads them: the simple commands that stand for `serial` and `make`, which words they
+-- take, and the values that their options have then.
 use Rattle.std.specs.Prelude.{◌≡◌, ◌⊎◌, ◌≤◌, ℕ, true, List, [], Option, Some, codes, slice_get}
 use Rattle.std.specs.Option.{option_map_or}
 use Rattle.std.specs.Str.Parse.{IsNumeral, digits_value, without_leading_plus}
@@ -84,8 +84,8 @@ IsNumberIn least most value =
 abbrev pub IsShardCount : ℕ → Type 0
 IsShardCount n = (1 ≤ n) × (n ≤ 64)
 
--- what the words of `make` say: how many pairs of a write and a read each thread has, how many keyslots the device has, and
--- over how many shards the image lies
+-- what the words of `make` say: how many pairs of a write and a read each thread has, how many keyslots the device has,
+-- and over how many shards the image lies
 pub record MakeOptions : Type 0 where
   pub n : ℕ
   pub slots : ℕ

@@ -1,15 +1,17 @@
 //! The laws of runs by one caller.
 
 ghost use Rattle.std.specs.Prelude.{◌∷◌, [], codes, Some, None};
-ghost use Rattle.clap.specs.declared.error.kind.ErrorKind.TheVariants.{ArgumentConflict, DisplayHelp, InvalidValue, MissingRequiredArgument, UnknownArgument, ValueValidation};
+ghost use Rattle.clap.specs.declared.error.kind.ErrorKind.TheVariants.{ArgumentConflict, DisplayHelp, InvalidValue};
+ghost use Rattle.clap.specs.declared.error.kind.ErrorKind.TheVariants.{MissingRequiredArgument, UnknownArgument};
+ghost use Rattle.clap.specs.declared.error.kind.ErrorKind.TheVariants.{ValueValidation};
 ghost use Rattle.bc_compose.specs.Composed.{SerialRunsAgree};
 ghost use Rattle.bc_run.specs.Laws.{AreRefused, MadeLinesAgree, MakeMeans, MakeRefuses, Mean, WrittenTextsAgree};
 
 use bc_script::no_proper_prefix;
 
 /// Script, image and number of shards decide the whole report of [`serial`](crate::serial) and the image that it
-/// leaves; and words, files and the text of a script decide the report that [`run`](crate::run) writes where it answers `Ok`,
-/// and the image that it leaves.
+/// leaves; and words, files and the text of a script decide the report that [`run`](crate::run) writes where it answers
+/// `Ok`, and the image that it leaves.
 pub fn serial_runs_agree()
     ensures reports { SerialRunsAgree }
     ensures texts { WrittenTextsAgree }

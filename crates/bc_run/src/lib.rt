@@ -1,9 +1,9 @@
-//! Runs scripts: reads the words, the script and the image, carries it out, puts the image and writes the report. Or makes a
-//! script, carries that out, and writes the digest of the image that is left.
+//! Runs scripts: reads the words, the script and the image, carries it out, puts the image and writes the report. Or
+//! makes a script, carries that out, and writes the digest of the image that is left.
 //!
-//! [`run`] does all that the program does, over a source, a sink and a folder. [`serial`] carries a script out over an image,
-//! one operation after the other. What both promise is a lawful run: the report and the image are those of a keyed
-//! disk that performs single data units in the orders that the report lists, and fails where the script plans it.
+//! [`run`] does all that the program does, over a source, a sink and a folder. [`serial`] carries a script out over an
+//! image, one operation after the other. What both promise is a lawful run: the report and the image are those of a
+//! keyed disk that performs single data units in the orders that the report lists, and fails where the script plans it.
 //! [`serial_runs_agree`] is the law that there is one such report and one such image.
 //!
 //! A run over memory, whose sink then holds the report (`report_of` of the crate `uses`):
@@ -23,31 +23,13 @@ mod program;
 mod status;
 mod words;
 
-// a section's operations, and what carries them out
-mod course;
-mod device;
-mod direct;
-mod keyslots;
-mod open_hold;
-mod pending;
-mod read_answer;
-mod runs_on;
-mod slot_cipher;
-mod unit_access;
-
-// all sections, one after the other
-mod one_caller;
-mod opening;
-
-// the keys of a script, each with its cipher
-mod ciphers;
-
 // the laws of runs
 mod laws;
 
+pub use bc_section::Finished;
+pub use bc_serial::serial;
 pub use image::MAX_IMAGE;
 pub use laws::{make_lines_agree, make_words_by_example, serial_runs_agree, words_by_example};
-pub use one_caller::{Finished, serial};
 pub use program::run;
 pub use status::Status;
 

@@ -14,16 +14,17 @@ ghost use Rattle.bc_run.specs.Stages.{made_by, status_of};
 
 use crate::image::zeros;
 use crate::make_words::{Making, making_of_words};
-use crate::one_caller::Finished;
 use crate::program::{carry_out, write_text};
 use crate::status::Status;
 use bc_base::Sink;
 use bc_script::{Script, generate};
+use bc_section::Finished;
 use bc_text::{put_hex, put_number};
 use sha2::{Digest, Sha256};
 use std::alloc::{AllocError, Global};
 
-/// How many data units the script of `make` writes and reads for each of its number: sixteen threads write one and read it.
+/// How many data units the script of `make` writes and reads for each of its number: sixteen threads write one and read
+/// it.
 const UNITS: u64 = 32;
 
 /// Runs the command `make`, which the first word names, and returns how that ended.

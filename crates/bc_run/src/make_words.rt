@@ -4,7 +4,8 @@ ghost use Rattle.std.specs.Prelude.{true, false, ◌≡◌, ◌≤◌, ◌⊎◌
 ghost use Rattle.std.specs.String.{string_bytes};
 ghost use Rattle.std.specs.Option.{option_map_or};
 ghost use Rattle.clap.specs.Words.{FailsBy, HasMatchesOf, IsPlainArg, fault_of, first_value, found_of, rule_of};
-ghost use Rattle.bc_run.specs.Words.{IsNumberIn, Begins, IsMakeCommand, IsShardCount, AreMakeOptions, make_options_of, required_number, make_command, number_of};
+ghost use Rattle.bc_run.specs.Words.{IsNumberIn, Begins, IsMakeCommand, IsShardCount, AreMakeOptions, make_options_of};
+ghost use Rattle.bc_run.specs.Words.{required_number, make_command, number_of};
 ghost use Rattle.bc_run.specs.Stages.{made_by};
 
 use crate::status::Status;

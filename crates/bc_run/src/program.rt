@@ -1,6 +1,6 @@
 //! A run, from its words to its report, stage by stage.
 
-ghost use Rattle.std.specs.Prelude.{◌≡◌, ◌≢◌, ◌⊎◌, ◌≤◌, ◌<◌, map, codes, length, is_some, false, IfSome, IsOk, IfOk, IfErr, OnOk, Ok, Err, None};
+ghost use Rattle.std.specs.Prelude.{◌≡◌, ◌≢◌, ◌⊎◌, ◌≤◌, ◌<◌, map, codes, length, IfSome, IfOk, IfErr, OnOk, Ok, Err};
 ghost use Rattle.std.specs.String.{string_bytes};
 ghost use Rattle.std.specs.Io.KnownBytes.{Consumes, Appends, IsAtEnd, Keeps};
 ghost use Rattle.bc_base.specs.Outside.{Rose, HasCause, AppendsPrefix};
@@ -11,7 +11,8 @@ ghost use Rattle.bc_report.specs.LawfulRun.{LawfulRun};
 ghost use Rattle.bc_report.specs.RunOf.{run_of};
 ghost use Rattle.bc_report.specs.SerialRun.{IsSerial};
 ghost use Rattle.bc_script.specs.declared.limits.TheConstants.{MAX_TEXT};
-ghost use Rattle.bc_run.specs.Words.{Begins, IsCommand, IsMakeCommand, IsSerialCommand, IsShardCount, NamesCommand, options_of};
+ghost use Rattle.bc_run.specs.Words.{Begins, IsCommand, IsMakeCommand, IsSerialCommand, IsShardCount, NamesCommand};
+ghost use Rattle.bc_run.specs.Words.{options_of};
 ghost use Rattle.bc_run.specs.Command.{HasImageFor, IsTextOf, bytes_of_disk};
 ghost use Rattle.bc_run.specs.Statuses.{ChangesOnly, EndsBy, NamesFile, ScriptEndsBy, SerialEndsBy};
 ghost use Rattle.bc_run.specs.Stages.{status_of, IsNotRead, said_by};
@@ -20,21 +21,22 @@ ghost use Rattle.bc_script.specs.Script as specs;
 use crate::image::{opening_image, put_image};
 use crate::make::make;
 use crate::make_words::is_make;
-use crate::one_caller::{Finished, serial};
 use crate::status::Status;
 use crate::words::{Options, options_of_words};
 use bc_base::{Folder, ReadError, Sink, Source, read_all, write_all};
 use bc_report::{Report, print};
 use bc_script::limits::MAX_TEXT;
 use bc_script::{ParseError, Script, no_proper_prefix, parse};
+use bc_section::Finished;
+use bc_serial::serial;
 use std::alloc::{AllocError, Global};
 
 /// Runs the command that the words say, and returns how that ended. The words are those after the program's name.
 ///
 /// The first word is the command, `serial` or `make`; the others are read by clap.
 ///
-/// The options of `serial` are `--image NAME`, `--out NAME` and `--shards N` with N in 1 to 64. Its stages follow one another,
-/// and the first that refuses ends the run:
+/// The options of `serial` are `--image NAME`, `--out NAME` and `--shards N` with N in 1 to 64. Its stages follow one
+/// another, and the first that refuses ends the run:
 ///
 /// 1. The words are read.
 /// 2. The script is read from `script` to its end, at most 16 MiB.
@@ -48,9 +50,9 @@ use std::alloc::{AllocError, Global};
 ///
 /// Nothing is written before the image is put, and nothing is put before the whole report stands.
 ///
-/// `make N` with N in 1 to 2048 has the options `--slots N` with N in 1 to 32, else 1, and `--shards N` with N in 1 to 64,
-/// else 8. It generates a script (see [`generate`](bc_script::generate)), carries it out over zeros, and writes one line with
-/// the digest of the image that is left. It reads nothing from `script`, and gets and puts nothing.
+/// `make N` with N in 1 to 2048 has the options `--slots N` with N in 1 to 32, else 1, and `--shards N` with N in 1 to
+/// 64, else 8. It generates a script (see [`generate`](bc_script::generate)), carries it out over zeros, and writes one
+/// line with the digest of the image that is left. It reads nothing from `script`, and gets and puts nothing.
 ///
 /// `gate` isn't used by these commands.
 ///
@@ -60,15 +62,16 @@ use std::alloc::{AllocError, Global};
 /// - [`Status::ReadFault`]: the source failed, and its count of faults rose.
 /// - [`Status::TooLong`]: the source had more than 16 MiB, or the image has more than 64 MiB.
 /// - [`Status::BadScript`]: no script has the text; the line and the test that it fails first.
-/// - [`Status::FolderFault`]: the folder failed, and its count of faults rose. Where the image was being put, anything may
-///   stand under the name of `--out`.
+/// - [`Status::FolderFault`]: the folder failed, and its count of faults rose. Where the image was being put, anything
+///   may stand under the name of `--out`.
 /// - [`Status::Missing`]: the folder doesn't have the image.
 /// - [`Status::ImageLength`]: the image has another length than the script's disk.
-/// - [`Status::WriteFault`]: the sink failed, and its count of faults rose. It holds a prefix of the report, and the image
-///   is put; or a prefix of the line of `make`.
+/// - [`Status::WriteFault`]: the sink failed, and its count of faults rose. It holds a prefix of the report, and the
+///   image is put; or a prefix of the line of `make`.
 ///
-/// [`Status::NoMemory`] can come at each stage but the last, and before the line is written. After it, and after each other status but `Ok`, `WriteFault`
-/// and `FolderFault`, no name has changed; after each but `Ok` and `WriteFault`, nothing has been written.
+/// [`Status::NoMemory`] can come at each stage but the last, and before the line is written. After it, and after each
+/// other status but `Ok`, `WriteFault` and `FolderFault`, no name has changed; after each but `Ok` and `WriteFault`,
+/// nothing has been written.
 pub fn run<Rt, S: Source, K: Sink, F: Folder, G>(
     _rt: &Rt,
     alloc: Global,
@@ -115,8 +118,8 @@ pub fn run<Rt, S: Source, K: Sink, F: Folder, G>(
     ensures write_cause { HasCause (K.faults out.old) (K.faults out.new)
         (result ≡ Status.WriteFault) }
 
-    // A script within the limit is carried out over zeros or the image that the folder has, unless a count of faults rose or
-    // memory ran out.
+    // A script within the limit is carried out over zeros or the image that the folder has, unless a count of faults
+    // rose or memory ran out.
     ensures complete { IsSerialCommand (map string_bytes words.now)
         → IfSome (S.left script.old) (λ text. (asked : specs.Script) → IsTextOf text asked
         → HasImageFor (F.files folder.old) (options_of (map string_bytes words.now)).image asked

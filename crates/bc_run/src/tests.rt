@@ -12,7 +12,9 @@ const EMPTY_SCRIPT: &[u8] = b"blkcrypt 1\ndisk 1\nfallback on\nend\n";
 const EMPTY_REPORT: &[u8] = b"report 1\nshard 0 0\nend\n";
 
 const FIRST_SCRIPT: &[u8] = b"blkcrypt 1\ndisk 1\nfallback on\n\
-    key a aes-256-xts 512 8 000102030405060708090a0b0c0d0e0f101112131415161718191a1b1c1d1e1f202122232425262728292a2b2c2d2e2f303132333435363738393a3b3c3d3e3f\n\
+    key a aes-256-xts 512 8 \
+    000102030405060708090a0b0c0d0e0f101112131415161718191a1b1c1d1e1f\
+    202122232425262728292a2b2c2d2e2f303132333435363738393a3b3c3d3e3f\n\
     thread\nwrite a 0 1 0 fill 00\nread a 0 1 0\nend\n";
 
 const FIRST_REPORT: &[u8] = b"report 1\nthread 0\ndone\ndone fill 00\n\
@@ -146,27 +148,6 @@ fn a_sector_is_written_and_read_back(rt: HostRuntime) -> Result<(), Fail> {
     Ok(())
 }
 
-// What is read before any write, and under another number than it was written, is what AES-256-XTS deciphers there; the
-// digests are another implementation's. The last operations are on the disk's last sector, under the highest number.
-#[test]
-fn sectors_are_read_under_the_number_that_is_asked_for(rt: HostRuntime) -> Result<(), Fail> {
-    let script = b"blkcrypt 1\ndisk 2\nfallback on\n\
-        key a aes-256-xts 512 8 000102030405060708090a0b0c0d0e0f101112131415161718191a1b1c1d1e1f202122232425262728292a2b2c2d2e2f303132333435363738393a3b3c3d3e3f\n\
-        thread\nread a 3 1 0\nwrite a 0 1 5 fill 11\nwrite a 0 1 6 fill 22\nread a 0 1 6\nread a 0 1 5\n\
-        write a 15 1 ffffffffffffffff fill ff\nread a 15 1 ffffffffffffffff\nend\n";
-    let report = b"report 1\nthread 0\n\
-        done sha256 8bfa8bc34a69dff212fc6553071d0936943ecf0e92411204f02d39366068e397\n\
-        done\ndone\ndone fill 22\n\
-        done sha256 35efae02502582e76e54976fd34a9ef8e42793a8936af8a93c85255716116aff\n\
-        done\ndone fill ff\n\
-        shard 0 7\n0 0 0 soft\n0 1 0 soft\n0 2 0 soft\n0 3 0 soft\n0 4 0 soft\n0 5 0 soft\n0 6 0 soft\nend\n";
-    let mut out = sink(rt.alloc())?;
-    let status = status_of(&rt, &["serial"], script, 4096, &mut out)?;
-    assert_eq!(rt; status, Status::Ok);
-    assert_eq!(rt; out.held(), report.as_slice());
-    Ok(())
-}
-
 // ---- runs that don't
 
 #[test]
@@ -262,11 +243,15 @@ fn there_may_be_64_shards(rt: HostRuntime) -> Result<(), Fail> {
 // ---- images
 
 const WRITES: &[u8] = b"blkcrypt 1\ndisk 1\nfallback on\n\
-    key a aes-256-xts 512 8 000102030405060708090a0b0c0d0e0f101112131415161718191a1b1c1d1e1f202122232425262728292a2b2c2d2e2f303132333435363738393a3b3c3d3e3f\n\
+    key a aes-256-xts 512 8 \
+    000102030405060708090a0b0c0d0e0f101112131415161718191a1b1c1d1e1f\
+    202122232425262728292a2b2c2d2e2f303132333435363738393a3b3c3d3e3f\n\
     thread\nwrite a 0 1 0 fill 00\nend\n";
 
 const READS: &[u8] = b"blkcrypt 1\ndisk 1\nfallback on\n\
-    key a aes-256-xts 512 8 000102030405060708090a0b0c0d0e0f101112131415161718191a1b1c1d1e1f202122232425262728292a2b2c2d2e2f303132333435363738393a3b3c3d3e3f\n\
+    key a aes-256-xts 512 8 \
+    000102030405060708090a0b0c0d0e0f101112131415161718191a1b1c1d1e1f\
+    202122232425262728292a2b2c2d2e2f303132333435363738393a3b3c3d3e3f\n\
     thread\nread a 0 1 0\nread - 1 7 -\nend\n";
 
 #[test]
@@ -402,40 +387,6 @@ fn a_number_with_a_leading_zero_is_no_number(rt: HostRuntime) -> Result<(), Fail
     };
     assert_eq!(rt; status, Status::BadScript(error));
     assert_eq!(rt; out.held().len(), 0);
-    Ok(())
-}
-
-#[test]
-fn devices_elsewhere_are_refused(rt: HostRuntime) -> Result<(), Fail> {
-    for (text, line) in [
-        (
-            b"blkcrypt 1\ndisk 1\nfallback off\ndevice 1 1 1 1 0 8\nend\n",
-            4,
-        ),
-        (
-            b"blkcrypt 1\ndisk 1\nfallback off\ndevice 0 2 1 1 0 8\nend\n",
-            5,
-        ),
-    ] {
-        let mut out = sink(rt.alloc())?;
-        let status = status_of(&rt, &["serial"], text.as_slice(), 4096, &mut out)?;
-        let why = ScriptWhy::Device;
-        assert_eq!(rt; status, Status::BadScript(ScriptError { line, why }));
-        assert_eq!(rt; out.held().len(), 0);
-    }
-    Ok(())
-}
-
-#[test]
-fn a_device_without_uses_has_an_empty_journal(rt: HostRuntime) -> Result<(), Fail> {
-    let mut out = sink(rt.alloc())?;
-    let text = b"blkcrypt 1\ndisk 1\nfallback off\ndevice 0 1 32 1 0 8\nend\n";
-    let status = status_of(&rt, &["serial"], text.as_slice(), 4096, &mut out)?;
-    assert_eq!(rt; status, Status::Ok);
-    assert_eq!(rt;
-        out.held(),
-        b"report 1\nshard 0 0\ndevice 0 0\nend\n".as_slice()
-    );
     Ok(())
 }
 

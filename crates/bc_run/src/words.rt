@@ -3,8 +3,10 @@
 ghost use Rattle.std.specs.Prelude.{false, ◌≡◌, ◌⊎◌, ◌≢◌, IfSome, map, codes, IfOk, IfErr, OnOk};
 ghost use Rattle.std.specs.String.{string_bytes};
 ghost use Rattle.std.specs.Option.{option_map_or};
-ghost use Rattle.clap.specs.Words.{FailsBy, kind_of, HasMatchesOf, IsPlainArg, fault_of, first_value, found_of, rule_of};
-ghost use Rattle.bc_run.specs.Words.{IsNumberIn, Begins, IsSerialCommand, IsShardCount, options_of, option_rule, number_rule, serial_command, number_of};
+ghost use Rattle.clap.specs.Words.{FailsBy, kind_of, HasMatchesOf, IsPlainArg, fault_of, first_value, found_of};
+ghost use Rattle.clap.specs.Words.{rule_of};
+ghost use Rattle.bc_run.specs.Words.{IsNumberIn, Begins, IsSerialCommand, IsShardCount, options_of, option_rule};
+ghost use Rattle.bc_run.specs.Words.{number_rule, serial_command, number_of};
 ghost use Rattle.bc_run.specs.Stages.{said_by};
 
 use crate::status::Status;

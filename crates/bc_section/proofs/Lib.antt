@@ -1,0 +1,13 @@
+pub mod Lists
+pub mod Growing
+pub mod Carrying
+pub mod Ordering
+pub mod Using
+pub mod Left
+pub mod Acting
+pub mod Reaching
+pub mod Stepping
+pub mod Told
+pub mod Openings
+pub mod Equal
+pub mod Chunks

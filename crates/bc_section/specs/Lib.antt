@@ -1,0 +1,4 @@
+pub mod Uses
+pub mod Sections
+pub mod Reached
+pub mod Openings

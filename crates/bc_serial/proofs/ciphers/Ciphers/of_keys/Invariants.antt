@@ -1,0 +1,11 @@
+use Rattle.std.proofs.Common.{◌≡◌, ◌+◌, ◌≤◌, length, map, take}
+use Rattle.bc_modes.specs.UnitCipher.{parts_of}
+use Rattle.bc_serial.proofs.ciphers.Ciphers.of_keys.Given as goal
+
+abbrev pub invariant-loop-one : goal.invariant-loop-one
+invariant-loop-one l = record {
+  keys : l.keys.keys ≡ map (λ one. one.key) (take l.one-index l.named);
+  ciphers : l.ciphers.items ≡ map (λ one. parts_of one.key) (take l.one-index l.named);
+  count : length l.keys.keys ≡ l.one-index;
+  spare : length l.named ≤ l.keys.spare + l.one-index;
+}

@@ -1,0 +1,3 @@
+pub mod Keyslots
+pub mod Standing
+pub mod InTurn
