@@ -1,17 +1,23 @@
-//! The walk of a request over the devices of a disk.
+//! The block device: bios that go inline by its devices, by software or in the clear, for many callers.
 //!
-//! The data units of a request may lie on several devices. They are cut where the device changes, and each piece is carried
-//! out by its device under one hold of the request's key, piece after piece and in order. The walk is written once for all
-//! callers: what a caller's way to the devices is, it tells by [`DeviceAccess`]. The way of many callers is
-//! [`QueueDevices`], and [`submit_request`] goes over a request by it.
+//! A [`Disk`] has a queue of devices over a medium of shards. Each caller has a [`Pass`], and submits bios by it, one at a
+//! time or plugged; evicts keys and resets devices; and is answered along what it has seen of the orders and journals,
+//! whatever others do meanwhile. [`Disk::close`] gives the orders, the journals and the stores.
 #![tactic(auto)]
 
-mod device_access;
-mod laws;
-mod queue_devices;
-mod request_pieces;
+mod closing;
+mod dealing;
+mod disk;
+mod eviction;
+mod inline_way;
+mod opening;
+mod pass;
+mod soft_access;
+mod split;
+mod submission;
 
-pub use device_access::DeviceAccess;
-pub use laws::piece_laws;
-pub use queue_devices::{QueueDevices, submit_request};
-pub use request_pieces::carry_out_pieces;
+pub use closing::{Closed, Closing};
+pub use disk::{Disk, PlugBack};
+pub use eviction::Busy;
+pub use opening::{Opened, Quota};
+pub use pass::Pass;
