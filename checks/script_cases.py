@@ -1,6 +1,7 @@
 """Texts whose answer is worked out by hand from the rules of docs/SCRIPT.md, among them the examples of errors that stand
 there: the model is held against them first, and the program with all the others. The cases with devices are worked out from
 the rules of scripts, of carrying out and of reports; the program gets them where it knows devices."""
+import hashlib
 import pathlib
 import re
 
@@ -193,6 +194,8 @@ REFUSED = [
     ("the first of two wrong lines", ended("reset 0", "unplug"), 6, "number"),
 ]
 
+# 512 bytes of each of 1, 2, 3 and 4
+ONE_TO_FOUR = bytes(1 + place // 512 for place in range(2048))
 IN_A_PLUG = ["thread", "plug", "write a 0 2 0 fill 11", "write a 2 2 2 fill 22", "write a 4 1 4 fill 33", "unplug", "read - 2 1 -",
              "read a 4 1 4"]
 WRITE_AND_READ = ["thread", "write - 0 3 - fill 11", "read - 0 1 -", "read - 1 1 -", "read - 2 1 -"]
@@ -204,8 +207,10 @@ REPORTED = [
     ("a write and a read", ended("write a 0 1 0 fill 00", "read a 0 1 0"),
         ["report 1", "thread 0", "done", "done fill 00", "shard 0 2", "0 0 0 soft", "0 1 0 soft", "end"]),
     ("numbers of 4 bytes",
-        headed(f"key a aes-256-xts 512 4 {K1}", "thread", "write a 0 2 ffffffff fill 00", "write a 0 1 ffffffff fill 00"),
-        ["report 1", "thread 0", "refused dun", "done", "shard 0 1", "0 1 0 soft", "end"]),
+        headed(f"key a aes-256-xts 512 4 {K1}", "thread", "write a 0 2 ffffffff fill 00", "write a 0 1 ffffffff fill 00",
+               "write a 0 2 fffffffe fill 00", "read a 0 1 100000000"),
+        ["report 1", "thread 0", "refused dun", "done", "done", "refused dun", "shard 0 3", "0 1 0 soft", "0 2 0 soft",
+         "0 2 1 soft", "end"]),
     ("refusals, of which the first that applies is answered",
         text_of(["blkcrypt 1", "disk 32", "fallback on", H4096, "thread", "write - 0 256 - fill 00", "write - 1 256 - fill 00",
                  "write - 0 0 - fill 00", "read a 257 1 0", "read a 257 0 0", "end"]),
@@ -216,6 +221,55 @@ REPORTED = [
         ["report 1", "thread 0", "refused outside", "refused dun",
          # of the sectors' zeros under the numbers fe and ff
          None, "shard 0 2", "0 2 0 soft", "0 2 1 soft", "end"]),
+    ("no units before alignment, that before the disk's end, and that before the numbers",
+        text_of(["blkcrypt 1", "disk 32", "fallback on", H4096, "thread", "write - 1 256 - fill 00", "write - 0 0 - fill 00",
+                 "read a 257 1 0", "read a 256 1 0", "read a 257 0 0", "read - 4294967295 1 -", "read a 248 2 ffffffffffffffff",
+                 "read a 240 2 ffffffffffffffff", "write - 255 1 - fill 07", "read - 255 1 -", "end"]),
+        ["report 1", "thread 0", "refused outside", "refused empty", "refused misaligned", "refused outside", "refused empty",
+         "refused outside", "refused outside", "refused dun", "done", "done fill 07", "shard 0 2", "0 8 0 plain", "0 9 0 plain",
+         "end"]),
+    # the digests are of what Python's `cryptography` deciphers
+    ("another key, another number, or none",
+        headed(H512, B512, "thread", "write a 0 1 0 fill 11", "read b 0 1 0", "read a 0 1 1", "read - 0 1 -", "read a 0 1 0"),
+        ["report 1", "thread 0", "done", "done sha256 7b46aa5f40cd186b3fb152f00727d4d363c8c1aec364a2e441c21e0afd95fdda",
+         "done sha256 266dbb0bc655df095779b4d840903e53556280ddfca25da3a97b90590657725d",
+         "done sha256 f327fa609fd9b2a4fa018127d24863f156dc91633c59ab41e7b9481372e1607c", "done fill 11", "shard 0 5", "0 0 0 soft",
+         "0 1 0 soft", "0 2 0 soft", "0 3 0 plain", "0 4 0 soft", "end"]),
+    ("a read before any write, a read under the number before, and the last sector under the highest number",
+        text_of(["blkcrypt 1", "disk 2", "fallback on", H512, "thread", "read a 3 1 0", "write a 0 1 5 fill 11",
+                 "write a 0 1 6 fill 22", "read a 0 1 6", "read a 0 1 5", "write a 15 1 ffffffffffffffff fill ff",
+                 "read a 15 1 ffffffffffffffff", "end"]),
+        ["report 1", "thread 0", "done sha256 8bfa8bc34a69dff212fc6553071d0936943ecf0e92411204f02d39366068e397", "done", "done",
+         "done fill 22", "done sha256 35efae02502582e76e54976fd34a9ef8e42793a8936af8a93c85255716116aff", "done", "done fill ff",
+         "shard 0 7", *(f"0 {op} 0 soft" for op in range(7)), "end"]),
+    ("sixteen sections, each of which reads what the one before it wrote",
+        text_of(["blkcrypt 1", "disk 2", "fallback on", H512, *(line for thread in range(16) for line in (
+            "thread", f"write a {thread} 1 {thread:x} fill {thread:02x}", f"read a {(thread + 15) % 16} 1 {(thread + 15) % 16:x}")),
+            "end"]),
+        ["report 1", "thread 0", "done", None, *(line for thread in range(1, 16) for line in (
+            f"thread {thread}", "done", f"done fill {thread - 1:02x}")), "shard 0 32",
+         *(f"{thread} {op} 0 soft" for thread in range(16) for op in range(2)), "end"]),
+    ("bios of 256 units and of 255, up to the highest number but one",
+        text_of(["blkcrypt 1", "disk 32", "fallback on", H512, "thread", "write a 0 256 fffffffffffffeff fill 5a",
+                 "read a 0 256 fffffffffffffeff", "read a 1 255 fffffffffffffeff", "end"]),
+        ["report 1", "thread 0", "done", "done fill 5a", None, "shard 0 767",
+         *(f"0 {op} {unit} soft" for op, units in enumerate([256, 256, 255]) for unit in range(units)), "end"]),
+    ("bytes of each unit", headed(H512.replace(" 512 8 ", " 1024 16 "), "thread", f"write a 0 2 7 hex {ONE_TO_FOUR.hex()}",
+                                  "read a 2 1 8", "read a 0 1 7", "read a 0 2 7"),
+        ["report 1", "thread 0", "done", *(f"done sha256 {hashlib.sha256(part).hexdigest()}" for part in [
+            ONE_TO_FOUR[1024:], ONE_TO_FOUR[:1024], ONE_TO_FOUR]),
+         "shard 0 6", "0 0 0 soft", "0 0 1 soft", "0 1 0 soft", "0 2 0 soft", "0 3 0 soft", "0 3 1 soft", "end"]),
+    ("what submits no bio", ended("plug", "write a 0 0 0 fill 00", "write a 1 1 0 fill 01", "unplug", "evict a", "read a 1 1 0"),
+        ["report 1", "thread 0", "plug", "refused empty", "done", "unplug", "evicted", "done fill 01", "shard 0 2", "0 2 0 soft",
+         "0 5 0 soft", "end"]),
+    ("an empty plug, and a plug behind it", headed("thread", "plug", "unplug", "plug", "write - 0 1 - fill 05", "unplug"),
+        ["report 1", "thread 0", "plug", "unplug", "plug", "done", "unplug", "shard 0 1", "0 3 0 plain", "end"]),
+    ("an eviction in a plug, which stays open", ended("plug", "write a 0 1 0 fill 11", "evict a", "read a 0 1 0", "unplug"),
+        ["report 1", "thread 0", "plug", "done", "evicted", "done fill 11", "unplug", "shard 0 2", "0 1 0 soft", "0 3 0 soft", "end"]),
+    ("bios that are refused in a plug",
+        headed("thread", "plug", "write - 0 0 - fill 00", "write - 0 1 - fill 05", "read - 0 0 -", "read - 0 1 -", "unplug"),
+        ["report 1", "thread 0", "plug", "refused empty", "done", "refused empty", "done fill 05", "unplug", "shard 0 2",
+         "0 2 0 plain", "0 4 0 plain", "end"]),
     ("CBC-ESSIV", headed(ESSIV, "thread", "write e 3 1 ff fill 5a", "read e 3 1 ff"),
         ["report 1", "thread 0", "done", "done fill 5a", "shard 0 2", "0 0 0 soft", "0 1 0 soft", "end"]),
     ("every operation, over two sections",
@@ -314,6 +368,18 @@ SHARDED = [
     ("faults at places that the run doesn't reach", 2, over_blocks(4, "fault 0 2", "fault 1 2", "fault 1 65535", *BLOCKS),
         ["report 1", "thread 0", *["done"] * 4, "shard 0 2", "0 0 0 soft", "0 2 0 soft", "shard 1 2", "0 1 0 soft", "0 3 0 soft",
          "end"]),
+    ("faults on two of a bio's shards, and reads behind them", 2, text_of([
+        "blkcrypt 1", "disk 2", "fallback on", "fault 0 1", "fault 1 0", "thread", "write - 7 2 - fill 01", "read - 7 1 -",
+        "read - 8 1 -", "end"]),
+        ["report 1", "thread 0", "fault 1", "fault 0", "done fill 00", "shard 0 2", "0 0 0 plain", "0 1 0 plain", "shard 1 2",
+         "0 0 1 plain", "0 2 0 plain", "end"]),
+    *((f"65 blocks over {shards} shards", shards, text_of([
+        "blkcrypt 1", "disk 65", "fallback on", "thread", "write - 0 1 - fill 01", "write - 8 1 - fill 02", "write - 23 1 - fill 03",
+        "write - 24 1 - fill 04", "write - 512 1 - fill 05", "end"]),
+        ["report 1", "thread 0", *["done"] * 5, *lists, "end"]) for shards, lists in [
+            (3, ["shard 0 2", "0 0 0 plain", "0 3 0 plain", "shard 1 2", "0 1 0 plain", "0 4 0 plain", "shard 2 1", "0 2 0 plain"]),
+            (64, ["shard 0 2", "0 0 0 plain", "0 4 0 plain", "shard 1 1", "0 1 0 plain", "shard 2 1", "0 2 0 plain", "shard 3 1",
+                  "0 3 0 plain", *(f"shard {shard} 0" for shard in range(4, 64))])]),
     ("a fault on the last of 64 shards", 64,
         over_blocks(64, "fault 63 0", "thread", "read - 504 8 -", "read - 504 1 -", "read - 496 1 -"),
         ["report 1", "thread 0", "fault 0", "done fill 00", "done fill 00", *(f"shard {shard} 0" for shard in range(62)),
@@ -455,6 +521,8 @@ DEVICES_REPORTED = [
     ("fallback off and no device", 1, with_devices(1, "off", H512, "thread", "write a 0 1 0 fill 00", "write - 0 1 - fill 00",
                                                    "read a 8 1 0", "evict a"),
         ["report 1", "thread 0", "refused unsupported", "done", "refused outside", "evicted", "shard 0 1", "0 1 0 plain", "end"]),
+    ("a device of 32 slots and nothing else", 1, with_devices(1, "off", "device 0 1 32 1 0 8"),
+        ["report 1", "shard 0 0", "device 0 0", "end"]),
     ("fallback off and nothing else", 1, with_devices(1, "off"), ["report 1", "shard 0 0", "end"]),
     ("devices and nothing else", 1, with_devices(2, "off", *TWO), ["report 1", "shard 0 0", "device 0 0", "device 1 0", "end"]),
     ("a bio that is refused for another cause before it is unsupported", 1,
