@@ -6,9 +6,6 @@ use bc_report::print;
 use bc_script::parse;
 use std::test::Fail;
 
-/// A disk of one block without devices, with the fallback.
-const SOFT: &[u8] = b"blkcrypt 1\ndisk 1\nfallback on\n";
-
 /// A disk of one block and a device of two keyslots, without the fallback.
 const TWO_SLOTS: &[u8] = b"blkcrypt 1\ndisk 1\nfallback off\ndevice 0 1 2 1 0 8\n";
 
@@ -37,18 +34,6 @@ fn report_of(alloc: Global, head: &[u8], section: &[u8]) -> Result<Vec<u8>, Fail
     text.extend_from_slice(THREE_KEYS)?;
     text.extend_from_slice(section)?;
     report_of_text(alloc, text.as_slice())
-}
-
-#[test]
-fn a_unit_is_written_and_read_back(rt: HostRuntime) -> Result<(), Fail> {
-    let section = b"thread\nwrite a 0 1 0 fill 00\nread a 0 1 0\nread - 0 8 -\nend\n";
-    let wanted = b"report 1\nthread 0\ndone\ndone fill 00\n\
-        done sha256 b74378dae6a97622eb67b3fb18a44ce94e3918dea610ae055f24aefb895bcce6\n\
-        shard 0 10\n0 0 0 soft\n0 1 0 soft\n0 2 0 plain\n0 2 1 plain\n0 2 2 plain\n0 2 3 plain\n\
-        0 2 4 plain\n0 2 5 plain\n0 2 6 plain\n0 2 7 plain\nend\n";
-    let report = report_of(rt.alloc(), SOFT, section)?;
-    assert_eq!(rt; report.as_slice(), wanted.as_slice());
-    Ok(())
 }
 
 /// Keys of both modes and all four data unit sizes.
@@ -102,21 +87,6 @@ fn keys_of_each_mode_and_size(rt: HostRuntime) -> Result<(), Fail> {
     Ok(())
 }
 
-// The first unit of the second bio fails: its second unit isn't attempted, and the other bios of the plug go on.
-#[test]
-fn a_fault_in_a_plug_ends_its_own_bio_alone(rt: HostRuntime) -> Result<(), Fail> {
-    let section = b"fault 0 2\nthread\nplug\nwrite a 0 2 0 fill 11\nwrite a 2 2 2 fill 22\n\
-        write a 4 1 4 fill 33\nunplug\nread - 2 1 -\nread a 4 1 4\nend\n";
-    let wanted =
-        b"report 1\nthread 0\nplug\ndone\nfault 0\ndone\nunplug\ndone fill 00\ndone fill 33\n\
-        shard 0 6\n0 1 0 soft\n0 1 1 soft\n0 2 0 soft\n0 3 0 soft\n0 5 0 plain\n0 6 0 soft\nend\n";
-    let report = report_of(rt.alloc(), SOFT, section)?;
-    assert_eq!(rt; report.as_slice(), wanted.as_slice());
-    Ok(())
-}
-
-// ---- keyslots
-
 // No slot has the key: the one that has been idle for longest is programmed. Else nothing is.
 #[test]
 fn slots_are_programmed_as_they_became_idle(rt: HostRuntime) -> Result<(), Fail> {
@@ -136,50 +106,6 @@ fn slots_are_programmed_as_they_became_idle(rt: HostRuntime) -> Result<(), Fail>
             b"report 1\nthread 0\ndone\ndone\ndone\ndone\nshard 0 4\n0 0 0 inline 0 0 0\n\
             0 1 0 inline 0 1 2\n0 2 0 inline 0 0 0\n0 3 0 inline 0 1 5\ndevice 0 7\nprogram 0 0\nidle 0\n\
             program 1 1\nidle 1\nidle 0\nprogram 1 2\nidle 1\nend\n",
-        ),
-    ] {
-        let report = report_of(rt.alloc(), TWO_SLOTS, section)?;
-        assert_eq!(rt; report.as_slice(), wanted);
-    }
-    Ok(())
-}
-
-// A key that no slot has is evicted from none; a device that was reset has its slots programmed again.
-#[test]
-fn a_key_is_evicted_and_a_device_reset(rt: HostRuntime) -> Result<(), Fail> {
-    for (section, wanted) in [
-        (
-            b"thread\nwrite a 0 1 0 fill 00\nevict a\nevict b\nend\n".as_slice(),
-            b"report 1\nthread 0\ndone\nevicted\nevicted\nshard 0 1\n0 0 0 inline 0 0 0\ndevice 0 3\n\
-            program 0 0\nidle 0\nevict 0 0\nend\n"
-                .as_slice(),
-        ),
-        (
-            b"thread\nwrite a 0 1 0 fill 00\nreset 0\nread a 0 1 0\nend\n",
-            b"report 1\nthread 0\ndone\nreset\ndone fill 00\nshard 0 2\n0 0 0 inline 0 0 0\n\
-            0 2 0 inline 0 0 0\ndevice 0 4\nprogram 0 0\nidle 0\nreset\nidle 0\nend\n",
-        ),
-    ] {
-        let report = report_of(rt.alloc(), TWO_SLOTS, section)?;
-        assert_eq!(rt; report.as_slice(), wanted);
-    }
-    Ok(())
-}
-
-// Bios of a plug make one request, with one hold, where the numbers run on, and two where they don't.
-#[test]
-fn bios_of_a_plug_run_on_in_one_hold(rt: HostRuntime) -> Result<(), Fail> {
-    for (section, wanted) in [
-        (
-            b"thread\nplug\nwrite a 0 1 7 fill 01\nwrite a 1 1 8 fill 02\nunplug\nend\n".as_slice(),
-            b"report 1\nthread 0\nplug\ndone\ndone\nunplug\nshard 0 2\n0 1 0 inline 0 0 0\n\
-            0 2 0 inline 0 0 0\ndevice 0 2\nprogram 0 0\nidle 0\nend\n"
-                .as_slice(),
-        ),
-        (
-            b"thread\nplug\nwrite a 0 1 7 fill 01\nwrite a 1 1 9 fill 02\nunplug\nend\n",
-            b"report 1\nthread 0\nplug\ndone\ndone\nunplug\nshard 0 2\n0 1 0 inline 0 0 0\n\
-            0 2 0 inline 0 0 0\ndevice 0 3\nprogram 0 0\nidle 0\nidle 0\nend\n",
         ),
     ] {
         let report = report_of(rt.alloc(), TWO_SLOTS, section)?;
