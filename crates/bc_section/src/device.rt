@@ -154,6 +154,7 @@ pub fn carry_out<R, A: Drop, E, D: Device<R, A, E>>(
     ensures lent { D.lent device.new ≡ D.lent device.old }
     ensures done { OnOk result ((replies : List A) × (answers.new ≡ map (λ a. Some a) replies)
         × CarriesSection (D.facts device.old) (D.facts device.new) section.now (map D.answer replies)) }
+    ensures afforded { OnOk result (D.affords device.new []) }
 {
     let start = Snapshot::of(device);
     let mut pending = Pending::new();

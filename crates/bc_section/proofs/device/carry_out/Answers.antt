@@ -1,5 +1,7 @@
-use Rattle.std.proofs.Common.{sym, ap, subst, ◌∙◌, ℕ, List, [], refl, arith, length, false}
+use Rattle.std.proofs.Common.{sym, ap, subst, ◌∙◌, ◌≡◌, ℕ, List, [], ◌∷◌, refl, arith, length, drop, false}
+use Rattle.std.specs.List.{enumerate_from}
 use Rattle.std.proofs.lemmas.Option.{slice_get_read}
+use Rattle.bc_script.specs.declared.op.Op.{Op}
 use Rattle.bc_section.specs.Sections.{DeviceData}
 use Rattle.bc_section.specs.Uses.{bios_of}
 use Rattle.bc_section.specs.Reached.{Reached, WindowEnds, numbered, left_of, answers_by}
@@ -47,3 +49,15 @@ flush-requires-clause-ends g c =
     let bios = bios_of (numbered c.args.section.now c.loop-op.pending) in
     subst (WindowEnds start.script start.thread c.loop-op.plugged bios) (sym (steps_last start.script c.args.section.now))
     (ends_last start.script start.thread c.loop-op.plugged bios)
+
+pub returns-clause-afforded : goal.returns-clause-afforded
+returns-clause-afforded g c =
+    let section = c.args.section.now in
+    subst (λ (l : List (ℕ × Op)). g.D.Device.affords c.flush.new.device l) (none_left section) c.in_ok-flush.ensures.afforded
+  where
+    dropped : (ops : List Op) → drop (length ops) ops ≡ []
+    dropped [] = refl
+    dropped (x ∷ ops) = dropped ops
+
+    none_left : (ops : List Op) → left_of ops (length ops) [] ≡ []
+    none_left ops = ap (λ (l : List Op). enumerate_from (length ops) l) (dropped ops)
