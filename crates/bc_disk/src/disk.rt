@@ -23,8 +23,8 @@ use bc_stack::Stack;
 use std::alloc::Global;
 use std::marker::Model;
 
-/// A block device of many callers: the queue of its devices over the medium, which part of the disk each device has, and
-/// the ciphers of the keys that go by software, each expanded once.
+/// A block device of many callers: the queue of its devices over the medium, which part of the disk each device has,
+/// and the ciphers of the keys that go by software, each expanded once.
 #[derive(Drop)]
 pub struct Disk<S: Store> {
     pub(crate) alloc: Global,

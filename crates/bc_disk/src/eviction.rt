@@ -22,8 +22,8 @@ pub struct Busy {
 }
 
 impl<S: Store> Disk<S> {
-    /// Takes a key that goes inline out of the keyslots of every device, in ascending order: all are asked. Of another key
-    /// it changes nothing, as no slot has it.
+    /// Takes a key that goes inline out of the keyslots of every device, in ascending order: all are asked. Of
+    /// another key it changes nothing, as no slot has it.
     ///
     /// The pass is one of this disk, with a spare of an event on each device where the key goes inline.
     ///

@@ -17,8 +17,8 @@ use bc_stack::Stack;
 use std::marker::Model;
 use std::sync::Wait;
 
-/// The way of many callers to the devices of a disk: as bc_pieces' `QueueDevices`, but that it asks no room for events of
-/// a device on which no piece lies.
+/// The way of many callers to the devices of a disk: as bc_pieces' `QueueDevices`, but that it asks no room for
+/// events of a device on which no piece lies.
 #[derive(Drop)]
 pub(crate) struct InlineAccess<'a, S: Store, G: Gate> {
     queue: &'a Queue<S>,

@@ -1,8 +1,8 @@
 //! The block device: bios that go inline by its devices, by software or in the clear, for many callers.
 //!
-//! A [`Disk`] has a queue of devices over a medium of shards. Each caller has a [`Pass`], and submits bios by it, one at a
-//! time or plugged; evicts keys and resets devices; and is answered along what it has seen of the orders and journals,
-//! whatever others do meanwhile. [`Disk::close`] gives the orders, the journals and the stores.
+//! A [`Disk`] has a queue of devices over a medium of shards. Each caller has a [`Pass`], and submits bios by it, one
+//! at a time or plugged; evicts keys and resets devices; and is answered along what it has seen of the orders and
+//! journals, whatever others do meanwhile. [`Disk::close`] gives the orders, the journals and the stores.
 #![tactic(auto)]
 
 mod closing;

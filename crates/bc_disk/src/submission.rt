@@ -28,12 +28,12 @@ use bc_queue::{Plug, QueuePass, carry_out, request_laws};
 use std::sync::Wait;
 
 impl<S: Store> Disk<S> {
-    /// Submits a bio, whose units have their bytes, and answers it. A refused bio is given back as it was. The units of
-    /// another one are attempted in order, until one meets a fault: inline by the devices on which they lie, where every
-    /// device supports the context's key, else by software, or in the clear without a context.
+    /// Submits a bio, whose units have their bytes, and answers it. A refused bio is given back as it was. The units
+    /// of another one are attempted in order, until one meets a fault: inline by the devices on which they lie, where
+    /// every device supports the context's key, else by software, or in the clear without a context.
     ///
-    /// The pass is one of this disk, with a spare of an entry for each unit on its shard, and of two events for each piece
-    /// of an inline bio on its device.
+    /// The pass is one of this disk, with a spare of an entry for each unit on its shard, and of two events for each
+    /// piece of an inline bio on its device.
     pub fn submit<G: Gate, R: Wait>(&self, rt: &R, pass: &mut Pass<S>, bio: Bio, gate: &G) -> Reply
         requires pass { IsPassOf self.now pass.old }
         requires key { HasKey (keys_in self.now) bio.context }
@@ -61,11 +61,11 @@ impl<S: Store> Disk<S> {
         }
     }
 
-    /// Submits the bios of a plug, request after request, and empties it into replies, in order. They go behind those that
-    /// `out` has, which has room for them.
+    /// Submits the bios of a plug, request after request, and empties it into replies, in order. They go behind those
+    /// that `out` has, which has room for them.
     ///
-    /// The pass is one of this disk, which refuses none of the bios, with the spare that [`Disk::submit`] asks for each bio,
-    /// or less where bios run on.
+    /// The pass is one of this disk, which refuses none of the bios, with the spare that [`Disk::submit`] asks for
+    /// each bio, or less where bios run on.
     pub fn submit_plug<G: Gate, R: Wait>(
         &self,
         rt: &R,
