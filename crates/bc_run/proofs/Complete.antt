@@ -6,9 +6,9 @@ use Rattle.bc_script.specs.Script.{Script}
 use Rattle.bc_run.specs.declared.image.TheConstants.{MAX_IMAGE}
 use Rattle.bc_run.specs.declared.status.Status.{Status}
 use Rattle.bc_run.specs.declared.status.Status.TheVariants.{Ok, Usage, BadScript, ReadFault, WriteFault, FolderFault, ImageLength, TooLong, NoMemory, Missing}
-use Rattle.bc_run.specs.Words.{IsSerialCommand, options_of}
+use Rattle.bc_run.specs.Words.{IsScriptCommand, options_of}
 use Rattle.bc_run.specs.Command.{HasAnotherLength, HasImageFor, IsBadScript, IsTextOf, bytes_of_disk}
-use Rattle.bc_run.specs.Statuses.{CommandRun, SerialEndsBy, FolderRose, ReadRose, WriteRose}
+use Rattle.bc_run.specs.Statuses.{CommandRun, ScriptRunEndsBy, FolderRose, ReadRose, WriteRose}
 use Rattle.bc_run.proofs.Texts.{NoPrefix, one_script}
 
 -- the folder has the image, so it doesn't lack it
@@ -44,7 +44,7 @@ not_another (Some held) (Some n) script want got has another = go (held n) refl 
         let is : another.image ≡ x = cc in
         another.differ (another.want_is ∙ sym h.0 ∙ ap length (sym is) ∙ sym another.got_is)
 
-complete_of : NoPrefix → (run : CommandRun) (status : Status) → SerialEndsBy run status → IsSerialCommand run.words
+complete_of : NoPrefix → (run : CommandRun) (status : Status) → ScriptRunEndsBy run status → IsScriptCommand run.words
     → (text : List ℕ) → run.text ≡ Some text → (asked : Script) → IsTextOf text asked
     → HasImageFor run.effects.files_before (options_of run.words).image asked
     → (ReadRose run → ⊥) → (FolderRose run.effects → ⊥) → (WriteRose run.effects → ⊥)
@@ -74,7 +74,7 @@ complete_of law run (TooLong limit) e cmd text is asked accepted image no_read n
       (subst (λ l. IsSomeAnd (options_of run.words).image (λ n. HasLonger run.effects.files_before n l)) h.holds.0 h.holds.1))
 ]
 
-pub complete : NoPrefix → (run : CommandRun) (status : Status) → SerialEndsBy run status → IsSerialCommand run.words
+pub complete : NoPrefix → (run : CommandRun) (status : Status) → ScriptRunEndsBy run status → IsScriptCommand run.words
     → IfSome run.text (λ text. (asked : Script) → IsTextOf text asked
     → HasImageFor run.effects.files_before (options_of run.words).image asked
     → (ReadRose run → ⊥) → (FolderRose run.effects → ⊥) → (WriteRose run.effects → ⊥)

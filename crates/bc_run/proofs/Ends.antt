@@ -6,12 +6,12 @@ use Rattle.bc_script.specs.ScriptText.{Says}
 use Rattle.bc_script.specs.declared.limits.TheConstants.{MAX_TEXT}
 use Rattle.bc_run.specs.declared.status.Status.{Status}
 use Rattle.bc_run.specs.declared.status.Status.TheVariants.{Ok, Usage, BadScript, ReadFault, WriteFault, FolderFault, ImageLength, TooLong, NoMemory, Missing}
-use Rattle.bc_run.specs.Words.{IsSerialCommand, options_of}
+use Rattle.bc_run.specs.Words.{IsScriptCommand, options_of}
 use Rattle.bc_run.specs.Command.{IsTextOf}
-use Rattle.bc_run.specs.Statuses.{CommandRun, SerialEndsBy, ScriptEndsBy}
+use Rattle.bc_run.specs.Statuses.{CommandRun, ScriptRunEndsBy, ScriptEndsBy}
 
-pub ends_by : (run : CommandRun) (script : Script) (status : Status) → IsSerialCommand run.words → IfSome run.text (λ t. IsTextOf t script)
-    → ScriptEndsBy run.effects (options_of run.words) script status → SerialEndsBy run status
+pub ends_by : (run : CommandRun) (script : Script) (status : Status) → IsScriptCommand run.words → IfSome run.text (λ t. IsTextOf t script)
+    → ScriptEndsBy run.effects (options_of run.words) script status → ScriptRunEndsBy run status
 ends_by run script Ok cmd accepted h = (cmd, record { script = script; accepted = accepted; holds = h })
 ends_by run script Usage cmd accepted h = absurd h
 ends_by run script (BadScript e) cmd accepted h = absurd h

@@ -3,6 +3,7 @@ use Rattle.std.proofs.Common.{◌≡◌, ◌∙◌, ◌<◌, ◌++◌, ap, ℕ, 
 use Rattle.std.specs.List.{All, slice_index_or}
 use Rattle.std.specs.Str.{bytes_eq}
 use Rattle.std.specs.Prelude.{option_map, slice_get}
+use Rattle.std.specs.Option.{option_map_or}
 use Rattle.std.specs.Borrow.{Bor}
 use Rattle.std.proofs.lemmas.Slice.Eq.{bytes_eq-Decides}
 use Rattle.std.proofs.lemmas.List.Elements.{All-get_or, All-nil}
@@ -19,7 +20,7 @@ use Rattle.clap.specs.declared.parser.matches.ArgMatches.{ArgMatches}
 use Rattle.clap.specs.declared.parser.matches.Found.{Found}
 use Rattle.clap.specs.declared.parser.matches.MatchedArg.{MatchedArg}
 use Rattle.clap.proofs.CallerLemmas.{entry_by_id, same_rules_by_id, added_plain}
-use Rattle.bc_run.specs.Words.{IsNumberIn}
+use Rattle.bc_run.specs.Words.{Begins, IsNumberIn, NamesScript, names_threads}
 
 -- the first word, as text
 pub first_mapped : {X : Type 0} (f : X → List ℕ) (ws : List X) (w : X) (v : List ℕ) → slice_get ws 0 ≡ Some w → f w ≡ v → slice_get (map f ws) 0 ≡ Some v
@@ -28,6 +29,24 @@ first_mapped f (x ∷ xs) w v at is =
     let same : Some x ≡ Some w = at in
     let e : x ≡ w = cc in
     ap Some (ap f e ∙ is)
+
+-- it is no other text than it is
+pub first_is : {X : Type 0} (f : X → List ℕ) (ws : List X) (w : X) (v : List ℕ) → slice_get ws 0 ≡ Some w → slice_get (map f ws) 0 ≡ Some v → f w ≡ v
+first_is f ws w v at named =
+    let same : Some (f w) ≡ Some v = sym (first_mapped f ws w (f w) at refl) ∙ named in
+    cc
+
+-- whether it is `threads`
+pub serial_named : (words : List (List ℕ)) → Begins (codes "serial") words → false ≡ names_threads words
+serial_named words named = sym (ap (λ o. option_map_or (λ word. bytes_eq word (codes "threads")) o false) named)
+
+pub threads_named : (words : List (List ℕ)) → Begins (codes "threads") words → true ≡ names_threads words
+threads_named words named = sym (ap (λ o. option_map_or (λ word. bytes_eq word (codes "threads")) o false) named)
+
+pub none_named : (words : List (List ℕ)) → (Begins (codes "serial") words → ⊥) → (Begins (codes "threads") words → ⊥)
+    → NamesScript words → ⊥
+none_named words serial threads (inl named) = serial named
+none_named words serial threads (inr named) = threads named
 
 accepts_of : (a y : Arg) (q : ValueParser) (t : List ℕ) → SameRules a y → a.value_parser ≡ Some q
     → Accepts y.ignore_case (parser_of y) t → Accepts a.ignore_case q t

@@ -1,4 +1,4 @@
--- How a run ends by its first word: of `make`, of `serial`, or of no command.
+-- How a run ends by its first word: of `make`, of a command that carries a script out, or of no command.
 use Rattle.std.proofs.Common.{◌≡◌, ◌⊎◌, ◌∙◌, ℕ, List, Option, Some, None, codes, refl, sym, ap, inl, inr, subst, arith}
 use Rattle.std.specs.Prelude.{IfErr, OnOk, Result, Ok as ok, Err as err}
 use Rattle.bc_script.specs.Script.{Script}
@@ -11,19 +11,22 @@ use Rattle.bc_base.specs.Outside.{AppendsPrefix, HasCause, Rose}
 use Rattle.bc_base.specs.Folders.{Files, HasSame}
 use Rattle.bc_run.specs.declared.status.Status.{Status}
 use Rattle.bc_run.specs.declared.status.Status.TheVariants.{Ok, Usage, BadScript, ReadFault, WriteFault, FolderFault, ImageLength, TooLong, NoMemory, Missing}
-use Rattle.bc_run.specs.Words.{Begins, IsCommand, IsMakeCommand, IsSerialCommand, MakeOptions, NamesCommand, make_options_of}
+use Rattle.bc_run.specs.Words.{Begins, IsCommand, IsMakeCommand, IsScriptCommand, MakeOptions, NamesCommand, NamesScript, make_options_of}
 use Rattle.bc_run.specs.Making.{IsMade, line_of}
 use Rattle.bc_script.specs.Generated.{generated}
-use Rattle.bc_run.specs.Statuses.{ChangesOnly, CommandRun, EndsBy, MakeEndsBy, SerialEndsBy, SinkEffects, sink_of}
+use Rattle.bc_run.specs.Statuses.{ChangesOnly, CommandRun, EndsBy, MakeEndsBy, ScriptRunEndsBy, SinkEffects, sink_of}
 use Rattle.bc_run.specs.Command.{zeros_for}
 use Rattle.bc_run.specs.Stages.{status_of}
 
 -- ---- one word
 
 -- the first word is not both
-pub not_both : (words : List (List ℕ)) → Begins (codes "make") words → Begins (codes "serial") words → ⊥
-not_both words make serial =
+pub not_both : (words : List (List ℕ)) → Begins (codes "make") words → NamesScript words → ⊥
+not_both words make (inl serial) =
     let same : Some (codes "make") ≡ Some (codes "serial") = sym make ∙ serial in
+    cc
+not_both words make (inr threads) =
+    let same : Some (codes "make") ≡ Some (codes "threads") = sym make ∙ threads in
     cc
 
 -- ---- words that no command takes
@@ -41,18 +44,18 @@ make_usage words e (ImageLength want got) named h none = absurd h
 make_usage words e (TooLong limit) named h none = absurd h
 make_usage words e Missing named h none = absurd h
 
-pub serial_usage : (run : CommandRun) (status : Status) → SerialEndsBy run status
+pub script_usage : (run : CommandRun) (status : Status) → ScriptRunEndsBy run status
     → (IsCommand run.words → ⊥) → (status ≡ Usage) ⊎ ((status ≡ NoMemory) × NamesCommand run.words)
-serial_usage run Ok h none = absurd (none (inl h.0))
-serial_usage run Usage h none = inl refl
-serial_usage run NoMemory h none = inr (refl, inl h)
-serial_usage run WriteFault h none = absurd (none (inl h.0))
-serial_usage run (BadScript error) h none = absurd (none (inl h.0))
-serial_usage run ReadFault h none = absurd (none (inl h.0))
-serial_usage run FolderFault h none = absurd (none (inl h.0))
-serial_usage run (ImageLength want got) h none = absurd (none (inl h.0))
-serial_usage run (TooLong limit) h none = absurd (none (inl h.0))
-serial_usage run Missing h none = absurd (none (inl h.0))
+script_usage run Ok h none = absurd (none (inl h.0))
+script_usage run Usage h none = inl refl
+script_usage run NoMemory h none = inr (refl, inl h)
+script_usage run WriteFault h none = absurd (none (inl h.0))
+script_usage run (BadScript error) h none = absurd (none (inl h.0))
+script_usage run ReadFault h none = absurd (none (inl h.0))
+script_usage run FolderFault h none = absurd (none (inl h.0))
+script_usage run (ImageLength want got) h none = absurd (none (inl h.0))
+script_usage run (TooLong limit) h none = absurd (none (inl h.0))
+script_usage run Missing h none = absurd (none (inl h.0))
 
 -- ---- a run of `make` that met no fault
 
@@ -147,10 +150,10 @@ make_written {X = X} words e options made text result taken is line same whole p
 -- ---- how a run ended, by its first word
 
 pub by_make : (run : CommandRun) (status : Status) → Begins (codes "make") run.words → MakeEndsBy run.words (sink_of run.effects) status → EndsBy run status
-by_make run status named h = record { by_make = λ n. h; by_serial = λ other. absurd (other named) }
+by_make run status named h = record { by_make = λ n. h; by_script = λ other. absurd (other named) }
 
-pub by_serial : (run : CommandRun) (status : Status) → (Begins (codes "make") run.words → ⊥) → SerialEndsBy run status → EndsBy run status
-by_serial run status other h = record { by_make = λ named. absurd (other named); by_serial = λ n. h }
+pub by_script : (run : CommandRun) (status : Status) → (Begins (codes "make") run.words → ⊥) → ScriptRunEndsBy run status → EndsBy run status
+by_script run status other h = record { by_make = λ named. absurd (other named); by_script = λ n. h }
 
 -- where a run ended well no count rose for it
 pub no_fault : (before now : ℕ) (Fails : Type 0) → HasCause before now Fails → HasCause before now (Ok ≡ WriteFault)
@@ -169,6 +172,6 @@ not_read words e status h is = subst (MakeEndsBy words e) is h
 pub not_folder : (words : List (List ℕ)) (e : SinkEffects) (status : Status) → MakeEndsBy words e status → status ≡ FolderFault → ⊥
 not_folder words e status h is = subst (MakeEndsBy words e) is h
 
--- words of `serial` end as a run of `serial` does
-pub serial_ends : (run : CommandRun) (status : Status) → EndsBy run status → IsSerialCommand run.words → SerialEndsBy run status
-serial_ends run status ended serial = ended.by_serial (λ make. not_both run.words make serial.named)
+-- words of `serial` or `threads` end as a run of those does
+pub script_ends : (run : CommandRun) (status : Status) → EndsBy run status → IsScriptCommand run.words → ScriptRunEndsBy run status
+script_ends run status ended serial = ended.by_script (λ make. not_both run.words make serial.named)

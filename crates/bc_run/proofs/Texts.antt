@@ -25,7 +25,7 @@ one_image files (Some n) script a b p q =
     cc
 
 pub written_texts_agree : SerialRunsAgree → NoPrefix → WrittenTextsAgree
-written_texts_agree agree no_prefix files options text one other one_left other_left p q =
+written_texts_agree agree no_prefix files options text one other one_left other_left in_turn p q =
     let scripts = one_script no_prefix text p.script q.script p.accepted q.accepted in
     let a = p.holds in
     let b = q.holds in
@@ -35,7 +35,7 @@ written_texts_agree agree no_prefix files options text one other one_left other_
     let first : IsSerialRun q.script b.carried_out.image options.shards a.report a.left =
     subst (λ i. IsSerialRun q.script i options.shards a.report a.left) image
     (subst (λ s. IsSerialRun s a.carried_out.image options.shards a.report a.left) scripts
-    (record { lawful = a.carried_out.lawful; serial = a.carried_out.serial })) in
+    (a.carried_out.one_caller in_turn)) in
     let same = agree q.script b.carried_out.image options.shards a.report b.report a.left b.left q.accepted.says.valid first
-    (record { lawful = b.carried_out.lawful; serial = b.carried_out.serial }) in
+    (b.carried_out.one_caller in_turn) in
     (sym a.done.0 ∙ ap report_text same.0 ∙ b.done.0, sym a.done.1 ∙ same.1 ∙ b.done.1)

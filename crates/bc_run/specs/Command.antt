@@ -1,6 +1,7 @@
--- What the command `serial` carries out: the script that its text says, over the image that its words name or over
--- zeros, with the shards that they say.
-use Rattle.std.specs.Prelude.{◌≡◌, ℕ, ◌*◌, ◌≤◌, List, length, replicate, Option, Some, MatchOption, IfSome, IsSomeAnd}
+-- What the commands `serial` and `threads` carry out: the script that a text says, over the image that the words name
+-- or over zeros, with the shards that they say.
+use Rattle.std.specs.Prelude.{◌≡◌, ℕ, false, ◌*◌, ◌≤◌, List, length, replicate, Option, Some, MatchOption, IfSome}
+use Rattle.std.specs.Prelude.{IsSomeAnd}
 use Rattle.bc_base.specs.declared.geometry.TheConstants.{BLOCK_BYTES}
 use Rattle.bc_base.specs.Folders.{Files, Has}
 use Rattle.bc_script.specs.declared.limits.TheConstants.{MAX_TEXT}
@@ -10,9 +11,8 @@ use Rattle.bc_script.specs.ScriptText.{Says, NoScriptHas}
 use Rattle.bc_script.specs.ScriptErrors.{error_of}
 use Rattle.bc_report.specs.Report.{Report}
 use Rattle.bc_report.specs.ReportText.{report_text}
-use Rattle.bc_report.specs.LawfulRun.{LawfulRun}
-use Rattle.bc_report.specs.RunOf.{run_of}
-use Rattle.bc_report.specs.SerialRun.{IsSerial}
+use Rattle.bc_report.specs.LawfulRun.{LawfulButHolders}
+use Rattle.bc_report.specs.SerialRun.{IsSerialRun}
 use Rattle.bc_run.specs.Words.{Options, IsShardCount}
 use Rattle.bc_run.specs.declared.image.TheConstants.{MAX_IMAGE}
 
@@ -58,14 +58,20 @@ HasImageFor files name script = IfSome name (λ n.
     IsSomeAnd files (λ held. IsSomeAnd (held n) (λ image.
     (length image ≡ bytes_of_disk script) × (length image ≤ MAX_IMAGE))))
 
--- a report and the image that is left are those of a lawful run of the script by these options, section after section
+-- where the sections weren't carried out at once, the run is lawful whole and goes section after section
+abbrev pub IsOneCallers : Options → Script → List ℕ → Report → List ℕ → Type 0
+IsOneCallers options script image report left =
+    options.at_once ≡ false → IsSerialRun script image options.shards report left
+
+-- a report and the image that is left are those of a run of the script by these options, lawful in all that every order
+-- of the sections' operations keeps
 pub record IsRunOf (files : Option Files) (options : Options) (script : Script) (report : Report) (left : List ℕ)
     : Type 0 where
   pub image : List ℕ
   pub begins : IsImageFor files options.image script image
   pub shards : IsShardCount options.shards
-  pub lawful : LawfulRun script image options.shards report left
-  pub serial : IsSerial script (run_of script image report) report
+  pub lawful : LawfulButHolders script image options.shards report left
+  pub one_caller : IsOneCallers options script image report left
 
 -- this was done with the text of the report of such a run and with the image that is left
 pub record IsCarriedOut (Done : List ℕ → List ℕ → Type 0) (files : Option Files) (options : Options) (script : Script)

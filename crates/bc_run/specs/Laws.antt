@@ -1,11 +1,11 @@
--- The law of runs by one caller that were written: a script's text, the words and the files decide the text that the
--- command writes and the image that it leaves. And what words of the command mean, for examples.
-use Rattle.std.specs.Prelude.{◌≡◌, ℕ, List, [], ◌∷◌, Some, codes}
+-- The law of runs by one caller that were written: a script's text, the words and the files decide the text that
+-- `serial` writes and the image that it leaves. And what words of a command mean, for examples.
+use Rattle.std.specs.Prelude.{◌≡◌, ℕ, false, List, [], ◌∷◌, Some, codes}
 use Rattle.bc_base.specs.Folders.{Files}
 use Rattle.clap.specs.Words.{fault_of}
 use Rattle.clap.specs.declared.error.kind.ErrorKind.{ErrorKind}
-use Rattle.bc_run.specs.Words.{AreMakeOptions, IsMakeCommand, IsSerialCommand, MakeOptions, Options, make_command}
-use Rattle.bc_run.specs.Words.{make_options_of, options_of, serial_command}
+use Rattle.bc_run.specs.Words.{AreMakeOptions, IsMakeCommand, IsScriptCommand, MakeOptions, Options, make_command}
+use Rattle.bc_run.specs.Words.{make_options_of, options_of, script_command}
 use Rattle.bc_run.specs.Making.{IsMade}
 use Rattle.bc_run.specs.Command.{IsCarriedOut, IsScriptAnd}
 
@@ -14,25 +14,30 @@ abbrev pub IsDone : Files → Options → List ℕ → List ℕ → List ℕ →
 IsDone files options text report left =
     IsScriptAnd (IsCarriedOut (λ written after. (written ≡ report) × (after ≡ left)) (Some files) options) (Some text)
 
--- where a text is carried out twice over the same files, one text is written and one image left
+-- where a text is carried out twice over the same files, section after section, one text is written and one image left
 abbrev pub WrittenTextsAgree : Type 0
 WrittenTextsAgree =
     (files : Files) (options : Options) (text one other one_left other_left : List ℕ)
+    → options.at_once ≡ false
     → IsDone files options text one one_left
     → IsDone files options text other other_left
     → (one ≡ other) × (one_left ≡ other_left)
 
 -- `serial` with these words after it
-abbrev pub with_words : List (List ℕ) → List (List ℕ)
-with_words words = codes "serial" ∷ words
+abbrev pub after_serial : List (List ℕ) → List (List ℕ)
+after_serial words = codes "serial" ∷ words
 
--- after `serial` these words are taken, with these options
+-- `threads` with these words after it
+abbrev pub after_threads : List (List ℕ) → List (List ℕ)
+after_threads words = codes "threads" ∷ words
+
+-- these words of a command that carries a script out are taken, with these options
 abbrev pub Mean : List (List ℕ) → Options → Type 0
-Mean words options = IsSerialCommand (with_words words) × (options_of (with_words words) ≡ options)
+Mean words options = IsScriptCommand words × (options_of words ≡ options)
 
--- after `serial` these words are refused, by this kind of error
+-- these words of such a command are refused, by this kind of error
 abbrev pub AreRefused : List (List ℕ) → ErrorKind → Type 0
-AreRefused words kind = fault_of serial_command (with_words words) ≡ kind ∷ []
+AreRefused words kind = fault_of script_command words ≡ kind ∷ []
 
 -- the numbers of `make` decide its line
 abbrev pub MadeLinesAgree : Type 0

@@ -23,7 +23,12 @@ text_of = option_map (λ s. s.now)
 
 -- what options that were read say
 abbrev pub said_by : Read → Options
-said_by options = record { image = text_of options.image; out = text_of options.out; shards = options.shards }
+said_by options = record {
+  image = text_of options.image;
+  out = text_of options.out;
+  shards = options.shards;
+  at_once = options.at_once;
+}
 
 -- what numbers of `make` that were read say
 abbrev pub made_by : Making → MakeOptions

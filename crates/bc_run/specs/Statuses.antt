@@ -10,7 +10,8 @@ use Rattle.bc_run.specs.declared.status.Status.{Status}
 use Rattle.bc_run.specs.declared.status.Status.TheVariants.{Ok, Usage, BadScript, ReadFault, WriteFault, FolderFault}
 use Rattle.bc_run.specs.declared.status.Status.TheVariants.{ImageLength, TooLong, NoMemory, Missing}
 use Rattle.bc_run.specs.declared.image.TheConstants.{MAX_IMAGE}
-use Rattle.bc_run.specs.Words.{Begins, IsMakeCommand, IsSerialCommand, Options, make_options_of, options_of}
+use Rattle.bc_run.specs.Words.{Begins, IsMakeCommand, IsScriptCommand, NamesScript, Options, make_options_of}
+use Rattle.bc_run.specs.Words.{options_of}
 use Rattle.bc_run.specs.Making.{IsMade}
 use Rattle.bc_run.specs.Command.{HasAnotherLength, IsBadScript, IsCarriedOut, IsScriptAnd}
 
@@ -97,17 +98,17 @@ abbrev pub EndsByScript : CommandRun → Status → Type 0
 EndsByScript run status =
     IsScriptAnd (λ script. ScriptEndsBy run.effects (options_of run.words) script status) run.text
 
--- why a run of `serial` ended with this status, in the order of its stages; each row also says what the stages before
--- it passed
-abbrev pub SerialEndsBy : CommandRun → Status → Type 0
-SerialEndsBy run Usage = IsSerialCommand run.words → ⊥
-SerialEndsBy run NoMemory = Begins (codes "serial") run.words
-SerialEndsBy run ReadFault = IsSerialCommand run.words × ReadRose run
-SerialEndsBy run (BadScript e) = IsSerialCommand run.words × IfSome run.text (IsBadScript e)
-SerialEndsBy run (TooLong limit) =
-    IsSerialCommand run.words
+-- why a run of `serial` or `threads` ended with this status, in the order of its stages; each row also says what the
+-- stages before it passed
+abbrev pub ScriptRunEndsBy : CommandRun → Status → Type 0
+ScriptRunEndsBy run Usage = IsScriptCommand run.words → ⊥
+ScriptRunEndsBy run NoMemory = NamesScript run.words
+ScriptRunEndsBy run ReadFault = IsScriptCommand run.words × ReadRose run
+ScriptRunEndsBy run (BadScript e) = IsScriptCommand run.words × IfSome run.text (IsBadScript e)
+ScriptRunEndsBy run (TooLong limit) =
+    IsScriptCommand run.words
     × (((limit ≡ MAX_TEXT) × IfSome run.text (λ text. limit < length text)) ⊎ EndsByScript run (TooLong limit))
-SerialEndsBy run status = IsSerialCommand run.words × EndsByScript run status
+ScriptRunEndsBy run status = IsScriptCommand run.words × EndsByScript run status
 
 -- what a run does to its sink: its faults, and the bytes that it holds where it says so
 pub record SinkEffects : Type 0 where
@@ -140,4 +141,4 @@ MakeEndsBy words e other = ⊥
 -- refused
 pub record EndsBy (run : CommandRun) (status : Status) : Type 0 where
   pub by_make : Begins (codes "make") run.words → MakeEndsBy run.words (sink_of run.effects) status
-  pub by_serial : (Begins (codes "make") run.words → ⊥) → SerialEndsBy run status
+  pub by_script : (Begins (codes "make") run.words → ⊥) → ScriptRunEndsBy run status

@@ -1,7 +1,8 @@
--- The words of a command as `clap` reads them: the simple commands that stand for `serial` and `make`, which words they
--- take, and the values that their options have then.
-use Rattle.std.specs.Prelude.{◌≡◌, ◌⊎◌, ◌≤◌, ℕ, true, List, [], Option, Some, codes, slice_get}
+-- The words of a command as `clap` reads them: the simple commands that stand for `serial` and `threads` together and
+-- for `make`, which words they take, and the values that their options have then.
+use Rattle.std.specs.Prelude.{◌≡◌, ◌⊎◌, ◌≤◌, ℕ, Bool, true, false, List, [], Option, Some, codes, slice_get}
 use Rattle.std.specs.Option.{option_map_or}
+use Rattle.std.specs.Str.{bytes_eq}
 use Rattle.std.specs.Str.Parse.{IsNumeral, digits_value, without_leading_plus}
 use Rattle.clap.specs.Words.{App, Rule, fault_of, first_of, matches_of, new_app, new_rule, with_rule}
 use Rattle.clap.specs.declared.builder.value_parser.ValueParser.TheVariants.{Unsigned}
@@ -19,10 +20,10 @@ abbrev pub required_number : List ℕ → ℕ → ℕ → Rule
 required_number name least most =
     record (new_rule name) { required = true; parser = Some (Unsigned least most) }
 
--- `serial [--image NAME] [--out NAME] [--shards N]` with N in 1..=64
-abbrev pub serial_command : App
-serial_command =
-    with_rule (with_rule (with_rule (new_app (codes "serial")) (number_rule (codes "shards") 1 64))
+-- `serial` or `threads`, then `[--image NAME] [--out NAME] [--shards N]` with N in 1..=64
+abbrev pub script_command : App
+script_command =
+    with_rule (with_rule (with_rule (new_app (codes "script")) (number_rule (codes "shards") 1 64))
     (option_rule (codes "image"))) (option_rule (codes "out"))
 
 -- `make N [--slots N] [--shards N]` with N in 1..=2048, slots in 1..=32 and shards in 1..=64
@@ -35,10 +36,14 @@ make_command =
 abbrev pub Begins : List ℕ → List (List ℕ) → Type 0
 Begins word words = slice_get words 0 ≡ Some word
 
--- the words are those of `serial`: that is the first one, and clap finds no fault in the others
-pub record IsSerialCommand (words : List (List ℕ)) : Type 0 where
-  pub named : Begins (codes "serial") words
-  pub taken : fault_of serial_command words ≡ []
+-- the first word is that of a command which carries a script out
+abbrev pub NamesScript : List (List ℕ) → Type 0
+NamesScript words = Begins (codes "serial") words ⊎ Begins (codes "threads") words
+
+-- the words are those of `serial` or `threads`: that is the first one, and clap finds no fault in the others
+pub record IsScriptCommand (words : List (List ℕ)) : Type 0 where
+  pub named : NamesScript words
+  pub taken : fault_of script_command words ≡ []
 
 -- the words are those of `make`
 pub record IsMakeCommand (words : List (List ℕ)) : Type 0 where
@@ -47,17 +52,19 @@ pub record IsMakeCommand (words : List (List ℕ)) : Type 0 where
 
 -- the words are valid: they are those of a command
 abbrev pub IsCommand : List (List ℕ) → Type 0
-IsCommand words = IsSerialCommand words ⊎ IsMakeCommand words
+IsCommand words = IsScriptCommand words ⊎ IsMakeCommand words
 
 -- the first word is a command's
 abbrev pub NamesCommand : List (List ℕ) → Type 0
-NamesCommand words = Begins (codes "serial") words ⊎ Begins (codes "make") words
+NamesCommand words = NamesScript words ⊎ Begins (codes "make") words
 
--- what the options of `serial` say: where the image comes from, where it goes to, and over how many shards
+-- what the words of `serial` and `threads` say: where the image comes from, where it goes to, over how many shards, and
+-- whether all sections are carried out at once
 pub record Options : Type 0 where
   pub image : Option (List ℕ)
   pub out : Option (List ℕ)
   pub shards : ℕ
+  pub at_once : Bool
 
 -- the number that a value writes
 abbrev pub number_of : List ℕ → ℕ
@@ -65,14 +72,19 @@ number_of value = digits_value 10 (without_leading_plus value)
 
 -- the value of an option, where the words have it
 abbrev pub value_of : List ℕ → List (List ℕ) → Option (List ℕ)
-value_of name words = first_of name (matches_of serial_command words)
+value_of name words = first_of name (matches_of script_command words)
 
--- the options of valid words of `serial`: without them an image of zeros, which goes nowhere, over one shard
+-- the first word is `threads`
+abbrev pub names_threads : List (List ℕ) → Bool
+names_threads words = option_map_or (λ word. bytes_eq word (codes "threads")) (slice_get words 0) false
+
+-- what valid words of `serial` or `threads` say: without options an image of zeros, which goes nowhere, over one shard
 abbrev pub options_of : List (List ℕ) → Options
 options_of words = record {
   image = value_of (codes "image") words;
   out = value_of (codes "out") words;
   shards = option_map_or number_of (value_of (codes "shards") words) 1;
+  at_once = names_threads words;
 }
 
 -- the value is a number within this range, as clap reads a number

@@ -1,17 +1,18 @@
 //! The laws of runs by one caller.
 
-ghost use Rattle.std.specs.Prelude.{◌∷◌, [], codes, Some, None};
+ghost use Rattle.std.specs.Prelude.{true, false, ◌∷◌, [], codes, Some, None};
 ghost use Rattle.clap.specs.declared.error.kind.ErrorKind.TheVariants.{ArgumentConflict, DisplayHelp, InvalidValue};
 ghost use Rattle.clap.specs.declared.error.kind.ErrorKind.TheVariants.{MissingRequiredArgument, UnknownArgument};
 ghost use Rattle.clap.specs.declared.error.kind.ErrorKind.TheVariants.{ValueValidation};
 ghost use Rattle.bc_compose.specs.Composed.{SerialRunsAgree};
 ghost use Rattle.bc_run.specs.Laws.{AreRefused, MadeLinesAgree, MakeMeans, MakeRefuses, Mean, WrittenTextsAgree};
+ghost use Rattle.bc_run.specs.Laws.{after_serial, after_threads};
 
 use bc_script::no_proper_prefix;
 
 /// Script, image and number of shards decide the whole report of [`serial`](crate::serial) and the image that it
-/// leaves; and words, files and the text of a script decide the report that [`run`](crate::run) writes where it answers
-/// `Ok`, and the image that it leaves.
+/// leaves; and words of `serial`, files and the text of a script decide the report that [`run`](crate::run) writes
+/// where it answers `Ok`, and the image that it leaves.
 pub fn serial_runs_agree()
     ensures reports { SerialRunsAgree }
     ensures texts { WrittenTextsAgree }
@@ -27,25 +28,36 @@ pub fn make_lines_agree()
     bc_compose::serial_runs_agree();
 }
 
-/// What clap makes of some words after `serial`: with which options it takes them, or why it refuses them.
+/// What clap makes of some words after `serial` or `threads`: with which options it takes them, or why it refuses them.
 pub fn words_by_example()
-    ensures none { Mean [] (record { image = None; out = None; shards = 1 }) }
-    ensures all { Mean (codes "--shards=2" ∷ codes "--out" ∷ codes "new" ∷ codes "--image" ∷ codes "old" ∷ [])
-        (record { image = Some (codes "old"); out = Some (codes "new"); shards = 2 }) }
-    ensures zeros_before { Mean (codes "--shards" ∷ codes "02" ∷ []) (record { image = None; out = None; shards = 2 }) }
-    ensures plus_before { Mean (codes "--shards=+2" ∷ []) (record { image = None; out = None; shards = 2 }) }
-    ensures most { Mean (codes "--shards" ∷ codes "64" ∷ []) (record { image = None; out = None; shards = 64 }) }
-    ensures no_name { Mean (codes "--image=" ∷ []) (record { image = Some []; out = None; shards = 1 }) }
-    ensures end { Mean (codes "--" ∷ []) (record { image = None; out = None; shards = 1 }) }
-    ensures no_shards { AreRefused (codes "--shards" ∷ codes "0" ∷ []) ValueValidation }
-    ensures too_many { AreRefused (codes "--shards" ∷ codes "65" ∷ []) ValueValidation }
-    ensures no_number { AreRefused (codes "--shards" ∷ codes "two" ∷ []) ValueValidation }
-    ensures no_value { AreRefused (codes "--image" ∷ []) InvalidValue }
-    ensures twice { AreRefused (codes "--out=a" ∷ codes "--out=a" ∷ []) ArgumentConflict }
-    ensures dash { AreRefused (codes "--image" ∷ codes "-x" ∷ []) UnknownArgument }
-    ensures help { AreRefused (codes "--help" ∷ []) DisplayHelp }
-    ensures version { AreRefused (codes "--version" ∷ []) UnknownArgument }
-    ensures stray { AreRefused (codes "old" ∷ []) UnknownArgument }
+    ensures none { Mean (after_serial []) (record { image = None; out = None; shards = 1; at_once = false }) }
+    ensures all { Mean
+        (after_serial (codes "--shards=2" ∷ codes "--out" ∷ codes "new" ∷ codes "--image" ∷ codes "old" ∷ []))
+        (record { image = Some (codes "old"); out = Some (codes "new"); shards = 2; at_once = false }) }
+    ensures zeros_before { Mean (after_serial (codes "--shards" ∷ codes "02" ∷ []))
+        (record { image = None; out = None; shards = 2; at_once = false }) }
+    ensures plus_before { Mean (after_serial (codes "--shards=+2" ∷ []))
+        (record { image = None; out = None; shards = 2; at_once = false }) }
+    ensures most { Mean (after_serial (codes "--shards" ∷ codes "64" ∷ []))
+        (record { image = None; out = None; shards = 64; at_once = false }) }
+    ensures no_name { Mean (after_serial (codes "--image=" ∷ []))
+        (record { image = Some []; out = None; shards = 1; at_once = false }) }
+    ensures end { Mean (after_serial (codes "--" ∷ []))
+        (record { image = None; out = None; shards = 1; at_once = false }) }
+    ensures no_shards { AreRefused (after_serial (codes "--shards" ∷ codes "0" ∷ [])) ValueValidation }
+    ensures too_many { AreRefused (after_serial (codes "--shards" ∷ codes "65" ∷ [])) ValueValidation }
+    ensures no_number { AreRefused (after_serial (codes "--shards" ∷ codes "two" ∷ [])) ValueValidation }
+    ensures no_value { AreRefused (after_serial (codes "--image" ∷ [])) InvalidValue }
+    ensures twice { AreRefused (after_serial (codes "--out=a" ∷ codes "--out=a" ∷ [])) ArgumentConflict }
+    ensures dash { AreRefused (after_serial (codes "--image" ∷ codes "-x" ∷ [])) UnknownArgument }
+    ensures help { AreRefused (after_serial (codes "--help" ∷ [])) DisplayHelp }
+    ensures version { AreRefused (after_serial (codes "--version" ∷ [])) UnknownArgument }
+    ensures stray { AreRefused (after_serial (codes "old" ∷ [])) UnknownArgument }
+    ensures threads { Mean (after_threads []) (record { image = None; out = None; shards = 1; at_once = true }) }
+    ensures threads_all { Mean (after_threads (codes "--out=new" ∷ codes "--shards" ∷ codes "2" ∷ []))
+        (record { image = None; out = Some (codes "new"); shards = 2; at_once = true }) }
+    ensures threads_most { AreRefused (after_threads (codes "--shards" ∷ codes "65" ∷ [])) ValueValidation }
+    ensures helpers { AreRefused (after_threads (codes "--helpers" ∷ codes "0" ∷ [])) UnknownArgument }
 {}
 
 /// The same for some words after `make`.

@@ -14,7 +14,7 @@ ghost use Rattle.bc_run.specs.Stages.{made_by, status_of};
 
 use crate::image::zeros;
 use crate::make_words::{Making, making_of_words};
-use crate::program::{carry_out, write_text};
+use crate::program::{carry_out_in_turn, write_text};
 use crate::status::Status;
 use bc_base::Sink;
 use bc_script::{Script, generate};
@@ -84,7 +84,7 @@ fn over_zeros(alloc: Global, script: &Script, shards: u16) -> Result<Finished, S
     ensures memory { IfErr result (λ e. e ≡ Status.NoMemory) }
 {
     let image = zeros(alloc, script)?;
-    let finished = carry_out(alloc, script, image, shards)?;
+    let finished = carry_out_in_turn(alloc, script, image, shards)?;
     Ok(finished)
 }
 

@@ -1,6 +1,6 @@
 //! The words of the command `make`, read by `clap`.
 
-ghost use Rattle.std.specs.Prelude.{true, false, ◌≡◌, ◌≤◌, ◌⊎◌, IfSome, map, codes, IfOk, IfErr, OnOk};
+ghost use Rattle.std.specs.Prelude.{false, ◌≡◌, ◌≤◌, ◌⊎◌, IfSome, map, codes, IfOk, IfErr, OnOk};
 ghost use Rattle.std.specs.String.{string_bytes};
 ghost use Rattle.std.specs.Option.{option_map_or};
 ghost use Rattle.clap.specs.Words.{FailsBy, HasMatchesOf, IsPlainArg, fault_of, first_value, found_of, rule_of};
@@ -41,17 +41,6 @@ pub(crate) fn making_of_words(alloc: Global, words: &[String]) -> Result<Making,
             shards: shards_of(&matches),
         }),
         Err(error) => Err(status_of(&error)),
-    }
-}
-
-/// Whether the first word is the command `make`.
-pub(crate) fn is_make(words: &[String]) -> bool
-    ensures yes { result ≡ true → Begins (codes "make") (map string_bytes words.now) }
-    ensures no { result ≡ false → Begins (codes "make") (map string_bytes words.now) → ⊥ }
-{
-    match words.first() {
-        Some(word) => word.as_str() == "make",
-        None => false,
     }
 }
 

@@ -7,43 +7,46 @@ ghost use Rattle.bc_base.specs.Outside.{Rose, HasCause, AppendsPrefix};
 ghost use Rattle.bc_base.specs.Folders.{HasSame};
 ghost use Rattle.bc_script.specs.ScriptText.{Says};
 ghost use Rattle.bc_report.specs.ReportText.{report_text};
-ghost use Rattle.bc_report.specs.LawfulRun.{LawfulRun};
+ghost use Rattle.bc_report.specs.LawfulRun.{LawfulButHolders, LawfulRun};
 ghost use Rattle.bc_report.specs.RunOf.{run_of};
 ghost use Rattle.bc_report.specs.SerialRun.{IsSerial};
 ghost use Rattle.bc_script.specs.declared.limits.TheConstants.{MAX_TEXT};
-ghost use Rattle.bc_run.specs.Words.{Begins, IsCommand, IsMakeCommand, IsSerialCommand, IsShardCount, NamesCommand};
+ghost use Rattle.bc_run.specs.Words.{Begins, IsCommand, IsMakeCommand, IsScriptCommand, IsShardCount, NamesCommand};
 ghost use Rattle.bc_run.specs.Words.{options_of};
-ghost use Rattle.bc_run.specs.Command.{HasImageFor, IsTextOf, bytes_of_disk};
-ghost use Rattle.bc_run.specs.Statuses.{ChangesOnly, EndsBy, NamesFile, ScriptEndsBy, SerialEndsBy};
+ghost use Rattle.bc_run.specs.Command.{HasImageFor, IsOneCallers, IsTextOf, bytes_of_disk};
+ghost use Rattle.bc_run.specs.Statuses.{ChangesOnly, EndsBy, NamesFile, ScriptEndsBy, ScriptRunEndsBy};
 ghost use Rattle.bc_run.specs.Stages.{status_of, IsNotRead, said_by};
 ghost use Rattle.bc_script.specs.Script as specs;
 
 use crate::image::{opening_image, put_image};
 use crate::make::make;
-use crate::make_words::is_make;
 use crate::status::Status;
-use crate::words::{Options, options_of_words};
-use bc_base::{Folder, ReadError, Sink, Source, read_all, write_all};
+use crate::words::{Options, begins, options_of_words};
+use bc_base::{Folder, Gate, ReadError, Sink, Source, read_all, write_all};
 use bc_report::{Report, print};
 use bc_script::limits::MAX_TEXT;
 use bc_script::{ParseError, Script, no_proper_prefix, parse};
 use bc_section::Finished;
 use bc_serial::serial;
+use bc_threads::threads;
 use std::alloc::{AllocError, Global};
+use std::sync::Wait;
+use std::thread::Threads;
 
 /// Runs the command that the words say, and returns how that ended. The words are those after the program's name.
 ///
-/// The first word is the command, `serial` or `make`; the others are read by clap.
+/// The first word is the command, `serial`, `threads` or `make`; the others are read by clap.
 ///
-/// The options of `serial` are `--image NAME`, `--out NAME` and `--shards N` with N in 1 to 64. Its stages follow one
-/// another, and the first that refuses ends the run:
+/// `serial` and `threads` carry a script out. Their options are `--image NAME`, `--out NAME` and `--shards N` with N in
+/// 1 to 64. Their stages follow one another, and the first that refuses ends the run:
 ///
 /// 1. The words are read.
 /// 2. The script is read from `script` to its end, at most 16 MiB.
 /// 3. It is parsed.
 /// 4. The image is got from `folder` under the name of `--image`, at most 64 MiB, and has to have 4096 bytes for each
 ///    block of the script's disk. Without `--image` it is zeros, and no name is got.
-/// 5. The script is carried out over the image with the shards of `--shards`, else one (see [`serial`]).
+/// 5. The script is carried out over the image with the shards of `--shards`, else one: by `serial` one section after
+///    the other (see [`serial`]), by `threads` a thread for each section, all at once (see [`threads`]).
 /// 6. The text of the report is made (see [`print`](bc_report::print)).
 /// 7. The image that is left is put under the name of `--out`. Without it no name is put.
 /// 8. The report is written to `out`.
@@ -54,7 +57,13 @@ use std::alloc::{AllocError, Global};
 /// 64, else 8. It generates a script (see [`generate`](bc_script::generate)), carries it out over zeros, and writes one
 /// line with the digest of the image that is left. It reads nothing from `script`, and gets and puts nothing.
 ///
-/// `gate` isn't used by these commands.
+/// The report and the image of `serial` are decided by script, image and shards. Those of `threads` are a lawful run's,
+/// and depend on how its threads took turns: an eviction may be answered `busy`, and a slot be passed over that is
+/// held, where `serial` finds it free.
+///
+/// The threads of `threads` pass `gate` before and after each operation, and where a part of a request has its hold, so
+/// that a gate can hold one of them up until another one has come somewhere; where nobody wants that it is
+/// [`FreeGate`](bc_base::FreeGate). `serial` and `make` pass no gate.
 ///
 /// # Errors
 ///
@@ -72,14 +81,14 @@ use std::alloc::{AllocError, Global};
 /// [`Status::NoMemory`] can come at each stage but the last, and before the line is written. After it, and after each
 /// other status but `Ok`, `WriteFault` and `FolderFault`, no name has changed; after each but `Ok` and `WriteFault`,
 /// nothing has been written.
-pub fn run<Rt, S: Source, K: Sink, F: Folder, G>(
-    _rt: &Rt,
+pub fn run<R: Threads + Wait + Sync, S: Source, K: Sink, F: Folder, G: Gate + Sync>(
+    rt: &R,
     alloc: Global,
     words: &[String],
     script: &mut S,
     out: &mut K,
     folder: &mut F,
-    _gate: &G,
+    gate: &G,
 ) -> Status
     // Why it ended so.
     ensures status { EndsBy (record {
@@ -101,7 +110,7 @@ pub fn run<Rt, S: Source, K: Sink, F: Folder, G>(
     ensures usage { (IsCommand (map string_bytes words.now) → ⊥)
         → (result ≡ Status.Usage)
         ⊎ ((result ≡ Status.NoMemory) × NamesCommand (map string_bytes words.now)) }
-    ensures end { IsSerialCommand (map string_bytes words.now) → result ≡ Status.Ok → IsAtEnd (S.left script.new) }
+    ensures end { IsScriptCommand (map string_bytes words.now) → result ≡ Status.Ok → IsAtEnd (S.left script.new) }
     ensures make { Begins (codes "make") (map string_bytes words.now)
         → (script.new ≡ script.old) × (folder.new ≡ folder.old) }
     ensures untouched { result ≢ Status.Ok → result ≢ Status.WriteFault
@@ -120,7 +129,7 @@ pub fn run<Rt, S: Source, K: Sink, F: Folder, G>(
 
     // A script within the limit is carried out over zeros or the image that the folder has, unless a count of faults
     // rose or memory ran out.
-    ensures complete { IsSerialCommand (map string_bytes words.now)
+    ensures complete { IsScriptCommand (map string_bytes words.now)
         → IfSome (S.left script.old) (λ text. (asked : specs.Script) → IsTextOf text asked
         → HasImageFor (F.files folder.old) (options_of (map string_bytes words.now)).image asked
         → (Rose (S.faults script.old) (S.faults script.new) → ⊥)
@@ -133,24 +142,26 @@ pub fn run<Rt, S: Source, K: Sink, F: Folder, G>(
         → (result ≡ Status.Ok) ⊎ (result ≡ Status.NoMemory) }
 {
     no_proper_prefix();
-    if is_make(words) {
+    if begins(words, "make") {
         return make(alloc, words, out);
     }
-    match stages(alloc, words, script, out, folder) {
+    match stages(rt, alloc, words, script, out, folder, gate) {
         Ok(()) => Status::Ok,
         Err(status) => status,
     }
 }
 
 /// The stages, in their order; the first that refuses ends the run. An `Err` is never `Ok`'s status.
-fn stages<S: Source, K: Sink, F: Folder>(
+fn stages<R: Threads + Wait + Sync, S: Source, K: Sink, F: Folder, G: Gate + Sync>(
+    rt: &R,
     alloc: Global,
     words: &[String],
     source: &mut S,
     out: &mut K,
     folder: &mut F,
+    gate: &G,
 ) -> Result<(), Status>
-    ensures status { SerialEndsBy (record {
+    ensures status { ScriptRunEndsBy (record {
       words = map string_bytes words.now;
       text = S.left source.old;
       read_faults_before = S.faults source.old;
@@ -185,16 +196,18 @@ fn stages<S: Source, K: Sink, F: Folder>(
     let options = options_of_words(alloc, words)?;
     let text = read_script(alloc, source)?;
     let script = script_of_text(alloc, &text)?;
-    run_script(alloc, &script, options, out, folder)
+    run_script(rt, alloc, &script, options, out, folder, gate)
 }
 
 /// The stages that follow the script's parsing.
-fn run_script<K: Sink, F: Folder>(
+fn run_script<R: Threads + Wait + Sync, K: Sink, F: Folder, G: Gate + Sync>(
+    rt: &R,
     alloc: Global,
     script: &Script,
     options: Options<'_>,
     out: &mut K,
     folder: &mut F,
+    gate: &G,
 ) -> Result<(), Status>
     requires shards { IsShardCount options.shards }
     ensures status { ScriptEndsBy (record {
@@ -220,7 +233,7 @@ fn run_script<K: Sink, F: Folder>(
         (result ≡ Err Status.WriteFault) }
 {
     let image = opening_image(alloc, folder, options.image, script)?;
-    let finished = carry_out(alloc, script, image, options.shards)?;
+    let finished = carry_out(rt, alloc, script, image, options, gate)?;
     let text = text_of_report(alloc, &finished.report)?;
     put_image(folder, options.out, &finished.image)?;
     write_text(out, &text)
@@ -258,8 +271,53 @@ fn script_of_text(alloc: Global, text: &[u8]) -> Result<Script, Status>
     }
 }
 
-/// Carries the script out over the image, with so many shards.
-pub(crate) fn carry_out(
+/// Carries the script out over the image, as the options say.
+fn carry_out<R: Threads + Wait + Sync, G: Gate + Sync>(
+    rt: &R,
+    alloc: Global,
+    script: &Script,
+    image: Vec<u8>,
+    options: Options<'_>,
+    gate: &G,
+) -> Result<Finished, Status>
+    requires length { length image.items ≡ bytes_of_disk script.now }
+    requires shards { IsShardCount options.shards }
+    ensures lawful { IfOk result (λ finished.
+        LawfulButHolders script.now image.items options.entry.shards finished.report finished.image.items) }
+    ensures one_caller { IfOk result (λ finished.
+        IsOneCallers (said_by options.entry) script.now image.items finished.report finished.image.items) }
+    ensures memory { IfErr result (λ e. e ≡ Status.NoMemory) }
+{
+    if options.at_once {
+        carry_out_at_once(rt, alloc, script, image, options.shards, gate)
+    } else {
+        carry_out_in_turn(alloc, script, image, options.shards)
+    }
+}
+
+/// Carries the script out by a thread for each section.
+fn carry_out_at_once<R: Threads + Wait + Sync, G: Gate + Sync>(
+    rt: &R,
+    alloc: Global,
+    script: &Script,
+    image: Vec<u8>,
+    shards: u16,
+    gate: &G,
+) -> Result<Finished, Status>
+    requires length { length image.items ≡ bytes_of_disk script.now }
+    requires shards { IsShardCount shards }
+    ensures lawful { IfOk result (λ finished.
+        LawfulButHolders script.now image.items shards finished.report finished.image.items) }
+    ensures memory { IfErr result (λ e. e ≡ Status.NoMemory) }
+{
+    match threads(rt, alloc, script, image, shards, 0, gate) {
+        Ok(finished) => Ok(finished),
+        Err(AllocError) => Err(Status::NoMemory),
+    }
+}
+
+/// Carries the script out section after section.
+pub(crate) fn carry_out_in_turn(
     alloc: Global,
     script: &Script,
     image: Vec<u8>,

@@ -1,12 +1,12 @@
-//! The words of the command `serial`, read by `clap`.
+//! The words of the commands `serial` and `threads`, read by `clap`.
 
-ghost use Rattle.std.specs.Prelude.{false, ◌≡◌, ◌⊎◌, ◌≢◌, IfSome, map, codes, IfOk, IfErr, OnOk};
+ghost use Rattle.std.specs.Prelude.{true, false, ◌≡◌, ◌⊎◌, ◌≢◌, IfSome, map, codes, IfOk, IfErr, OnOk};
 ghost use Rattle.std.specs.String.{string_bytes};
 ghost use Rattle.std.specs.Option.{option_map_or};
 ghost use Rattle.clap.specs.Words.{FailsBy, kind_of, HasMatchesOf, IsPlainArg, fault_of, first_value, found_of};
 ghost use Rattle.clap.specs.Words.{rule_of};
-ghost use Rattle.bc_run.specs.Words.{IsNumberIn, Begins, IsSerialCommand, IsShardCount, options_of, option_rule};
-ghost use Rattle.bc_run.specs.Words.{number_rule, serial_command, number_of};
+ghost use Rattle.bc_run.specs.Words.{Begins, IsNumberIn, IsScriptCommand, IsShardCount, NamesScript, names_threads};
+ghost use Rattle.bc_run.specs.Words.{number_of, number_rule, option_rule, options_of, script_command};
 ghost use Rattle.bc_run.specs.Stages.{said_by};
 
 use crate::status::Status;
@@ -15,7 +15,7 @@ use clap::error::ErrorKind;
 use clap::{Arg, ArgMatches, Command, Error};
 use std::alloc::Global;
 
-/// What the options of `serial` say.
+/// What the words of `serial` or `threads` say.
 #[derive(Clone, Copy)]
 pub(crate) struct Options<'w> {
     /// Under which name the folder has the image; without it the image is zeros.
@@ -24,40 +24,58 @@ pub(crate) struct Options<'w> {
     pub out: Option<&'w str>,
     /// Over how many shards the image lies.
     pub shards: u16,
+    /// Whether all sections are carried out at once, by `threads`.
+    pub at_once: bool,
 }
 
-/// What the options say, where the words are the command `serial`.
+/// What the words say, where they are the command `serial` or `threads`.
 pub(crate) fn options_of_words<'w>(
     alloc: Global,
     words: &'w [String],
 ) -> Result<Options<'w>, Status>
-    ensures taken { OnOk result (IsSerialCommand (map string_bytes words.now)) }
+    ensures taken { OnOk result (IsScriptCommand (map string_bytes words.now)) }
     ensures said { IfOk result (λ options. said_by options ≡ options_of (map string_bytes words.now)) }
     ensures range { IfOk result (λ options. IsShardCount options.shards) }
     ensures statuses { IfErr result (λ e.
-        ((e ≡ Status.Usage) × (IsSerialCommand (map string_bytes words.now) → ⊥))
-        ⊎ ((e ≡ Status.NoMemory) × Begins (codes "serial") (map string_bytes words.now))) }
+        ((e ≡ Status.Usage) × (IsScriptCommand (map string_bytes words.now) → ⊥))
+        ⊎ ((e ≡ Status.NoMemory) × NamesScript (map string_bytes words.now))) }
 {
-    named(words)?;
+    let at_once = at_once(words)?;
     match matches_of_words(alloc, words) {
         Ok(matches) => Ok(Options {
             image: matches.get_str("image"),
             out: matches.get_str("out"),
             shards: shards_of(&matches),
+            at_once,
         }),
         Err(error) => Err(status_of(&error)),
     }
 }
 
-/// The first word is the command.
-fn named(words: &[String]) -> Result<(), Status>
-    ensures ok { OnOk result (Begins (codes "serial") (map string_bytes words.now)) }
+/// Whether the first word is `threads`, where it names one of the two commands.
+fn at_once(words: &[String]) -> Result<bool, Status>
+    ensures named { OnOk result (NamesScript (map string_bytes words.now)) }
+    ensures at_once { IfOk result (λ at_once. at_once ≡ names_threads (map string_bytes words.now)) }
     ensures usage { IfErr result (λ e.
-        (e ≡ Status.Usage) × (Begins (codes "serial") (map string_bytes words.now) → ⊥)) }
+        (e ≡ Status.Usage) × (NamesScript (map string_bytes words.now) → ⊥)) }
+{
+    if begins(words, "serial") {
+        return Ok(false);
+    }
+    if begins(words, "threads") {
+        return Ok(true);
+    }
+    Err(Status::Usage)
+}
+
+/// Whether the first word is this one.
+pub(crate) fn begins(words: &[String], name: &str) -> bool
+    ensures yes { result ≡ true → Begins name.now (map string_bytes words.now) }
+    ensures no { result ≡ false → Begins name.now (map string_bytes words.now) → ⊥ }
 {
     match words.first() {
-        Some(word) if word.as_str() == "serial" => Ok(()),
-        _ => Err(Status::Usage),
+        Some(word) => word.as_str() == name,
+        None => false,
     }
 }
 
@@ -79,14 +97,14 @@ pub(crate) fn number_named<'a>(alloc: Global, name: &'a str, least: u64, most: u
     option_named(alloc, name).value_parser(ValueParser::unsigned(least, most))
 }
 
-/// What clap finds in the words, read as the command `serial`.
+/// What clap finds in the words, read as one simple command, whichever of the two the first word names.
 fn matches_of_words<'w>(alloc: Global, words: &'w [String]) -> Result<ArgMatches<'w>, Error>
-    ensures found { IfOk result (HasMatchesOf serial_command (map string_bytes words.now)) }
-    ensures faults { FailsBy (fault_of serial_command (map string_bytes words.now)) result }
+    ensures found { IfOk result (HasMatchesOf script_command (map string_bytes words.now)) }
+    ensures faults { FailsBy (fault_of script_command (map string_bytes words.now)) result }
     ensures range { IfOk result (λ matches.
         IfSome (first_value (found_of matches) (codes "shards")) (IsNumberIn 1 64)) }
 {
-    let command = Command::new(alloc, "serial")
+    let command = Command::new(alloc, "script")
         .arg(number_named(alloc, "shards", 1, 64))?
         .arg(option_named(alloc, "image"))?
         .arg(option_named(alloc, "out"))?;

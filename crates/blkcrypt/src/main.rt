@@ -10,15 +10,18 @@ mod std_sink;
 mod std_source;
 mod words;
 
+use bc_base::FreeGate;
 use bc_run::{Status, run};
 use dir_folder::DirFolder;
 use std::process::ExitCode;
+use std::sync::Wait;
+use std::thread::Threads;
 use std_sink::StdSink;
 use std_source::StdSource;
 
 fn main(rt: HostRuntime) -> ExitCode {
     let status = match words::words(&rt) {
-        Ok(words) => run_over_streams(&rt, &words),
+        Ok(words) => run_over_streams(&rt, &rt, &words),
         Err(status) => status,
     };
     if status != Status::Ok {
@@ -28,18 +31,23 @@ fn main(rt: HostRuntime) -> ExitCode {
     ExitCode::from(status.code())
 }
 
-/// Runs the words over standard input and output, and the files of the system.
-fn run_over_streams(rt: &HostRuntime, words: &[String]) -> Status {
+/// Runs the words over standard input and output, and the files of the system. Only `main` can tell that the runtime
+/// has threads, so it is passed once more, as what has them.
+fn run_over_streams<R: Threads + Wait + Sync>(
+    rt: &HostRuntime,
+    threads: &R,
+    words: &[String],
+) -> Status {
     let mut script = StdSource::new(rt.stdin());
     let mut out = StdSink::new(rt.stdout());
     let mut folder = DirFolder::new(rt);
     run(
-        rt,
+        threads,
         rt.alloc(),
         words,
         &mut script,
         &mut out,
         &mut folder,
-        &(),
+        &FreeGate,
     )
 }

@@ -1,12 +1,14 @@
 //! The whole program over memory.
-ghost use Rattle.std.specs.Prelude.{◌≡◌, ◌∷◌, [], IfOk, Some, None, codes, map};
+ghost use Rattle.std.specs.Prelude.{false, ◌≡◌, ◌∷◌, [], IfOk, Some, None, codes, map};
 ghost use Rattle.bc_base.specs.Folders.{bytes_of};
 ghost use Rattle.std.specs.String.{string_bytes};
 ghost use Rattle.bc_run.specs.Command.{IsCarriedOut, IsScriptAnd};
 
-use bc_base::{MemFolder, MemSink, MemSource};
+use bc_base::{FreeGate, MemFolder, MemSink, MemSource};
 use bc_run::{Status, run, words_by_example};
 use std::alloc::{AllocError, Global};
+use std::sync::Wait;
+use std::thread::Threads;
 
 /// What the script's report may have at most, in bytes.
 const ROOM: usize = 1 << 20;
@@ -21,10 +23,14 @@ fn serial_words(alloc: Global) -> Result<Vec<String>, AllocError>
 }
 
 /// Carries out the script that a text says, over zeros. The sink holds the report.
-#[tactic(auto, using(bc_run::proofs::MakeEnds::serial_ends))]
-pub fn report_of<Rt>(rt: &Rt, alloc: Global, text: Vec<u8>) -> Result<MemSink, Status>
+#[tactic(auto, using(bc_run::proofs::MakeEnds::script_ends))]
+pub fn report_of<R: Threads + Wait + Sync>(
+    rt: &R,
+    alloc: Global,
+    text: Vec<u8>,
+) -> Result<MemSink, Status>
     ensures { IfOk result (λ sink. IsScriptAnd (IsCarriedOut (λ report left. sink.held ≡ report)
-        (Some (bytes_of [])) (record { image = None; out = None; shards = 1 })) (Some text.items)) }
+        (Some (bytes_of [])) (record { image = None; out = None; shards = 1; at_once = false })) (Some text.items)) }
 {
     let Ok(words) = serial_words(alloc) else {
         return Err(Status::NoMemory);
@@ -35,7 +41,15 @@ pub fn report_of<Rt>(rt: &Rt, alloc: Global, text: Vec<u8>) -> Result<MemSink, S
     };
     let mut folder = MemFolder::new(alloc, Vec::new(alloc));
     words_by_example();
-    match run(rt, alloc, &words, &mut script, &mut out, &mut folder, &()) {
+    match run(
+        rt,
+        alloc,
+        &words,
+        &mut script,
+        &mut out,
+        &mut folder,
+        &FreeGate,
+    ) {
         Status::Ok => Ok(out),
         status => Err(status),
     }

@@ -4,13 +4,13 @@ use Rattle.std.specs.String.{string_bytes}
 use Rattle.std.specs.Prelude.{Some}
 use Rattle.clap.specs.Words.{App, FailsBy, app_of, fault_of, is_simple_and_free, with_rule}
 use Rattle.clap.specs.declared.builder.value_parser.ValueParser.TheVariants.{Unsigned}
-use Rattle.bc_run.specs.Words.{serial_command}
+use Rattle.bc_run.specs.Words.{script_command}
 use Rattle.bc_run.proofs.Given.{number_given}
 use Rattle.bc_run.proofs.words.matches_of_words.Goals as goal
 
 pub returns-clause-faults : goal.returns-clause-faults
 returns-clause-faults c =
-    let is : app_of c.in_ok-command.command ≡ serial_command =
+    let is : app_of c.in_ok-command.command ≡ script_command =
     c.in_ok-command.ensures.shape c.option_named-2.ensures.local
     ∙ ap₂ with_rule (c.in_ok-arg-2.ensures.shape c.option_named.ensures.local
     ∙ ap₂ with_rule (c.in_ok-arg.ensures.shape c.number_named.ensures.local ∙ ap₂ with_rule c.new.ensures.app c.number_named.ensures.rule) c.option_named.ensures.rule) c.option_named-2.ensures.rule in

@@ -13,4 +13,5 @@ returns-in-Ok-clause-said c =
     let image = c.get_str.ensures ∙ value (codes "image") in
     let out = c.get_str-in-Ok.ensures ∙ value (codes "out") in
     let shards = c.shards_of.ensures.number ∙ ap (λ o. option_map_or number_of o 1) (value (codes "shards")) in
-    rw (image, out, shards) refl
+    let at_once = c.in_ok-at_once.ensures.at_once in
+    rw (image, out, shards, at_once) refl
