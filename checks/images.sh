@@ -221,12 +221,20 @@ refused serial -i whole
 refused serial whole
 refused serial --help
 refused serial --version
+refused serial --helpers 1
 refused --image whole serial
 refused make
 refused make 0
 refused make 2049
+refused make 1 1
+refused make 1 --slots 33
+refused make 1 --shards 65
 refused make 1 --threads
-refused threads
+refused make 1 --helpers 0
+refused threads --shards 65
+refused threads --helpers 0
+refused threads whole
+refused --version
 for words in "--shards 2" "--shards=2" "--shards 02" "--shards=+2"; do
     # shellcheck disable=SC2086
     run $words <"$empty"
