@@ -1,0 +1,6 @@
+mod Lists
+mod Names
+mod Along
+mod OneImage
+mod Generated
+mod Made
