@@ -1,17 +1,17 @@
 -- How a run ends by its first word: of `make`, of a command that carries a script out, or of no command.
-use Rattle.std.proofs.Common.{◌≡◌, ◌⊎◌, ◌∙◌, ℕ, List, Option, Some, None, codes, refl, sym, ap, inl, inr, subst, arith}
+use Rattle.std.proofs.Common.{◌≡◌, ◌⊎◌, ◌∙◌, ℕ, false, List, Option, Some, None, codes, refl, sym, ap, inl, inr, subst, arith}
 use Rattle.std.specs.Prelude.{IfErr, OnOk, Result, Ok as ok, Err as err}
 use Rattle.bc_script.specs.Script.{Script}
 use Rattle.bc_report.specs.Report.{Report}
-use Rattle.bc_report.specs.LawfulRun.{LawfulRun}
-use Rattle.bc_report.specs.RunOf.{run_of}
-use Rattle.bc_report.specs.SerialRun.{IsSerial, IsSerialRun}
+use Rattle.bc_report.specs.LawfulRun.{LawfulButHolders}
+use Rattle.bc_report.specs.SerialRun.{IsSerialRun}
+use Rattle.bc_made.specs.Laws.{RunsLeaveTheMadeImage}
 use Rattle.std.specs.Io.KnownBytes.{Appends}
 use Rattle.bc_base.specs.Outside.{AppendsPrefix, HasCause, Rose}
 use Rattle.bc_base.specs.Folders.{Files, HasSame}
 use Rattle.bc_run.specs.declared.status.Status.{Status}
 use Rattle.bc_run.specs.declared.status.Status.TheVariants.{Ok, Usage, BadScript, ReadFault, WriteFault, FolderFault, ImageLength, TooLong, NoMemory, Missing}
-use Rattle.bc_run.specs.Words.{Begins, IsCommand, IsMakeCommand, IsScriptCommand, MakeOptions, NamesCommand, NamesScript, make_options_of}
+use Rattle.bc_run.specs.Words.{AreMakeOptions, Begins, IsCommand, IsMakeCommand, IsScriptCommand, MakeOptions, NamesCommand, NamesScript, make_options_of}
 use Rattle.bc_run.specs.Making.{IsMade, line_of}
 use Rattle.bc_script.specs.Generated.{generated}
 use Rattle.bc_run.specs.Statuses.{ChangesOnly, CommandRun, EndsBy, MakeEndsBy, ScriptRunEndsBy, SinkEffects, sink_of}
@@ -93,29 +93,30 @@ made_with Done options line made done = record {
   script_is = made.script_is;
   report = made.report;
   left = made.left;
-  run = made.run;
+  lawful = made.lawful;
+  one_caller = made.one_caller;
+  left_is = made.left_is;
   done = subst Done (sym made.done) done;
 }
 
--- a script was carried out over zeros
-pub over_zeros : (script : Script) (image : List ℕ) (shards : ℕ) (report : Report) (left : List ℕ)
-    → image ≡ zeros_for script → LawfulRun script image shards report left → IsSerial script (run_of script image report) report
-    → IsSerialRun script (zeros_for script) shards report left
-over_zeros script image shards report left is lawful serial =
-    subst (λ i. IsSerialRun script i shards report left) is (record { lawful = lawful; serial = serial })
-
--- the script was the generated one
-pub is_made : (options : MakeOptions) (script : Script) (report : Report) (left line : List ℕ)
-    → script ≡ generated options.n options.slots → IsSerialRun script (zeros_for script) options.shards report left → line ≡ line_of options.n left
+-- the script was the generated one, and so is the image that is left the one of its number
+pub is_made : RunsLeaveTheMadeImage → (options : MakeOptions) (script : Script) (report : Report) (left line : List ℕ)
+    → AreMakeOptions options → script ≡ generated options.n options.slots
+    → LawfulButHolders script (zeros_for script) options.shards report left
+    → (options.at_once ≡ false → IsSerialRun script (zeros_for script) options.shards report left)
+    → line ≡ line_of options.n left
     → IsMade (λ written. written ≡ line) options
-is_made options script report left line is run e = record {
-  script = script;
-  script_is = is;
-  report = report;
-  left = left;
-  run = run;
-  done = sym e;
-}
+is_made law options script report left line ranges is lawful one_caller e =
+    let left_is = law options.n options.slots options.shards script report left is ranges.shards.0 lawful in record {
+      script = script;
+      script_is = is;
+      report = report;
+      left = left;
+      lawful = lawful;
+      one_caller = one_caller;
+      left_is = left_is;
+      done = sym (e ∙ ap (line_of options.n) left_is);
+    }
 
 -- ---- how a run of `make` ended
 

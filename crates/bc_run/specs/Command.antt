@@ -1,6 +1,6 @@
 -- What the commands `serial` and `threads` carry out: the script that a text says, over the image that the words name
 -- or over zeros, with the shards that they say.
-use Rattle.std.specs.Prelude.{◌≡◌, ℕ, false, ◌*◌, ◌≤◌, List, length, replicate, Option, Some, MatchOption, IfSome}
+use Rattle.std.specs.Prelude.{◌≡◌, ℕ, false, ◌*◌, ◌≤◌, List, length, Option, Some, MatchOption, IfSome}
 use Rattle.std.specs.Prelude.{IsSomeAnd}
 use Rattle.bc_base.specs.declared.geometry.TheConstants.{BLOCK_BYTES}
 use Rattle.bc_base.specs.Folders.{Files, Has}
@@ -13,6 +13,7 @@ use Rattle.bc_report.specs.Report.{Report}
 use Rattle.bc_report.specs.ReportText.{report_text}
 use Rattle.bc_report.specs.LawfulRun.{LawfulButHolders}
 use Rattle.bc_report.specs.SerialRun.{IsSerialRun}
+pub use Rattle.bc_made.specs.Made.{zeros_for}
 use Rattle.bc_run.specs.Words.{Options, IsShardCount}
 use Rattle.bc_run.specs.declared.image.TheConstants.{MAX_IMAGE}
 
@@ -38,10 +39,6 @@ pub record IsBadScript (error : ScriptError) (text : List ℕ) : Type 0 where
 -- how many bytes the script's disk has
 abbrev pub bytes_of_disk : Script → ℕ
 bytes_of_disk script = BLOCK_BYTES * script.blocks
-
--- an image of zeros, of the length that the script asks for
-abbrev pub zeros_for : Script → List ℕ
-zeros_for script = replicate (bytes_of_disk script) 0
 
 -- where an image is named the run begins with what the folder has under the name, and else with zeros
 abbrev pub BeginsWith : Option Files → Option (List ℕ) → Script → List ℕ → Type 0

@@ -4,7 +4,7 @@ use Rattle.std.specs.Prelude.{◌≡◌, ℕ, false, List, [], ◌∷◌, Some, 
 use Rattle.bc_base.specs.Folders.{Files}
 use Rattle.clap.specs.Words.{fault_of}
 use Rattle.clap.specs.declared.error.kind.ErrorKind.{ErrorKind}
-use Rattle.bc_run.specs.Words.{AreMakeOptions, IsMakeCommand, IsScriptCommand, MakeOptions, Options, make_command}
+use Rattle.bc_run.specs.Words.{IsMakeCommand, IsScriptCommand, MakeOptions, Options, make_command}
 use Rattle.bc_run.specs.Words.{make_options_of, options_of, script_command}
 use Rattle.bc_run.specs.Making.{IsMade}
 use Rattle.bc_run.specs.Command.{IsCarriedOut, IsScriptAnd}
@@ -39,10 +39,14 @@ Mean words options = IsScriptCommand words × (options_of words ≡ options)
 abbrev pub AreRefused : List (List ℕ) → ErrorKind → Type 0
 AreRefused words kind = fault_of script_command words ≡ kind ∷ []
 
--- the numbers of `make` decide its line
+-- the first number of `make` decides its line, whatever the keyslots and shards, section after section or all at once
 abbrev pub MadeLinesAgree : Type 0
-MadeLinesAgree = (options : MakeOptions) (one other : List ℕ) → AreMakeOptions options
-    → IsMade (λ line. line ≡ one) options → IsMade (λ line. line ≡ other) options → one ≡ other
+MadeLinesAgree =
+    (options other_options : MakeOptions) (one other : List ℕ)
+    → options.n ≡ other_options.n
+    → IsMade (λ line. line ≡ one) options
+    → IsMade (λ line. line ≡ other) other_options
+    → one ≡ other
 
 -- after `make` these words are taken, with these options
 abbrev pub MakeMeans : List (List ℕ) → MakeOptions → Type 0

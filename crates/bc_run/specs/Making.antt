@@ -1,13 +1,15 @@
 -- What the command `make` carries out and writes: the script that is generated for its numbers, over zeros, and one
 -- line with the digest of the image that is left.
-use Rattle.std.specs.Prelude.{◌≡◌, ℕ, ◌*◌, List, ◌++◌, codes}
+use Rattle.std.specs.Prelude.{◌≡◌, ℕ, false, ◌*◌, List, ◌++◌, codes}
 use Rattle.std.specs.Fmt.{decimal}
 use Rattle.hex.specs.Hex.{encode_lower}
 use Rattle.sha2.specs.Sha256.{sha256}
 use Rattle.bc_script.specs.Script.{Script}
 use Rattle.bc_script.specs.Generated.{generated}
 use Rattle.bc_report.specs.Report.{Report}
+use Rattle.bc_report.specs.LawfulRun.{LawfulButHolders}
 use Rattle.bc_report.specs.SerialRun.{IsSerialRun}
+use Rattle.bc_made.specs.Made.{made_image}
 use Rattle.bc_run.specs.Words.{MakeOptions}
 use Rattle.bc_run.specs.Command.{zeros_for}
 
@@ -28,11 +30,18 @@ make_line n bios units done faults left =
 abbrev pub line_of : ℕ → List ℕ → List ℕ
 line_of n left = make_line n (32 * n) (32 * n) (32 * n) 0 left
 
--- this was done with the line of a lawful run of the generated script over zeros, section after section
+-- the line of `make n`, which n alone decides
+abbrev pub made_line : ℕ → List ℕ
+made_line n = line_of n (made_image n)
+
+-- the generated script was carried out over zeros, section after section or all sections at once, and this was done with
+-- the line of its number
 pub record IsMade (Done : List ℕ → Type 0) (options : MakeOptions) : Type 0 where
   pub script : Script
   pub script_is : script ≡ generated options.n options.slots
   pub report : Report
   pub left : List ℕ
-  pub run : IsSerialRun script (zeros_for script) options.shards report left
-  pub done : Done (line_of options.n left)
+  pub lawful : LawfulButHolders script (zeros_for script) options.shards report left
+  pub one_caller : options.at_once ≡ false → IsSerialRun script (zeros_for script) options.shards report left
+  pub left_is : left ≡ made_image options.n
+  pub done : Done (made_line options.n)

@@ -32,7 +32,7 @@ said_by options = record {
 
 -- what numbers of `make` that were read say
 abbrev pub made_by : Making → MakeOptions
-made_by making = record { n = making.n; slots = making.slots; shards = making.shards }
+made_by making = record { n = making.n; slots = making.slots; shards = making.shards; at_once = making.at_once }
 
 -- a text was not read: no script has it, and this is its error; or there was no memory
 abbrev pub IsNotRead : List ℕ → Status → Type 0

@@ -5,13 +5,18 @@ use Rattle.std.specs.Option.{option_map_or}
 use Rattle.std.specs.Str.{bytes_eq}
 use Rattle.std.specs.Str.Parse.{IsNumeral, digits_value, without_leading_plus}
 use Rattle.clap.specs.Words.{App, Rule, fault_of, first_of, matches_of, new_app, new_rule, with_rule}
+use Rattle.clap.specs.declared.builder.action.ArgAction.TheVariants.{SetTrue}
 use Rattle.clap.specs.declared.builder.value_parser.ValueParser.TheVariants.{Unsigned}
 
 -- an option `--name` with one value
 abbrev pub option_rule : List ℕ → Rule
 option_rule name = record (new_rule name) { long = Some name }
 
--- the same, whose value is a number in this range
+-- a flag `--name`
+abbrev pub flag_rule : List ℕ → Rule
+flag_rule name = record (option_rule name) { action = Some SetTrue }
+
+-- an option whose value is a number in this range
 abbrev pub number_rule : List ℕ → ℕ → ℕ → Rule
 number_rule name least most = record (option_rule name) { parser = Some (Unsigned least most) }
 
@@ -26,11 +31,11 @@ script_command =
     with_rule (with_rule (with_rule (new_app (codes "script")) (number_rule (codes "shards") 1 64))
     (option_rule (codes "image"))) (option_rule (codes "out"))
 
--- `make N [--slots N] [--shards N]` with N in 1..=2048, slots in 1..=32 and shards in 1..=64
+-- `make N [--slots N] [--shards N] [--threads]` with N in 1..=2048, slots in 1..=32 and shards in 1..=64
 abbrev pub make_command : App
 make_command =
-    with_rule (with_rule (with_rule (new_app (codes "make")) (required_number (codes "n") 1 2048))
-    (number_rule (codes "slots") 1 32)) (number_rule (codes "shards") 1 64)
+    with_rule (with_rule (with_rule (with_rule (new_app (codes "make")) (required_number (codes "n") 1 2048))
+    (number_rule (codes "slots") 1 32)) (number_rule (codes "shards") 1 64)) (flag_rule (codes "threads"))
 
 -- the first word is this one
 abbrev pub Begins : List ℕ → List (List ℕ) → Type 0
@@ -97,22 +102,29 @@ abbrev pub IsShardCount : ℕ → Type 0
 IsShardCount n = (1 ≤ n) × (n ≤ 64)
 
 -- what the words of `make` say: how many pairs of a write and a read each thread has, how many keyslots the device has,
--- and over how many shards the image lies
+-- over how many shards the image lies, and whether all sections are carried out at once
 pub record MakeOptions : Type 0 where
   pub n : ℕ
   pub slots : ℕ
   pub shards : ℕ
+  pub at_once : Bool
 
 -- the number that an option of `make` has, where the words have it, and else this one
 abbrev pub made_number : List ℕ → ℕ → List (List ℕ) → ℕ
 made_number name other words = option_map_or number_of (first_of name (matches_of make_command words)) other
 
--- the options of valid words of `make`, which have the first number: without the others one keyslot and eight shards
+-- whether a flag is set, by its value
+abbrev pub is_set : Option (List ℕ) → Bool
+is_set value = option_map_or (λ text. bytes_eq text (codes "true")) value false
+
+-- what valid words of `make` say, which have the first number: without options one keyslot, eight shards, and one section
+-- after the other
 abbrev pub make_options_of : List (List ℕ) → MakeOptions
 make_options_of words = record {
   n = made_number (codes "n") 1 words;
   slots = made_number (codes "slots") 1 words;
   shards = made_number (codes "shards") 8 words;
+  at_once = is_set (first_of (codes "threads") (matches_of make_command words));
 }
 
 -- the numbers are in the ranges of the options of `make`

@@ -3,7 +3,7 @@
 ghost use Rattle.std.specs.Prelude.{true, false, ◌∷◌, [], codes, Some, None};
 ghost use Rattle.clap.specs.declared.error.kind.ErrorKind.TheVariants.{ArgumentConflict, DisplayHelp, InvalidValue};
 ghost use Rattle.clap.specs.declared.error.kind.ErrorKind.TheVariants.{MissingRequiredArgument, UnknownArgument};
-ghost use Rattle.clap.specs.declared.error.kind.ErrorKind.TheVariants.{ValueValidation};
+ghost use Rattle.clap.specs.declared.error.kind.ErrorKind.TheVariants.{TooManyValues, ValueValidation};
 ghost use Rattle.bc_compose.specs.Composed.{SerialRunsAgree};
 ghost use Rattle.bc_run.specs.Laws.{AreRefused, MadeLinesAgree, MakeMeans, MakeRefuses, Mean, WrittenTextsAgree};
 ghost use Rattle.bc_run.specs.Laws.{after_serial, after_threads};
@@ -21,12 +21,11 @@ pub fn serial_runs_agree()
     no_proper_prefix();
 }
 
-/// The numbers of `make` decide its line.
+/// The first number of `make` decides its line, whatever the keyslots and shards, and whether its sections are carried
+/// out one after the other or all at once.
 pub fn make_lines_agree()
     ensures { MadeLinesAgree }
-{
-    bc_compose::serial_runs_agree();
-}
+{}
 
 /// What clap makes of some words after `serial` or `threads`: with which options it takes them, or why it refuses them.
 pub fn words_by_example()
@@ -62,11 +61,15 @@ pub fn words_by_example()
 
 /// The same for some words after `make`.
 pub fn make_words_by_example()
-    ensures number { MakeMeans (codes "8" ∷ []) (record { n = 8; slots = 1; shards = 8 }) }
-    ensures most { MakeMeans (codes "2048" ∷ []) (record { n = 2048; slots = 1; shards = 8 }) }
-    ensures zeros_before { MakeMeans (codes "08" ∷ []) (record { n = 8; slots = 1; shards = 8 }) }
+    ensures number { MakeMeans (codes "8" ∷ []) (record { n = 8; slots = 1; shards = 8; at_once = false }) }
+    ensures most { MakeMeans (codes "2048" ∷ []) (record { n = 2048; slots = 1; shards = 8; at_once = false }) }
+    ensures zeros_before { MakeMeans (codes "08" ∷ []) (record { n = 8; slots = 1; shards = 8; at_once = false }) }
     ensures options { MakeMeans (codes "--slots" ∷ codes "32" ∷ codes "8" ∷ codes "--shards=2" ∷ [])
-        (record { n = 8; slots = 32; shards = 2 }) }
+        (record { n = 8; slots = 32; shards = 2; at_once = false }) }
+    ensures threads { MakeMeans (codes "8" ∷ codes "--threads" ∷ [])
+        (record { n = 8; slots = 1; shards = 8; at_once = true }) }
+    ensures threads_before { MakeMeans (codes "--threads" ∷ codes "--shards=1" ∷ codes "8" ∷ [])
+        (record { n = 8; slots = 1; shards = 1; at_once = true }) }
     ensures no_number { MakeRefuses [] MissingRequiredArgument }
     ensures zero { MakeRefuses (codes "0" ∷ []) ValueValidation }
     ensures too_many { MakeRefuses (codes "2049" ∷ []) ValueValidation }
@@ -75,6 +78,7 @@ pub fn make_words_by_example()
     ensures too_many_shards { MakeRefuses (codes "8" ∷ codes "--shards" ∷ codes "65" ∷ []) ValueValidation }
     ensures two_numbers { MakeRefuses (codes "8" ∷ codes "9" ∷ []) UnknownArgument }
     ensures image { MakeRefuses (codes "8" ∷ codes "--image" ∷ codes "old" ∷ []) UnknownArgument }
-    ensures threads { MakeRefuses (codes "8" ∷ codes "--threads" ∷ []) UnknownArgument }
+    ensures threads_twice { MakeRefuses (codes "8" ∷ codes "--threads" ∷ codes "--threads" ∷ []) ArgumentConflict }
+    ensures threads_of_value { MakeRefuses (codes "8" ∷ codes "--threads=2" ∷ []) TooManyValues }
     ensures helpers { MakeRefuses (codes "8" ∷ codes "--helpers" ∷ codes "0" ∷ []) UnknownArgument }
 {}

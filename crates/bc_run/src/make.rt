@@ -1,12 +1,13 @@
 //! The command `make`: a script is generated and carried out over zeros, and the digest of what is left is written.
 
-ghost use Rattle.std.specs.Prelude.{◌≡◌, ◌≢◌, ◌≤◌, ◌++◌, map, codes, IfOk, IfErr, OnOk, Err};
+ghost use Rattle.std.specs.Prelude.{false, ◌≡◌, ◌≢◌, ◌≤◌, ◌++◌, map, codes, IfOk, IfErr, OnOk, Err};
 ghost use Rattle.std.specs.String.{string_bytes};
 ghost use Rattle.std.specs.Io.KnownBytes.{Keeps};
 ghost use Rattle.bc_base.specs.Outside.{HasCause};
 ghost use Rattle.bc_script.specs.Generated.{generated};
+ghost use Rattle.bc_report.specs.LawfulRun.{LawfulButHolders};
 ghost use Rattle.bc_report.specs.SerialRun.{IsSerialRun};
-ghost use Rattle.bc_run.specs.Words.{AreMakeOptions, Begins, IsShardCount};
+ghost use Rattle.bc_run.specs.Words.{AreMakeOptions, Begins};
 ghost use Rattle.bc_run.specs.Command.{zeros_for};
 ghost use Rattle.bc_run.specs.Making.{IsMade, counted, line_of};
 ghost use Rattle.bc_run.specs.Statuses.{MakeEndsBy};
@@ -14,21 +15,31 @@ ghost use Rattle.bc_run.specs.Stages.{made_by, status_of};
 
 use crate::image::zeros;
 use crate::make_words::{Making, making_of_words};
-use crate::program::{carry_out_in_turn, write_text};
+use crate::program::{carry_out, write_text};
 use crate::status::Status;
-use bc_base::Sink;
+use crate::words::Options;
+use bc_base::{Gate, Sink};
+use bc_made::runs_leave_the_made_image;
 use bc_script::{Script, generate};
 use bc_section::Finished;
 use bc_text::{put_hex, put_number};
 use sha2::{Digest, Sha256};
 use std::alloc::{AllocError, Global};
+use std::sync::Wait;
+use std::thread::Threads;
 
 /// How many data units the script of `make` writes and reads for each of its number: sixteen threads write one and read
 /// it.
 const UNITS: u64 = 32;
 
 /// Runs the command `make`, which the first word names, and returns how that ended.
-pub(crate) fn make<K: Sink>(alloc: Global, words: &[String], out: &mut K) -> Status
+pub(crate) fn make<R: Threads + Wait + Sync, K: Sink, G: Gate + Sync>(
+    rt: &R,
+    alloc: Global,
+    words: &[String],
+    out: &mut K,
+    gate: &G,
+) -> Status
     requires named { Begins (codes "make") (map string_bytes words.now) }
     ensures status { MakeEndsBy (map string_bytes words.now) (record {
       faults_before = K.faults out.old;
@@ -40,14 +51,20 @@ pub(crate) fn make<K: Sink>(alloc: Global, words: &[String], out: &mut K) -> Sta
         → Keeps (K.held out.old) (K.held out.new) }
     ensures cause { HasCause (K.faults out.old) (K.faults out.new) (result ≡ Status.WriteFault) }
 {
-    match write_line(alloc, words, out) {
+    match write_line(rt, alloc, words, out, gate) {
         Ok(()) => Status::Ok,
         Err(status) => status,
     }
 }
 
 /// Reads the words, carries the script of their numbers out, and writes the line. An `Err` is never `Ok`'s status.
-fn write_line<K: Sink>(alloc: Global, words: &[String], out: &mut K) -> Result<(), Status>
+fn write_line<R: Threads + Wait + Sync, K: Sink, G: Gate + Sync>(
+    rt: &R,
+    alloc: Global,
+    words: &[String],
+    out: &mut K,
+    gate: &G,
+) -> Result<(), Status>
     requires named { Begins (codes "make") (map string_bytes words.now) }
     ensures status { MakeEndsBy (map string_bytes words.now) (record {
       faults_before = K.faults out.old;
@@ -61,30 +78,50 @@ fn write_line<K: Sink>(alloc: Global, words: &[String], out: &mut K) -> Result<(
     ensures cause { HasCause (K.faults out.old) (K.faults out.new) (result ≡ Err Status.WriteFault) }
 {
     let making = making_of_words(alloc, words)?;
-    let line = made(alloc, making)?;
+    let line = made(rt, alloc, making, gate)?;
     write_text(out, &line)
 }
 
 /// Carries the script of these numbers out, and returns the line.
-fn made(alloc: Global, making: Making) -> Result<Vec<u8>, Status>
+fn made<R: Threads + Wait + Sync, G: Gate + Sync>(
+    rt: &R,
+    alloc: Global,
+    making: Making,
+    gate: &G,
+) -> Result<Vec<u8>, Status>
     requires ranges { AreMakeOptions (made_by making) }
     ensures made { IfOk result (λ line. IsMade (λ written. written ≡ line.items) (made_by making)) }
     ensures memory { IfErr result (λ e. e ≡ Status.NoMemory) }
 {
+    runs_leave_the_made_image();
     let script = script_of(alloc, making)?;
-    let finished = over_zeros(alloc, &script, making.shards)?;
+    let finished = over_zeros(rt, alloc, &script, making, gate)?;
     line_left(alloc, making.n, &finished.image)
 }
 
 /// Carries the script out over zeros.
-fn over_zeros(alloc: Global, script: &Script, shards: u16) -> Result<Finished, Status>
-    requires shards { IsShardCount shards }
-    ensures run { IfOk result (λ finished.
-        IsSerialRun script.now (zeros_for script.now) shards finished.report finished.image.items) }
+fn over_zeros<R: Threads + Wait + Sync, G: Gate + Sync>(
+    rt: &R,
+    alloc: Global,
+    script: &Script,
+    making: Making,
+    gate: &G,
+) -> Result<Finished, Status>
+    requires ranges { AreMakeOptions (made_by making) }
+    ensures lawful { IfOk result (λ finished.
+        LawfulButHolders script.now (zeros_for script.now) making.shards finished.report finished.image.items) }
+    ensures one_caller { IfOk result (λ finished. making.at_once ≡ false
+        → IsSerialRun script.now (zeros_for script.now) making.shards finished.report finished.image.items) }
     ensures memory { IfErr result (λ e. e ≡ Status.NoMemory) }
 {
     let image = zeros(alloc, script)?;
-    let finished = carry_out_in_turn(alloc, script, image, shards)?;
+    let options = Options {
+        image: None,
+        out: None,
+        shards: making.shards,
+        at_once: making.at_once,
+    };
+    let finished = carry_out(rt, alloc, script, image, options, gate)?;
     Ok(finished)
 }
 

@@ -5,11 +5,11 @@ ghost use Rattle.std.specs.String.{string_bytes};
 ghost use Rattle.std.specs.Option.{option_map_or};
 ghost use Rattle.clap.specs.Words.{FailsBy, HasMatchesOf, IsPlainArg, fault_of, first_value, found_of, rule_of};
 ghost use Rattle.bc_run.specs.Words.{IsNumberIn, Begins, IsMakeCommand, IsShardCount, AreMakeOptions, make_options_of};
-ghost use Rattle.bc_run.specs.Words.{required_number, make_command, number_of};
+ghost use Rattle.bc_run.specs.Words.{is_set, required_number, make_command, number_of};
 ghost use Rattle.bc_run.specs.Stages.{made_by};
 
 use crate::status::Status;
-use crate::words::{number_named, status_of};
+use crate::words::{flag_named, number_named, status_of};
 use clap::builder::ValueParser;
 use clap::{Arg, ArgMatches, Command, Error};
 use std::alloc::Global;
@@ -23,6 +23,8 @@ pub(crate) struct Making {
     pub slots: u16,
     /// Over how many shards the image lies.
     pub shards: u16,
+    /// Whether all sections are carried out at once, by `threads`.
+    pub at_once: bool,
 }
 
 /// What the words say, where they are the command `make`, which the first of them names.
@@ -39,6 +41,7 @@ pub(crate) fn making_of_words(alloc: Global, words: &[String]) -> Result<Making,
             n: pairs_of(&matches),
             slots: slots_of(&matches),
             shards: shards_of(&matches),
+            at_once: at_once_of(&matches),
         }),
         Err(error) => Err(status_of(&error)),
     }
@@ -67,7 +70,8 @@ fn matches_of_words<'w>(alloc: Global, words: &'w [String]) -> Result<ArgMatches
     let command = Command::new(alloc, "make")
         .arg(required_named(alloc, "n", 1, 2048))?
         .arg(number_named(alloc, "slots", 1, 32))?
-        .arg(number_named(alloc, "shards", 1, 64))?;
+        .arg(number_named(alloc, "shards", 1, 64))?
+        .arg(flag_named(alloc, "threads"))?;
     command.try_get_matches_from(words)
 }
 
@@ -104,5 +108,15 @@ fn shards_of(matches: &ArgMatches<'_>) -> u16
     match matches.get_str("shards") {
         None => 8,
         Some(text) => text.parse::<u16>().unwrap_or(8),
+    }
+}
+
+/// Whether the flag `--threads` is among the words.
+fn at_once_of(matches: &ArgMatches<'_>) -> bool
+    ensures { result ≡ is_set (first_value (found_of matches.now) (codes "threads")) }
+{
+    match matches.get_str("threads") {
+        None => false,
+        Some(text) => text == "true",
     }
 }

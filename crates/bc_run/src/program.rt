@@ -54,16 +54,18 @@ use std::thread::Threads;
 /// Nothing is written before the image is put, and nothing is put before the whole report stands.
 ///
 /// `make N` with N in 1 to 2048 has the options `--slots N` with N in 1 to 32, else 1, and `--shards N` with N in 1 to
-/// 64, else 8. It generates a script (see [`generate`](bc_script::generate)), carries it out over zeros, and writes one
-/// line with the digest of the image that is left. It reads nothing from `script`, and gets and puts nothing.
+/// 64, else 8, and the flag `--threads`. It generates a script (see [`generate`](bc_script::generate)), carries it out
+/// over zeros, as `serial` does or with the flag as `threads` does, and writes one line with the digest of the image
+/// that is left. N alone decides that line (see [`make_lines_agree`](crate::make_lines_agree)). It reads nothing from
+/// `script`, and gets and puts nothing.
 ///
 /// The report and the image of `serial` are decided by script, image and shards. Those of `threads` are a lawful run's,
 /// and depend on how its threads took turns: an eviction may be answered `busy`, and a slot be passed over that is
 /// held, where `serial` finds it free.
 ///
-/// The threads of `threads` pass `gate` before and after each operation, and where a part of a request has its hold, so
-/// that a gate can hold one of them up until another one has come somewhere; where nobody wants that it is
-/// [`FreeGate`](bc_base::FreeGate). `serial` and `make` pass no gate.
+/// The threads of `threads` and of `make --threads` pass `gate` before and after each operation, and where a part of a
+/// request has its hold, so that a gate can hold one of them up until another one has come somewhere; where nobody
+/// wants that it is [`FreeGate`](bc_base::FreeGate). `serial`, and `make` without the flag, pass no gate.
 ///
 /// # Errors
 ///
@@ -143,7 +145,7 @@ pub fn run<R: Threads + Wait + Sync, S: Source, K: Sink, F: Folder, G: Gate + Sy
 {
     no_proper_prefix();
     if begins(words, "make") {
-        return make(alloc, words, out);
+        return make(rt, alloc, words, out, gate);
     }
     match stages(rt, alloc, words, script, out, folder, gate) {
         Ok(()) => Status::Ok,
@@ -272,7 +274,7 @@ fn script_of_text(alloc: Global, text: &[u8]) -> Result<Script, Status>
 }
 
 /// Carries the script out over the image, as the options say.
-fn carry_out<R: Threads + Wait + Sync, G: Gate + Sync>(
+pub(crate) fn carry_out<R: Threads + Wait + Sync, G: Gate + Sync>(
     rt: &R,
     alloc: Global,
     script: &Script,
@@ -317,7 +319,7 @@ fn carry_out_at_once<R: Threads + Wait + Sync, G: Gate + Sync>(
 }
 
 /// Carries the script out section after section.
-pub(crate) fn carry_out_in_turn(
+fn carry_out_in_turn(
     alloc: Global,
     script: &Script,
     image: Vec<u8>,

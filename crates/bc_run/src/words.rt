@@ -6,13 +6,13 @@ ghost use Rattle.std.specs.Option.{option_map_or};
 ghost use Rattle.clap.specs.Words.{FailsBy, kind_of, HasMatchesOf, IsPlainArg, fault_of, first_value, found_of};
 ghost use Rattle.clap.specs.Words.{rule_of};
 ghost use Rattle.bc_run.specs.Words.{Begins, IsNumberIn, IsScriptCommand, IsShardCount, NamesScript, names_threads};
-ghost use Rattle.bc_run.specs.Words.{number_of, number_rule, option_rule, options_of, script_command};
+ghost use Rattle.bc_run.specs.Words.{flag_rule, number_of, number_rule, option_rule, options_of, script_command};
 ghost use Rattle.bc_run.specs.Stages.{said_by};
 
 use crate::status::Status;
 use clap::builder::ValueParser;
 use clap::error::ErrorKind;
-use clap::{Arg, ArgMatches, Command, Error};
+use clap::{Arg, ArgAction, ArgMatches, Command, Error};
 use std::alloc::Global;
 
 /// What the words of `serial` or `threads` say.
@@ -86,6 +86,15 @@ fn option_named<'a>(alloc: Global, name: &'a str) -> Arg<'a>
     ensures local { result.global ≡ false }
 {
     Arg::new(alloc, name).long(name)
+}
+
+/// A flag `--name`.
+pub(crate) fn flag_named<'a>(alloc: Global, name: &'a str) -> Arg<'a>
+    ensures rule { rule_of result ≡ flag_rule name.entry.now }
+    ensures plain { IsPlainArg result }
+    ensures local { result.global ≡ false }
+{
+    option_named(alloc, name).action(ArgAction::SetTrue)
 }
 
 /// An option whose value is a number in this range.

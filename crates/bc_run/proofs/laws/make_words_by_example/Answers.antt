@@ -9,6 +9,8 @@ returns c = record {
   most = (record { named = refl; taken = refl }, refl);
   zeros_before = (record { named = refl; taken = refl }, refl);
   options = (record { named = refl; taken = refl }, refl);
+  threads = (record { named = refl; taken = refl }, refl);
+  threads_before = (record { named = refl; taken = refl }, refl);
   no_number = refl;
   zero = refl;
   too_many = refl;
@@ -17,6 +19,7 @@ returns c = record {
   too_many_shards = refl;
   two_numbers = refl;
   image = refl;
-  threads = refl;
+  threads_twice = refl;
+  threads_of_value = refl;
   helpers = refl;
 }

@@ -6,7 +6,8 @@ use Rattle.bc_run.proofs.MakeEnds.{is_made}
 use Rattle.bc_run.proofs.make.made.Goals as goal
 
 pub returns-clause-made : goal.returns-clause-made
-returns-clause-made c =
+returns-clause-made g c =
     IfOk-weaker c.line_left.result _ _ (λ line is.
-    is_made (made_by c.args.making) c.in_ok-script.script c.in_ok-finished.finished.report c.in_ok-finished.finished.image.items line.items
-    c.in_ok-script.ensures.script c.in_ok-finished.ensures.run (is ∙ ap (line_of c.args.making.n) c.deref.ensures.value)) c.line_left.ensures.line
+    is_made c.runs_leave_the_made_image.ensures (made_by c.args.making) c.in_ok-script.script c.in_ok-finished.finished.report c.in_ok-finished.finished.image.items line.items
+    c.requires.ranges c.in_ok-script.ensures.script c.in_ok-finished.ensures.lawful c.in_ok-finished.ensures.one_caller
+    (is ∙ ap (line_of c.args.making.n) c.deref.ensures.value)) c.line_left.ensures.line
