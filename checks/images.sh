@@ -229,7 +229,7 @@ refused make 2049
 refused make 1 1
 refused make 1 --slots 33
 refused make 1 --shards 65
-refused make 1 --threads
+refused make 1 --threads=1
 refused make 1 --helpers 0
 refused threads --shards 65
 refused threads --helpers 0

@@ -1,6 +1,6 @@
 #!/bin/sh
 # Compares the line of `make N` with the digest that an independent model gives, for several N, numbers of slots and of
-# shards, and twice. It skips itself where the tools are missing.
+# shards, section after section and by threads, and twice. It skips itself where the tools are missing.
 set -u
 cd "$(dirname "$0")/.." || exit 1
 python3 -c 'import cryptography, sys; sys.exit(sys.version_info < (3, 10))' 2>/dev/null ||

@@ -99,7 +99,8 @@ def compared(program):
         if found != {digest}:
             return fail(f"make {count}: the models' digests are {sorted(found)}, and the one noted here is {digest}")
     for count, digest in DIGESTS.items():
-        for words in [[], ["--slots", "32", "--shards", "1"], ["--slots", "2", "--shards", "64"], []]:
+        for words in [[], ["--slots", "32", "--shards", "1"], ["--slots", "2", "--shards", "64"], [], ["--threads"],
+                      ["--threads", "--shards", "1"], ["--slots", "32", "--threads"]]:
             begun = time.monotonic()
             ran = subprocess.run([program, "make", str(count), *words], stdin=subprocess.DEVNULL, capture_output=True, timeout=300)
             if (ran.returncode, ran.stdout.decode(), ran.stderr) != (0, line_of(count, digest), b""):

@@ -116,10 +116,11 @@ fn where_turns_decide_nothing_both_commands_have_one_report(rt: HostRuntime) -> 
 }
 
 #[test]
-fn make_1_writes_one_line_whatever_the_slots_and_shards(rt: HostRuntime) -> Result<(), Fail> {
-    let commands: [&[&str]; 2] = [
+fn make_1_writes_one_line_whatever_the_options(rt: HostRuntime) -> Result<(), Fail> {
+    let commands: [&[&str]; 3] = [
         &["make", "1"],
         &["make", "1", "--slots", "32", "--shards=3"],
+        &["make", "1", "--threads"],
     ];
     for words in commands {
         let mut out = sink(rt.alloc())?;
