@@ -1,8 +1,8 @@
 #!/bin/sh
-# Carries every script of examples/ out by `threads`, over one shard and over three, some times each, and has each run judged
-# by the independent judge of reports, from the script, the image that is left and the report. A script of one section at most
-# must give the report and the image that `serial` gives: over one shard that is examples/NAME.out. It skips itself where the
-# tools are missing.
+# Carries every script of examples/ out by `threads`, over one shard and over three, some times each, and has each run
+# judged by the independent judge of reports, from the script, the image that is left and the report. A script of one
+# section at most must give the report and the image that `serial` gives: over one shard that is examples/NAME.out. It
+# skips itself where the tools are missing.
 set -u
 cd "$(dirname "$0")/.." || exit 1
 python3 -c 'import cryptography, sys; sys.exit(sys.version_info < (3, 10))' 2>/dev/null ||
