@@ -11,3 +11,6 @@ pub mod Told
 pub mod Openings
 pub mod Equal
 pub mod Chunks
+pub mod Ascending
+pub mod Holding
+pub mod Located

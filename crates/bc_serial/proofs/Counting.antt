@@ -25,7 +25,7 @@ use Rattle.bc_report.specs.SerialRun.{DeviceUse, uses_of_turn}
 use Rattle.bc_compose.specs.SectionDone.{Bounds}
 use Rattle.bc_section.specs.Reached.{numbered, IsAcceptedBio, MayBePlugged}
 use Rattle.bc_section.specs.Uses.{bios_of}
-use Rattle.bc_serial.proofs.Holding.{count_cons, count_journal, count_eviction, hold_weight, other_weight, programs_at_most, idles_at_most, others_at_most, holds_by, window_holds, window_only_holds, touched_by, no_reset}
+use Rattle.bc_section.proofs.Holding.{count_cons, count_journal, count_eviction, hold_weight, other_weight, programs_at_most, idles_at_most, others_at_most, holds_by, window_holds, window_only_holds, touched_by, no_reset}
 
 -- the operations of a window have accepted bios
 pub numbered_accepted : (script : Script) (section : List Op) (os : List ℕ) → AllByRecursion (MayBePlugged script section) os → AllByRecursion (λ act. IsAcceptedBio script act.1) (numbered section os)

@@ -1,7 +1,6 @@
 pub mod Affording
 pub mod Attempting
 pub mod Performing
-pub mod Located
 pub mod Room
 pub mod Placing
 pub mod Ready
@@ -15,8 +14,6 @@ pub mod Turns
 pub mod Beginning
 pub mod Ending
 pub mod EqualParts
-pub mod Ascending
-pub mod Holding
 pub mod Counting
 pub mod Evicting
 pub mod KeptSlots

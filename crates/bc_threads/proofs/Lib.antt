@@ -15,9 +15,6 @@ pub mod WindowBios
 pub mod Ways
 pub mod Replying
 pub mod Windowing
-pub mod Ascending
-pub mod Located
-pub mod Holding
 pub mod Past
 pub mod Piecing
 pub mod Submitting

@@ -20,8 +20,8 @@ use Rattle.bc_script.specs.declared.op.Op.{Op}
 use Rattle.bc_script.specs.Script.{Script, IsScript, keys_of}
 use Rattle.bc_script.specs.Bios.{is_inline}
 use Rattle.bc_threads.proofs.Events.{count_cons}
-use Rattle.bc_threads.proofs.Holding.{holds_by}
-use Rattle.bc_threads.proofs.Located.{covered, found, some_targets}
+use Rattle.bc_section.proofs.Holding.{holds_by}
+use Rattle.bc_section.proofs.Located.{covered, found, some_targets}
 use Rattle.bc_threads.proofs.WindowBios.{IsWindowBio, is_accepted}
 
 some_sectors : (n : ℕ) → IsUnitSize n → 1 ≤ n

@@ -7,7 +7,7 @@ use Rattle.bc_serial.specs.Keyslots.{KeyslotsData}
 use Rattle.bc_serial.specs.Standing.{CourseData, HaveRoom}
 use Rattle.bc_serial.proofs.Ready.{course_less, course_unused, entries_more, below}
 use Rattle.bc_serial.proofs.Room.{room_at}
-use Rattle.bc_serial.proofs.Located.{located}
+use Rattle.bc_section.proofs.Located.{located}
 use Rattle.bc_serial.proofs.course.Course.reach.Goals as goal
 
 pub invariant_of-self : goal.invariant_of-self

@@ -36,7 +36,7 @@ use Rattle.bc_report.specs.Holders.{is_way_on}
 use Rattle.bc_report.specs.SerialRun.{DeviceUse, inline_key, is_on, name_at, pieces_of_request, holds_for, uses_of_turn}
 use Rattle.bc_section.specs.Reached.{IsAcceptedBio}
 use Rattle.bc_section.specs.Uses.{bios_of}
-use Rattle.bc_threads.proofs.Ascending.{HasKeyOf, one_key, request_devices}
+use Rattle.bc_section.proofs.Ascending.{HasKeyOf, one_key, request_devices}
 use Rattle.bc_section.proofs.Chunks.{chunks_join, chunks_linked, few_chunks}
 use Rattle.bc_section.proofs.Lists.{In, any_from, any_in, in_of_map}
 
