@@ -167,6 +167,3 @@ fn answers_of(alloc: Global, noted: &[Option<Answer>]) -> Result<Items<Answer>, 
     }
     Ok(Items::from_vec(answers))
 }
-
-#[cfg(test)]
-mod tests;
