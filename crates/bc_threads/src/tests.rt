@@ -94,7 +94,13 @@ impl<'w> HoldingGate<'w> {
     fn new(waits: &'w [HeldUp]) -> HoldingGate<'w> {
         HoldingGate {
             waits,
-            has_come: [const { AtomicU64::new(0) }; MOST_WAITS],
+            has_come: [
+                AtomicU64::new(0),
+                AtomicU64::new(0),
+                AtomicU64::new(0),
+                AtomicU64::new(0),
+                AtomicU64::new(0),
+            ],
             gave_up: AtomicU64::new(0),
         }
     }
