@@ -30,11 +30,11 @@ class Runner:
         self.program, self.room = os.path.abspath(program), room
         self.turns = 0
 
-    def ran(self, text, shards, before):
-        """The report of a run and the image that it leaves; or its status and what it says."""
+    def ran(self, text, shards, before, command="threads"):
+        """The report of a run and the image that it leaves; or nothing, and the status and what is said."""
         with open(os.path.join(self.room, "before"), "wb") as out:
             out.write(before)
-        words = [self.program, "threads", "--shards", str(shards), "--image", "before", "--out", "after"]
+        words = [self.program, command, "--shards", str(shards), "--image", "before", "--out", "after"]
         if shutil.which("taskset") and os.cpu_count() >= 4:
             words = ["taskset", "-c", PROCESSORS[self.turns % 3], *words]
         self.turns += 1
