@@ -1,17 +1,19 @@
 #!/bin/sh
 # Measures runs by threads beside runs by one caller of the same script, by turns, and prints how much sooner the former end.
 #
-#     bench/threads_speed.sh [ROUNDS]        7 rounds where no number is given
+#     bench/threads_speed.sh [ROUNDS [SECTIONS..]]        7 rounds where no number is given
 #
-# A script has 65,536 data units of 4096 bytes, in bios of one, half of them writes and half reads, in 1, 2, 4, 8 or 16 sections
-# which have equal shares and no block in common. By the first way the sections go over shards of their own, as many as there are
-# sections; by the second all go over one shard, and by the third over 64. Each way is measured inline, over a device of 32
-# keyslots, and by software. What reading the script, the disk's opening and closing and writing the report take is measured by a
-# script of as many bios that are all refused, and subtracted. It needs `rt`, or blkcrypt that is built. Run it on a machine that
-# does nothing else.
+# A script has 65,536 data units of 4096 bytes, in bios of one, half of them writes and half reads, in 1, 2, 4, 8 or 16
+# sections (or in as many as are asked for) which have equal shares and no block in common. By the first way the
+# sections go over shards of their own, as many as there are sections; by the second all go over one shard, and by the
+# third over 64. Each way is measured inline, over a device of 32 keyslots, and by software. What reading the script,
+# the disk's opening and closing and writing the report take is measured by a script of as many bios that are all
+# refused, and subtracted. It needs `rt`, or blkcrypt that is built. Run it on a machine that does nothing else.
 set -u
 cd "$(dirname "$0")/.." || exit 1
 rounds=${1:-7}
+[ $# -gt 0 ] && shift
+counts=${*:-1 2 4 8 16}
 blocks=1024
 pairs=32768
 program=crates/blkcrypt/out/blkcrypt
@@ -57,7 +59,7 @@ middle() {
 }
 
 for way in inline soft; do
-    for sections in 1 2 4 8 16; do
+    for sections in $counts; do
         script "$sections" "$way" 0 >"$scratch/script"
         script "$sections" "$way" "$blocks" >"$scratch/refused"
         for shards in "$sections" 1 64; do
