@@ -18,10 +18,11 @@ use bc_key::Keys;
 use std::alloc::{AllocError, Global};
 use std::marker::Model;
 
-/// Bios, each of which runs on at the back of the one before it, and what has become of their data units. It is filled,
-/// its units are carried out in order, and it is emptied into replies.
+/// Bios, each of which runs on at the back of the one before it, and what has become of their data
+/// units. It is filled, its units are carried out in order, and it is emptied into replies.
 ///
-/// All calls on one request are given the same keys, and each of its bios has a key of these and ends below sector 2^32.
+/// All calls on one request are given the same keys, and each of its bios has a key of these and
+/// ends below sector 2^32.
 #[derive(Drop)]
 pub struct Request {
     bios: Vec<MarkedBio>,
@@ -111,8 +112,8 @@ impl Request {
         }
     }
 
-    /// The tag of the bio of unit number `n`, from 0 through the request, and the unit's number in its bio, sector and
-    /// context.
+    /// The tag of the bio of unit number `n`, from 0 through the request, and the unit's number in
+    /// its bio, sector and context.
     pub fn unit_at(&self, keys: &Keys, n: u32) -> (u32, u32, u32, Option<Context>)
         requires request { IsRequest keys.now.keys (tagged_bios self.now.bios) }
         requires within { n < count_units (tagged_bios self.now.bios) }
@@ -169,7 +170,8 @@ impl Request {
         &self.bios[place.bio].bio
     }
 
-    /// Empties the request into replies, in order. They go behind those that `out` has, which has room for them.
+    /// Empties the request into replies, in order. They go behind those that `out` has, which has
+    /// room for them.
     pub fn finish(&mut self, out: &mut Vec<Reply>)
         requires { vec_len out.old + length self.old.bios ≤ vec_capacity out.old }
         ensures replies { out.new.items ≡ out.old.items ++ map reply_of self.old.bios }

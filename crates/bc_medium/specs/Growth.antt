@@ -1,5 +1,6 @@
--- What a call adds to the orders, over the lists that its caller has seen: `old` before the call and `new` after it.
--- Each word is kept by calls one after the other, and stays true when entries of others follow.
+-- What a call adds to the orders, over the lists that its caller has seen: `old` before the call
+-- and `new` after it. Each word is kept by calls one after the other, and stays true when entries
+-- of others follow.
 use Rattle.std.specs.Prelude.{◌≡◌, ◌≢◌, ℕ, ◌<◌, ◌==◌, Bool, false, List, [], ◌∷◌, ◌++◌, length, filter, map, Some}
 use Rattle.std.specs.List.{AllZip}
 use Rattle.bc_base.specs.declared.place.Place.{Place}
@@ -15,15 +16,16 @@ use Rattle.bc_medium.specs.KeyedDisk.{Sectors, UnitAnswer}
 use Rattle.bc_medium.specs.LawfulOrders.{name_of, is_attempted}
 use Rattle.bc_medium.specs.Entries.{caller_of, name_of_entry, told_by, IsTold}
 
--- one entry is appended to a shard's order: it stands after `before`, which begins with what was seen and has no more
--- of this caller
+-- one entry is appended to a shard's order: it stands after `before`, which begins with what was
+-- seen and has no more of this caller
 pub record Appended (caller shard : ℕ) (old new : List (List Entry)) (before : List Entry) (e : Entry) : Type 0 where
   pub begins : StartsWith before (list_at old shard)
   pub own_before : own caller_of caller before ≡ own caller_of caller (list_at old shard)
   pub ends : list_at new shard ≡ before ++ e ∷ []
   pub elsewhere : (other : ℕ) → other ≢ shard → list_at new other ≡ list_at old other
 
--- one access of so many shards: its entry is appended to the order of its own shard, and this is its place
+-- one access of so many shards: its entry is appended to the order of its own shard, and this is
+-- its place
 pub record Performs (shards : ℕ) (old new : List (List Entry)) (before : List Entry) (e : Entry) (place : Place)
     : Type 0 where
   pub shard : place.shard ≡ shard_of shards e.at.sector
@@ -55,7 +57,8 @@ pub record IsEntryOf (thread : ℕ) (u : PlannedUnit) (e : Entry) : Type 0 where
   pub access : e.access ≡ u.access
   pub written : e.failed ≡ false → u.access ≡ Write → e.plain ≡ Some u.bytes
 
--- these entries are the attempted ones of these units, each once, in their order, where `met` met a fault before
+-- these entries are the attempted ones of these units, each once, in their order, where `met` met a
+-- fault before
 abbrev pub Attempts : ℕ → List UnitName → List PlannedUnit → List Entry → Type 0
 Attempts thread met units es = AllZip (IsEntryOf thread) (attempted_by thread (met ++ failed_names es) units) es
 

@@ -1,5 +1,5 @@
--- Lawful orders: one list for each shard, which has each thread's attempted units there, each once, as the thread
--- issued them. A unit is attempted unless an earlier unit of its bio met a fault.
+-- Lawful orders: one list for each shard, which has each thread's attempted units there, each once,
+-- as the thread issued them. A unit is attempted unless an earlier unit of its bio met a fault.
 use Rattle.std.specs.Prelude.{◌≡◌, ℕ, ◌<◌, Bool, not, ◌&&◌, ◌==◌, nat_lt, List, [], map, length, filter, filter_map, slice_get, slice_index_or, Option, option_and_then}
 use Rattle.std.specs.List.{list_any}
 use Rattle.bc_bio.specs.PlannedUnit.{PlannedUnit}
@@ -31,7 +31,8 @@ is_earlier u v = (u.thread == v.thread) && (u.op == v.op) && nat_lt u.unit v.uni
 abbrev pub is_attempted : List UnitName → UnitName → Bool
 is_attempted met u = not (list_any (λ fault. is_earlier fault u) met)
 
--- the thread's attempted units on a shard, in the order of the list that is given: what the thread issued
+-- the thread's attempted units on a shard, in the order of the list that is given: what the thread
+-- issued
 abbrev pub attempted_on :
     ℕ → List (List PlannedUnit) → List (ℕ × ℕ) → List (List UnitName) → ℕ → ℕ → List UnitName
 attempted_on shards issued faults orders shard thread =

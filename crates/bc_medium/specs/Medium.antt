@@ -1,5 +1,5 @@
--- What contracts see of the shards of a disk, for many callers: each shard behind a turn, and of each pass the orders
--- as far as its caller has seen them.
+-- What contracts see of the shards of a disk, for many callers: each shard behind a turn, and of
+-- each pass the orders as far as its caller has seen them.
 use Rattle.std.specs.Prelude.{◌≡◌, ◌↔◌, ℕ, ◌+◌, ◌<◌, ◌≤◌, ◌^◌, Bool, false, ⊤, List, [], ◌∷◌, length, map, sum, slice_index_or, Option, Some, IfSome, Contains}
 use lib.ListN.{take}
 use Rattle.bc_base.specs.declared.place.Place.{Place}
@@ -38,8 +38,8 @@ column shard rows = map (λ row. slice_index_or row shard 0) rows
 
 module _ {S : Type 0} (owns : S → ℕ → Bool) (contents : S → Option Sectors) (told : S → Option ToldCalls)
     (faults : S → ℕ) where
-  -- a shard keeps to its opening: its entries are what was done to the store since, each caller keeps within its quota,
-  -- and there is room for all quotas
+  -- a shard keeps to its opening: its entries are what was done to the store since, each caller
+  -- keeps within its quota, and there is room for all quotas
   pub record Keeps (b : OpeningData S) (shard : StoreOrder S) : Type 0 where
     pub order : IsOrder owns contents told faults b.store (Some b.keys) shard.store shard.entries
     pub within : (caller : ℕ) → length (own caller_of caller shard.entries) ≤ quota_of b.quotas caller
@@ -90,7 +90,8 @@ module _ {S : Type 0} where
   Accesses m old new e place =
       (before : List Entry) × Performs (shards_of m) (seen_by old) (seen_by new) before e place
 
-  -- with the keyed disk from the store's contents at opening, the entry at this place is answered so
+  -- with the keyed disk from the store's contents at opening, the entry at this place is answered
+  -- so
   abbrev pub AnswersSeen :
       (S → Option Sectors) → MediumData S → Pass Entry (OpeningData S) → UnitName → UnitAnswer → Place → Type 0
   AnswersSeen contents m pass name answer place =
@@ -104,13 +105,15 @@ module _ {S : Type 0} where
       AllAt m.turns.cells place.shard (λ cell. Stand m.keys.keys (contents cell.base.store)
       (take place.index (list_at (seen_by pass) place.shard)) first raw)
 
-  -- where the store of this shard tells its plan, the access failed exactly where the plan has its place
+  -- where the store of this shard tells its plan, the access failed exactly where the plan has its
+  -- place
   abbrev pub FailedAsPlanned : (S → Option ToldCalls) → MediumData S → Type 0 → Place → Type 0
   FailedAsPlanned told m Fails place =
       AllAt m.turns.cells place.shard (λ cell. IfSome (told cell.base.store)
       (λ t. Fails ↔ Contains t.plan place.index))
 
--- the medium has a turn for each shard, whose writes are given its keys, and a row of quotas for each caller
+-- the medium has a turn for each shard, whose writes are given its keys, and a row of quotas for
+-- each caller
 pub record IsMedium {S : Type 0} (keys : List KeyData) (shards : ℕ) (rows : List (List ℕ))
     (turns : TurnsData (OpeningData S)) : Type 0 where
   pub some : 1 ≤ shards
@@ -130,8 +133,9 @@ EachTwoFrom P place (x ∷ xs) (y ∷ ys) = P place x y × EachTwoFrom P (place 
 
 module _ {S : Type 0} (owns : S → ℕ → Bool) (contents : S → Option Sectors) (told : S → Option ToldCalls)
     (faults : S → ℕ) where
-  -- a shard at the end: its entries are what was done to its store since opening, with the medium's keys; what each
-  -- pass has seen is a front of them that has all of its caller's; and no other caller has any
+  -- a shard at the end: its entries are what was done to its store since opening, with the medium's
+  -- keys; what each pass has seen is a front of them that has all of its caller's; and no other
+  -- caller has any
   pub record IsEnd (m : MediumData S) (passes : List (Pass Entry (OpeningData S))) (shard : ℕ) (store : S)
       (entries : List Entry) : Type 0 where
     pub order : AllAt m.turns.cells shard

@@ -1,5 +1,6 @@
--- The outcome of a run: what the keyed disk answers and leaves where the units of each shard are performed in its
--- order. Shards have no common sector, so each order is performed from the opening image, without the others.
+-- The outcome of a run: what the keyed disk answers and leaves where the units of each shard are
+-- performed in its order. Shards have no common sector, so each order is performed from the opening
+-- image, without the others.
 use Rattle.bc_medium.specs.declared.unit_name.UnitName.{UnitName}
 use Rattle.std.specs.Prelude.{ℕ, ◌/◌, Bool, true, false, ◌&&◌, ◌==◌, List, [], length, find, filter, filter_map, flat_map, zip, slice_index_or, Option, option_map}
 use Rattle.std.specs.List.{range_with_len}

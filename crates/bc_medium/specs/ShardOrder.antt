@@ -1,4 +1,5 @@
--- The order of one shard: its entries, and what the keyed disk leaves along them on the shard's store.
+-- The order of one shard: its entries, and what the keyed disk leaves along them on the shard's
+-- store.
 use Rattle.std.specs.Prelude.{◌≡◌, ◌↔◌, ◌⊎◌, ℕ, ◌+◌, ◌-◌, ◌^◌, ◌<◌, ◌≤◌, Bool, true, if◌then◌else◌, List, [], ◌∷◌, ◌++◌, length, Option, Some, None, IfSome, IsSomeAnd, Contains, ⊤}
 use Rattle.std.specs.Option.{unwrap_or}
 use Rattle.bc_base.specs.Lists.{Each}
@@ -34,8 +35,8 @@ failures (e ∷ es) = (if e.failed then 1 else 0) + failures es
 abbrev pub IsQuiet : Entry → Type 0
 IsQuiet e = (e.failed ≡ true) ⊎ (e.access ≡ Read)
 
--- a shard: the store as it was at opening, the keys that writes were given, the store now, the entries, and how many
--- more fit
+-- a shard: the store as it was at opening, the keys that writes were given, the store now, the
+-- entries, and how many more fit
 pub record ShardData (S : Type 0) : Type 0 where
   pub start : S
   pub keys : Option (List KeyData)
@@ -90,7 +91,8 @@ module _ {S : Type 0} (owns : S → ℕ → Bool) (contents : S → Option Secto
     pub counted : faults store < 2 ^ 64 - 1 → faults start + failures entries ≤ faults store
     pub quiet : keys ≡ None → Each IsQuiet entries
 
-  -- whatever the store was at opening: what its entries were before, with no other keys than these, they are now
+  -- whatever the store was at opening: what its entries were before, with no other keys than these,
+  -- they are now
   abbrev pub KeepsOrder : List KeyData → StoreOrder S → StoreOrder S → Type 0
   KeepsOrder keys old new =
       (start : S) (given : Option (List KeyData)) → IfSome given (λ k. k ≡ keys)
@@ -108,7 +110,8 @@ module _ {S : Type 0} (owns : S → ℕ → Bool) (contents : S → Option Secto
       (start : S) (given : Option (List KeyData)) (keys : List KeyData) → IfSome given (λ k. k ≡ keys)
       → IsOrder start given shard.store shard.entries → Stand keys (contents start) shard.entries first raw
 
-  -- whatever the store was at opening, the next access fails exactly where its plan, where it is told, has its place
+  -- whatever the store was at opening, the next access fails exactly where its plan, where it is
+  -- told, has its place
   abbrev pub FailsInOrder : StoreOrder S → Type 0 → Type 0
   FailsInOrder shard Fails =
       (start : S) (given : Option (List KeyData)) → IsOrder start given shard.store shard.entries

@@ -28,8 +28,8 @@ use std::alloc::{AllocError, Global};
 use std::marker::Model;
 use std::sync::Wait;
 
-/// The shards of a disk, each behind a turn, for many callers. Each caller has a [`MediumPass`], which knows how far its
-/// caller has seen the order of each shard.
+/// The shards of a disk, each behind a turn, for many callers. Each caller has a [`MediumPass`],
+/// which knows how far its caller has seen the order of each shard.
 #[derive(Drop)]
 pub struct Medium<S: Store> {
     alloc: Global,
@@ -51,8 +51,8 @@ impl<S: Store> Model for Medium<S> {
     ghost invariant = { λ m. IsMedium m.keys.keys m.shards (map (λ row. row.items) m.quotas.items) m.turns };
 }
 
-/// The pass of one caller of a [`Medium`]: what it has seen of the order of each shard. It goes with its caller, and all
-/// passes come together at [`Medium::close`].
+/// The pass of one caller of a [`Medium`]: what it has seen of the order of each shard. It goes
+/// with its caller, and all passes come together at [`Medium::close`].
 pub type MediumPass<S> = TurnPass<Shard<S>>;
 
 impl<S: Store> Medium<S> {
@@ -75,17 +75,20 @@ impl<S: Store> Medium<S> {
         (u64::from(quota) - made) as u32
     }
 
-    /// Writes a data unit: `cipher` is `plain`, enciphered under the unit's context, or the same without one. Takes the
-    /// turn of its shard and waits for it, makes one call of the store and one entry more of the shard, and gives the turn
-    /// back. Gives the entry's place.
+    /// Writes a data unit: `cipher` is `plain`, enciphered under the unit's context, or the same
+    /// without one. Takes the turn of its shard and waits for it, makes one call of the store and
+    /// one entry more of the shard, and gives the turn back. Gives the entry's place.
     ///
-    /// The pass is one of this medium and the unit is its caller's, which has fewer entries at the shard than its quota
-    /// ([`Medium::spare`]). The context's key is one of the medium's, and the sectors belong to the shard's store.
+    /// The pass is one of this medium and the unit is its caller's, which has fewer entries at the
+    /// shard than its quota ([`Medium::spare`]). The context's key is one of the medium's, and the
+    /// sectors belong to the shard's store.
     ///
-    /// The keyed disk answers the unit at its place with what is answered here, and so it does in every longer order.
+    /// The keyed disk answers the unit at its place with what is answered here, and so it does in
+    /// every longer order.
     ///
     /// # Errors
-    /// The store failed: no sector has changed. The fault has the entry's place too, and comes with `plain`.
+    /// The store failed: no sector has changed. The fault has the entry's place too, and comes with
+    /// `plain`.
     pub fn write_unit<R: Wait>(
         &self,
         rt: &R,
@@ -127,9 +130,9 @@ impl<S: Store> Medium<S> {
         }
     }
 
-    /// Reads a data unit as it stands: `raw` has the unit's length, and gets the raw bytes. Takes the turn of its shard and
-    /// waits for it, makes one call of the store and one entry more of the shard, and gives the turn back. Gives the
-    /// entry's place.
+    /// Reads a data unit as it stands: `raw` has the unit's length, and gets the raw bytes. Takes
+    /// the turn of its shard and waits for it, makes one call of the store and one entry more of
+    /// the shard, and gives the turn back. Gives the entry's place.
     ///
     /// The conditions are those of [`Medium::write_unit`].
     ///
@@ -175,10 +178,11 @@ impl<S: Store> Medium<S> {
         }
     }
 
-    /// The stores at the end and the orders, by shard, where the passes of all callers are here. Each store has what the
-    /// keyed disk leaves along its shard's order from the contents at opening; each entry failed exactly where the store's
-    /// plan has its place. What each pass has seen of an order is a front of it, and its caller's entries there are those
-    /// that it made, each once, in its order.
+    /// The stores at the end and the orders, by shard, where the passes of all callers are here.
+    /// Each store has what the keyed disk leaves along its shard's order from the contents at
+    /// opening; each entry failed exactly where the store's plan has its place. What each pass has
+    /// seen of an order is a front of it, and its caller's entries there are those that it made,
+    /// each once, in its order.
     ///
     /// # Errors
     /// Out of memory: then all is handed back as it was.
@@ -243,8 +247,9 @@ impl<S: Store> Medium<S> {
 }
 
 impl<S: Store + Drop> Medium<S> {
-    /// One store for each shard, and quotas by caller and shard; a pass for each caller, in order. A store that tells its
-    /// calls has made none, and the quotas of each shard add up to less than 2^32.
+    /// One store for each shard, and quotas by caller and shard; a pass for each caller, in order.
+    /// A store that tells its calls has made none, and the quotas of each shard add up to less than
+    /// 2^32.
     ///
     /// # Errors
     /// Out of memory: then the stores are let go.

@@ -1,4 +1,5 @@
-//! One shard of the plain form: with the store as it was at opening, and the keys that writes were given.
+//! One shard of the plain form: with the store as it was at opening, and the keys that writes were
+//! given.
 
 ghost use Rattle.std.specs.Prelude.{◌≡◌, ◌*◌, ◌/◌, ◌^◌, ◌<◌, ◌≤◌, List, length, Some, IfSome, IsErr, IfOk, IfErr, OnOk};
 ghost use Rattle.bc_bio.specs.Extent.{unit_sectors};
@@ -48,7 +49,8 @@ impl<S: Store> Model for OpenedShard<S> {
 }
 
 impl<S: Store> OpenedShard<S> {
-    /// Writes a data unit: `cipher` is `plain`, enciphered. The entry's place, and after a fault `plain` too.
+    /// Writes a data unit: `cipher` is `plain`, enciphered. The entry's place, and after a fault
+    /// `plain` too.
     pub(crate) fn write(
         &mut self,
         keys: &Keys,

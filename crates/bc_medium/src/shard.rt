@@ -1,4 +1,5 @@
-//! One shard: a store, and the order of the accesses to it. Both forms of the medium keep their shards so.
+//! One shard: a store, and the order of the accesses to it. Both forms of the medium keep their
+//! shards so.
 
 ghost use Rattle.std.specs.Prelude.{◌≡◌, ℕ, ◌^◌, ◌<◌, ◌≤◌, [], List, length, IsErr, IfOk, IfErr, OnOk};
 ghost use Rattle.bc_base.specs.Stores.{IsPieceOf};
@@ -63,7 +64,8 @@ impl<S: Store> Story for Shard<S> {
 }
 
 impl<S: Store> Shard<S> {
-    /// Writes a data unit: `cipher` is `plain`, enciphered. The entry's place, and after a fault `plain` too.
+    /// Writes a data unit: `cipher` is `plain`, enciphered. The entry's place, and after a fault
+    /// `plain` too.
     pub(crate) fn write(
         &mut self,
         at: UnitAt,

@@ -45,16 +45,19 @@ impl<S: Store> Model for Shards<S> {
 }
 
 impl<S: Store> Shards<S> {
-    /// Writes a data unit: `cipher` is `plain`, enciphered under the unit's context, or the same without one. One call
-    /// of the store of its shard, and one entry more of that shard. Gives the entry's place.
+    /// Writes a data unit: `cipher` is `plain`, enciphered under the unit's context, or the same
+    /// without one. One call of the store of its shard, and one entry more of that shard. Gives the
+    /// entry's place.
     ///
-    /// All writes are given equal keys, and the context's key is one of them. The sectors belong to the shard's store,
-    /// and the shard has had fewer accesses than its quota.
+    /// All writes are given equal keys, and the context's key is one of them. The sectors belong to
+    /// the shard's store, and the shard has had fewer accesses than its quota.
     ///
-    /// The keyed disk answers the unit at its place with what is answered here, and so it does in every longer order.
+    /// The keyed disk answers the unit at its place with what is answered here, and so it does in
+    /// every longer order.
     ///
     /// # Errors
-    /// The store failed: no sector has changed. The fault has the entry's place too, and comes with `plain`.
+    /// The store failed: no sector has changed. The fault has the entry's place too, and comes with
+    /// `plain`.
     pub fn write_unit(
         &mut self,
         keys: &Keys,
@@ -93,10 +96,12 @@ impl<S: Store> Shards<S> {
         }
     }
 
-    /// Reads a data unit as it stands: `raw` has the unit's length, a positive multiple of 512 bytes, and gets the raw
-    /// bytes. One call of the store of its shard, and one entry more of that shard. Gives the entry's place.
+    /// Reads a data unit as it stands: `raw` has the unit's length, a positive multiple of 512
+    /// bytes, and gets the raw bytes. One call of the store of its shard, and one entry more of
+    /// that shard. Gives the entry's place.
     ///
-    /// The sectors belong to the shard's store, and the shard has had fewer accesses than its quota.
+    /// The sectors belong to the shard's store, and the shard has had fewer accesses than its
+    /// quota.
     ///
     /// # Errors
     /// The store failed: `raw` is then unspecified. The fault has the entry's place too.
@@ -125,9 +130,9 @@ impl<S: Store> Shards<S> {
         }
     }
 
-    /// The stores at the end and the orders, by shard. Each store has what the keyed disk leaves along its shard's
-    /// order from the contents at opening, with the keys that writes were given; and each entry failed exactly where
-    /// the store's plan has its place.
+    /// The stores at the end and the orders, by shard. Each store has what the keyed disk leaves
+    /// along its shard's order from the contents at opening, with the keys that writes were given;
+    /// and each entry failed exactly where the store's plan has its place.
     pub fn close(self) -> (Vec<S>, Vec<Vec<Entry>>)
         ensures stores { result.0.items ≡ map (λ s. s.store) self }
         ensures entries { map (λ order. order.items) result.1.items ≡ map (λ s. s.entries) self }
@@ -151,7 +156,8 @@ impl<S: Store> Shards<S> {
 }
 
 impl<S: Store + Drop> Shards<S> {
-    /// One store for each shard, each with room for so many entries. A store that tells its calls has made none.
+    /// One store for each shard, each with room for so many entries. A store that tells its calls
+    /// has made none.
     ///
     /// # Errors
     /// Out of memory.

@@ -1,5 +1,5 @@
--- The book of a device that has many callers: its story, and how many references each slot has. What the calls of a book
--- do: each records the events that it names, and changes the references.
+-- The book of a device that has many callers: its story, and how many references each slot has.
+-- What the calls of a book do: each records the events that it names, and changes the references.
 use Rattle.std.specs.Prelude.{◌≡◌, ◌⊎◌, ℕ, ◌-◌, ◌<◌, ◌≤◌, ◌==◌, List, [], ◌∷◌, ◌++◌, length, slice_set, Some, if◌then◌else◌}
 use Rattle.std.specs.List.{AllByRecursion}
 use Rattle.bc_profile.specs.declared.event.Event.{Event}
@@ -38,8 +38,8 @@ pub record Hits (old new : BookData) (key slot : ℕ) : Type 0 where
   pub has_key : key_of (slots_of old) slot ≡ Some key
   pub counted : new ≡ recorded old 0 [] (slice_set old.refs slot (one_more (refs_of old.refs slot)))
 
--- the slot is the first of the idle order that isn't held, and was programmed with the key, which no slot had. Those
--- before it are named with the references that they have
+-- the slot is the first of the idle order that isn't held, and was programmed with the key, which
+-- no slot had. Those before it are named with the references that they have
 pub record ProgramsOne (old new : BookData) (caller key slot : ℕ) : Type 0 where
   pub skipped : List Skip
   pub may : MayProgram (slots_of old) slot key skipped
@@ -93,7 +93,8 @@ pub record IsBusy (old new : BookData) (caller key slot refs : ℕ) : Type 0 whe
   pub counted : refs ≡ refs_of old.refs slot
   pub made : new ≡ recorded old caller (events.Busy slot key refs ∷ []) old.refs
 
--- what the book keeps behind its type: slots and epochs as the story leaves them, and room for the events to come
+-- what the book keeps behind its type: slots and epochs as the story leaves them, and room for the
+-- events to come
 pub record IsBook (table : TableData) (epochs : List ℕ) (story : List Noted) (limit capacity : ℕ) : Type 0 where
   pub slots_left : table.slots ≡ slots_told (length table.slots.keys) story
   pub told : IsTold table.slots.keys epochs (events_of story)

@@ -1,5 +1,6 @@
--- The slots of a device that has many callers: beside the key of each slot and the list of idle slots, how many references
--- each slot has; and what the calls of that table do. No public contract speaks of the table itself.
+-- The slots of a device that has many callers: beside the key of each slot and the list of idle
+-- slots, how many references each slot has; and what the calls of that table do. No public contract
+-- speaks of the table itself.
 use Rattle.std.specs.Prelude.{◌≡◌, ℕ, ◌+◌, ◌-◌, ◌<◌, ◌≤◌, ◌==◌, Bool, true, false, List, [], ◌∷◌, Some, slice_set, slice_index_or, length, map, find, take_while, replicate, IsSome, not, if◌then◌else◌, ⊤}
 use Rattle.std.specs.List.{AllByRecursion, list_any}
 use Rattle.bc_profile.specs.SlotJournal.{Slots, opening, InNoSlot, MayProgram, after_event, key_of, is_listed}
@@ -51,7 +52,8 @@ AllHeld table = (slot : ℕ) → slot < length table.slots.keys → 1 ≤ refs_o
 abbrev pub with_refs : TableData → ℕ → ℕ → TableData
 with_refs table slot refs = record table { refs = slice_set table.refs slot refs }
 
--- a hold was taken: of the slot that has the key, or of the first slot of the idle order that isn't held
+-- a hold was taken: of the slot that has the key, or of the first slot of the idle order that isn't
+-- held
 abbrev pub Takes : TableData → TableData → ℕ → Took → Type 0
 Takes old new key (took.Found slot) =
     (key_of old.slots slot ≡ Some key) × (new ≡ with_refs old slot (one_more (refs_of old.refs slot)))

@@ -1,4 +1,5 @@
--- What contracts see of a keyslot manager for one caller, and the one thing that its calls do: they record events.
+-- What contracts see of a keyslot manager for one caller, and the one thing that its calls do: they
+-- record events.
 use Rattle.std.specs.Prelude.{ℕ, ◌+◌, ◌<◌, ◌≤◌, List, [], ◌++◌, length, Option, None, ⊤}
 use Rattle.bc_profile.specs.declared.event.Event.{Event}
 use Rattle.bc_profile.specs.declared.uses.Use.{Use}
@@ -6,7 +7,8 @@ use Rattle.bc_profile.specs.declared.uses.Use.TheVariants as uses
 use Rattle.bc_profile.specs.SlotJournal.{Slots, slots_after, key_of}
 use Rattle.bc_profile.specs.Rows.{row_of}
 
--- how many slots there are, the register row of each key, the journal, the slot that is held, and how many events fit
+-- how many slots there are, the register row of each key, the journal, the slot that is held, and
+-- how many events fit
 pub record SoloData : Type 0 where
   pub count : ℕ
   pub rows : List (List ℕ)

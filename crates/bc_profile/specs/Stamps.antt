@@ -1,4 +1,5 @@
--- What the parts of a keyslot manager for one caller are, behind its type. No public contract speaks of them.
+-- What the parts of a keyslot manager for one caller are, behind its type. No public contract
+-- speaks of them.
 use Rattle.std.specs.Prelude.{◌≡◌, ◌≢◌, ℕ, ◌+◌, ◌<◌, ◌≤◌, true, List, length, map, All, AllPairs, Option, Some, None, slice_index_or, slice_index}
 use Rattle.bc_profile.specs.declared.event.Event.{Event}
 use Rattle.bc_profile.specs.declared.limits.TheConstants.{MAX_SLOTS, MAX_EVENTS}
@@ -18,7 +19,8 @@ pub record IsTold (keys : List (Option ℕ)) (epochs : List ℕ) (journal : List
   pub as_many : length epochs ≡ length keys
   pub named : Named keys epochs journal
 
--- the list is the slots in the order of their stamps; all are on it, or all but the one that is held
+-- the list is the slots in the order of their stamps; all are on it, or all but the one that is
+-- held
 pub record AreStamped (slots : Slots) (held : Option ℕ) (stamps : List ℕ) (next : ℕ) : Type 0 where
   pub as_many : length stamps ≡ length slots.keys
   pub ascend : AllPairs (λ earlier later. slice_index stamps earlier < slice_index stamps later) slots.list

@@ -89,8 +89,9 @@ impl Book {
         self.story.len()
     }
 
-    /// Takes a hold of the key for a caller: its slot, and the place in the story of the event that programmed the slot
-    /// with it. None where no slot has the key and each is held. There is room for an event.
+    /// Takes a hold of the key for a caller: its slot, and the place in the story of the event that
+    /// programmed the slot with it. None where no slot has the key and each is held. There is room
+    /// for an event.
     pub(crate) fn take_hold(&mut self, caller: u16, key: u16) -> Option<(u16, u32)>
         requires room { HasRoom self.old }
         ensures taken { IfSome result (λ hold. TakesHold self.old self.new caller key hold.0) }
@@ -133,8 +134,8 @@ impl Book {
         words
     }
 
-    /// Gives a hold of the slot back for a caller. Where no reference is left the slot is idle, which is recorded. There is
-    /// room for an event.
+    /// Gives a hold of the slot back for a caller. Where no reference is left the slot is idle,
+    /// which is recorded. There is room for an event.
     pub(crate) fn give_back(&mut self, caller: u16, slot: u16)
         requires room { HasRoom self.old }
         requires slot { slot < self.old.count }
@@ -148,7 +149,8 @@ impl Book {
         }
     }
 
-    /// Takes the key out of its slot for a caller, unless that one is held; both are recorded. There is room for an event.
+    /// Takes the key out of its slot for a caller, unless that one is held; both are recorded.
+    /// There is room for an event.
     ///
     /// # Errors
     ///
@@ -179,7 +181,8 @@ impl Book {
         }
     }
 
-    /// Records a reset by a caller where no slot is held, and tells whether it did. There is room for an event.
+    /// Records a reset by a caller where no slot is held, and tells whether it did. There is room
+    /// for an event.
     pub(crate) fn reset(&mut self, caller: u16) -> bool
         requires room { HasRoom self.old }
         ensures idle { result ≡ list_all (λ refs. refs == 0) self.old.refs }

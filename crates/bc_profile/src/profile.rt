@@ -54,9 +54,10 @@ fn total(quotas: &[u32]) -> u32
 }
 
 impl Profile {
-    /// A device with `slots` slots, 1 to [`MAX_SLOTS`](crate::MAX_SLOTS), none of which has a key, and a pass for each caller,
-    /// whose numbers are 0, 1 and so on in order. `rows` has the register row of each key at the key's number, of at most
-    /// 4096, and `quotas` how many events each caller may make, of 1 to 65,535 callers.
+    /// A device with `slots` slots, 1 to [`MAX_SLOTS`](crate::MAX_SLOTS), none of which has a key,
+    /// and a pass for each caller, whose numbers are 0, 1 and so on in order. `rows` has the
+    /// register row of each key at the key's number, of at most 4096, and `quotas` how many events
+    /// each caller may make, of 1 to 65,535 callers.
     ///
     /// # Errors
     ///
@@ -97,8 +98,9 @@ impl Profile {
 
     /// The journal at the end. All passes are here, and none has a hold.
     ///
-    /// The journal is the events of a story: a lawful journal, which begins with what each pass has seen, and in which the
-    /// events of a caller are those that its pass made, each once, in its order.
+    /// The journal is the events of a story: a lawful journal, which begins with what each pass has
+    /// seen, and in which the events of a caller are those that its pass made, each once, in its
+    /// order.
     ///
     /// # Errors
     ///
@@ -149,9 +151,10 @@ impl Profile {
         }
     }
 
-    /// Takes a hold of the key, if a slot has it or a slot isn't held. Such a slot, the first of the idle order, is programmed
-    /// with the key where none has it. Paired with [`Profile::put`]. The pass has no hold and a spare of two events, of which
-    /// one is kept for the call of `put`; the key has a row.
+    /// Takes a hold of the key, if a slot has it or a slot isn't held. Such a slot, the first of
+    /// the idle order, is programmed with the key where none has it. Paired with [`Profile::put`].
+    /// The pass has no hold and a spare of two events, of which one is kept for the call of `put`;
+    /// the key has a row.
     ///
     /// # Errors
     ///
@@ -182,7 +185,8 @@ impl Profile {
         Ok(hold)
     }
 
-    /// Takes a hold of the key, as [`Profile::try_get`]; while no slot has the key and all are held it tries again.
+    /// Takes a hold of the key, as [`Profile::try_get`]; while no slot has the key and all are held
+    /// it tries again.
     pub fn get<R: Wait>(&self, rt: &R, pass: &mut SlotPass, key: KeyNo) -> Hold
         requires pass { IsOf self.now pass.old }
         requires free { pass.old.hold ≡ None }
@@ -203,7 +207,8 @@ impl Profile {
         unreachable!()
     }
 
-    /// Gives the hold of the pass back. Where no reference is left the slot is idle. The pass has a spare of an event.
+    /// Gives the hold of the pass back. Where no reference is left the slot is idle. The pass has a
+    /// spare of an event.
     pub fn put<R: Wait>(&self, rt: &R, pass: &mut SlotPass, hold: Hold)
         requires pass { IsOf self.now pass.old }
         requires held { pass.old.hold ≡ Some hold }
@@ -218,7 +223,8 @@ impl Profile {
         pass.hold = None;
     }
 
-    /// Takes the key out of its slot, if a slot has it, unless that one is held. The pass has no hold and a spare of an event.
+    /// Takes the key out of its slot, if a slot has it, unless that one is held. The pass has no
+    /// hold and a spare of an event.
     ///
     /// # Errors
     ///
@@ -240,8 +246,8 @@ impl Profile {
         evicted
     }
 
-    /// Resets the device: all slots are programmed again, once none is held; until then it tries again. Keys, events and the
-    /// idle order stay. The pass has no hold and a spare of an event.
+    /// Resets the device: all slots are programmed again, once none is held; until then it tries
+    /// again. Keys, events and the idle order stay. The pass has no hold and a spare of an event.
     pub fn reset<R: Wait>(&self, rt: &R, pass: &mut SlotPass)
         requires pass { IsOf self.now pass.old }
         requires free { pass.old.hold ≡ None }

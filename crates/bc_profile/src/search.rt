@@ -29,7 +29,8 @@ pub(crate) fn least(stamps: &[u32]) -> usize
     least
 }
 
-/// The first slot of the list that isn't held, and those before it with their references. None where each is held.
+/// The first slot of the list that isn't held, and those before it with their references. None
+/// where each is held.
 pub(crate) fn first_free(list: &[u16], refs: &[u16]) -> Option<(u16, Skips)>
     requires few { length list.now ≤ MAX_SLOTS }
     requires slots { AllByRecursion (λ slot. slot < length refs.now) list.now }

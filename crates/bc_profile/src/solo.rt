@@ -1,7 +1,8 @@
 //! The keyslot manager for one caller.
 //!
-//! Each slot has a stamp, which says when it became idle last, so the least recently idle slot is the one with the least
-//! stamp. All calls but [`Solo::open`] take no memory, and but [`Solo::reset`] go over the slots once or twice.
+//! Each slot has a stamp, which says when it became idle last, so the least recently idle slot is
+//! the one with the least stamp. All calls but [`Solo::open`] take no memory, and but
+//! [`Solo::reset`] go over the slots once or twice.
 ghost use Rattle.std.specs.Prelude.{◌≡◌, ◌+◌, ◌*◌, ◌<◌, ◌≤◌, [], ◌∷◌, length, Some, None, IfOk};
 ghost use Rattle.bc_profile.specs.declared.limits.TheConstants.{MAX_SLOTS, MAX_EVENTS};
 ghost use Rattle.bc_profile.specs.declared.event.Event.TheVariants as events;
@@ -57,8 +58,8 @@ impl Model for Solo {
 }
 
 impl Solo {
-    /// A device with `slots` slots, 1 to [`MAX_SLOTS`], none of which has a key. `rows` has the register row of each key
-    /// at the key's number, and the journal has room for `events` events.
+    /// A device with `slots` slots, 1 to [`MAX_SLOTS`], none of which has a key. `rows` has the
+    /// register row of each key at the key's number, and the journal has room for `events` events.
     ///
     /// # Errors
     ///
@@ -89,11 +90,12 @@ impl Solo {
         self.quota - self.journal.len() as u32
     }
 
-    /// Takes a hold of the key: its slot, and the place in the journal of the event that programmed the slot with it.
-    /// Where no slot has the key, the least recently idle slot is programmed with it first.
+    /// Takes a hold of the key: its slot, and the place in the journal of the event that programmed
+    /// the slot with it. Where no slot has the key, the least recently idle slot is programmed with
+    /// it first.
     ///
-    /// Paired with [`Solo::put`] of the slot, and no other hold is taken before it. The key has a row, and the journal
-    /// has room for two events, of which one is kept for the call of `put`.
+    /// Paired with [`Solo::put`] of the slot, and no other hold is taken before it. The key has a
+    /// row, and the journal has room for two events, of which one is kept for the call of `put`.
     pub fn hold(&mut self, key: KeyNo) -> (u16, u32)
         requires free { self.old.held ≡ None }
         requires key { key.0 < length self.old.rows }
@@ -154,8 +156,8 @@ impl Solo {
         self.held = None;
     }
 
-    /// Takes the key out of its slot and clears the registers, if a slot has it. No slot is held, the key has a row, and
-    /// the journal has room for an event.
+    /// Takes the key out of its slot and clears the registers, if a slot has it. No slot is held,
+    /// the key has a row, and the journal has room for an event.
     pub fn evict(&mut self, key: KeyNo)
         requires free { self.old.held ≡ None }
         requires key { key.0 < length self.old.rows }
@@ -174,9 +176,9 @@ impl Solo {
         }
     }
 
-    /// Resets the device: clears the registers of all slots, and programs each slot that has a key with it again. Slots
-    /// keep their keys, and stay in the order in which they became idle. No slot is held, and the journal has room for an
-    /// event.
+    /// Resets the device: clears the registers of all slots, and programs each slot that has a key
+    /// with it again. Slots keep their keys, and stay in the order in which they became idle. No
+    /// slot is held, and the journal has room for an event.
     pub fn reset(&mut self)
         requires free { self.old.held ≡ None }
         requires spare { HasSpare self.old 1 }

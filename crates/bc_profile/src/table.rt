@@ -17,7 +17,8 @@ use std::marker::Model;
 pub(crate) struct SlotTable {
     /// The key of each slot.
     keys: Vec<Option<u16>>,
-    /// The idle slots, and those that got a hold while they were idle; the least recently idle one first.
+    /// The idle slots, and those that got a hold while they were idle; the least recently idle one
+    /// first.
     list: ArrayVec<u16, MAX_SLOTS>,
     /// The references of each slot.
     refs: Vec<u16>,

@@ -18,8 +18,8 @@ pub enum Use {
 }
 
 impl Solo {
-    /// Carries out the uses, one after the other, by the calls that they are named after. No slot is held, each key has
-    /// a row, and the journal has room for two events for each use.
+    /// Carries out the uses, one after the other, by the calls that they are named after. No slot
+    /// is held, each key has a row, and the journal has room for two events for each use.
     pub fn carry_out(&mut self, uses: &[Use])
         requires free { self.old.held ≡ None }
         requires keys { All (NamesRow (length self.old.rows)) uses.now }

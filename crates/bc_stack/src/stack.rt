@@ -18,7 +18,8 @@ use std::marker::Model;
 /// How many devices a stack can have.
 pub const MAX_DEVICES: usize = 8;
 
-/// The devices of a disk, each with the blocks after those of the one before it. Without devices no block lies on one.
+/// The devices of a disk, each with the blocks after those of the one before it. Without devices no
+/// block lies on one.
 #[derive(Drop)]
 pub struct Stack {
     targets: Vec<Target>,
@@ -40,9 +41,10 @@ impl Stack {
     ///
     /// # Errors
     ///
-    /// `TooMany` where there are more than [`MAX_DEVICES`] targets; then, from the first target on, `Empty` where it has no
-    /// blocks and `Gap` where it doesn't begin at the end of the one before; then `Gap` where there are targets and the
-    /// last one doesn't end with the disk. `Memory` where there is no memory for targets that pass.
+    /// `TooMany` where there are more than [`MAX_DEVICES`] targets; then, from the first target on,
+    /// `Empty` where it has no blocks and `Gap` where it doesn't begin at the end of the one
+    /// before; then `Gap` where there are targets and the last one doesn't end with the disk.
+    /// `Memory` where there is no memory for targets that pass.
     pub fn new(alloc: Global, targets: &[Target], blocks: u32) -> Result<Stack, StackError>
         requires { All HasSlots targets.now }
         ensures accepts { OnOk result (refusal_of targets.now blocks ≡ None) }
@@ -93,8 +95,9 @@ impl Stack {
         }
     }
 
-    /// The device of unit number `first` of a request, and how many units from there stand in it, up to the first that lies
-    /// on another device or to the request's end. Each unit from `first` on lies in one target.
+    /// The device of unit number `first` of a request, and how many units from there stand in it,
+    /// up to the first that lies on another device or to the request's end. Each unit from `first`
+    /// on lies in one target.
     pub fn cut_at_borders(&self, keys: &Keys, request: &Request, first: u32) -> (u8, u32)
         requires request { IsRequest keys.now.keys (tagged_bios request.now.bios) }
         requires within { first < count_units (tagged_bios request.now.bios) }

@@ -10,7 +10,8 @@ use Rattle.bc_turn.specs.declared.view.Account.{Account}
 use Rattle.bc_turn.specs.declared.view.View.{View}
 use Rattle.bc_turn.specs.Turning.{one_if, account, mine, AtRest, Holding}
 
--- what a pass knows of one cell: the front of its story that was seen, how often its own fetch found the turn taken, and whether it holds the value
+-- what a pass knows of one cell: the front of its story that was seen, how often its own fetch
+-- found the turn taken, and whether it holds the value
 pub record Part (E B : Type 0) : Type 0 where
   pub cell : TableId
   pub caller : ℕ
@@ -108,13 +109,15 @@ module _ {E B : Type 0} where
 abbrev pub part_of : {V E B : Type 0} → Seat (Option V) (View E B) → Part E B
 part_of s = part s.table_id (mine s.me.0).number s.me.0.base (mine s.me.0).seen (mine s.me.0).missed (mine s.me.0).has
 
--- the seat is a caller's, at rest or with the value. The counts are those of its own entries, and of all entries of the value
+-- the seat is a caller's, at rest or with the value. The counts are those of its own entries, and
+-- of all entries of the value
 abbrev pub IsPost : {V E B : Type 0} → (E → ℕ) → Seat (Option V) (View E B) → ℕ → ℕ → Type 0
 IsPost by s made held = (AtRest s.me ⊎ (Holding s.me × (held ≡ length (mine s.me.0).seen)))
     × (made ≡ length (own by (mine s.me.0).number (mine s.me.0).seen))
 
 module _ {V E B : Type 0} (entries : V → List E) (kept : B → V → Type 0) (by : E → ℕ) where
-  -- the value begins with all that was seen, keeps to the base of opening, and has of this caller what was seen of it alone
+  -- the value begins with all that was seen, keeps to the base of opening, and has of this caller
+  -- what was seen of it alone
   abbrev pub Continues : Part E B → V → Type 0
   Continues q v = StartsWith (entries v) q.seen × (own by q.caller (entries v) ≡ own by q.caller q.seen)
       × IfSome q.base (λ b. kept b v) × (length (entries v) < 2 ^ 62)
@@ -142,12 +145,14 @@ module _ {V E B : Type 0} (entries : V → List E) (kept : B → V → Type 0) (
   Counts q q' n = (q' ≡ with_seen q q'.seen) × StartsWith q'.seen q.seen
       × (own by q.caller q'.seen ≡ own by q.caller q.seen) × (length q'.seen ≡ n)
 
-  -- what a pass has seen of a cell is a prefix of the story at the end, which has of its caller what it made alone
+  -- what a pass has seen of a cell is a prefix of the story at the end, which has of its caller
+  -- what it made alone
   abbrev pub Ends : ℕ → V → Pass E B → Type 0
   Ends k v p = AllAt p.parts k (λ q. StartsWith (entries v) q.seen
       × (own by p.caller (entries v) ≡ own by p.caller q.seen))
 
-  -- the value of a cell at the end: it has the base of opening, what each pass made, and nothing of others
+  -- the value of a cell at the end: it has the base of opening, what each pass made, and nothing of
+  -- others
   abbrev pub IsClosed : TurnsData B → List (Pass E B) → ℕ → V → Type 0
   IsClosed t passes k v = AllAt t.cells k (λ c. kept c.base v) × Each (Ends k v) passes
       × ((c : ℕ) → t.callers ≤ c → own by c (entries v) ≡ [])

@@ -1,5 +1,5 @@
--- The rule of one turn word, and what each step tells.
--- The word is twice the number of entries of the value last given, and 1 more while a caller has the turn.
+-- The rule of one turn word, and what each step tells. The word is twice the number of entries of
+-- the value last given, and 1 more while a caller has the turn.
 use Rattle.std.specs.Prelude.{◌≡◌, ◌≢◌, ◌⊎◌, ℕ, zero, suc, ◌+◌, ◌*◌, ◌%◌, ◌<◌, ◌≤◌, ◌^◌, ◌==◌, Bool, true, false, if◌then◌else◌, List, [], ◌∷◌, ◌++◌, length, slice_index, ◌/◌, Option, Some, None, IfSome}
 use mathlib.Core.Option as maybe
 use Rattle.atomic_table.specs.Table.{State, Me, Step, rest}
@@ -51,7 +51,8 @@ newcomers zero = []
 newcomers (suc n) = account n [] 0 false ∷ newcomers n
 
 module _ {E : Type 0} (by : E → ℕ) where
-  -- the account begins the story, has all of its caller's entries, and the whole story while it has the turn
+  -- the account begins the story, has all of its caller's entries, and the whole story while it has
+  -- the turn
   abbrev pub Fits : List E → Account E → Type 0
   Fits story a = StartsWith story a.seen × (own by a.number story ≡ own by a.number a.seen)
       × (a.has ≡ true → a.seen ≡ story)

@@ -1,8 +1,9 @@
-//! One value behind one turn: a table of one word and one slot, under a rule with three kinds of step.
+//! One value behind one turn: a table of one word and one slot, under a rule with three kinds of
+//! step.
 //!
-//! The word is twice the number of entries of the value that was given last, and one more while a caller has the value. A
-//! fetch that sets the lowest bit takes the turn where the bit was clear, a store gives it, and a load counts. The slot
-//! has the value while nobody holds it.
+//! The word is twice the number of entries of the value that was given last, and one more while a
+//! caller has the value. A fetch that sets the lowest bit takes the turn where the bit was clear, a
+//! store gives it, and a load counts. The slot has the value while nobody holds it.
 ghost use Rattle.std.specs.Prelude.{◌≡◌, ℕ, ◌+◌, ◌*◌, ◌^◌, ◌<◌, ◌≤◌, List, [], ◌∷◌, ◌++◌, length, true, false, Some, IfOk, IfErr, IfSome, IfNone};
 ghost use Rattle.atomic_table.specs.Seated.{TableId};
 ghost use Rattle.bc_base.specs.Lists.{Each};

@@ -9,9 +9,9 @@ use crate::story::Story;
 use std::alloc::{AllocError, Global};
 use std::marker::Model;
 
-/// The pass of one caller of a [`Turns`](crate::Turns): its number, and of each cell how far it has seen the story, how
-/// often it found the turn with another, and whether it holds the value. Contracts see it as a `Pass`, with a `Part` for
-/// each cell.
+/// The pass of one caller of a [`Turns`](crate::Turns): its number, and of each cell how far it has
+/// seen the story, how often it found the turn with another, and whether it holds the value.
+/// Contracts see it as a `Pass`, with a `Part` for each cell.
 #[derive(Drop)]
 pub struct TurnPass<V: Story> {
     pub(crate) number: u16,
@@ -38,8 +38,8 @@ impl<V: Story> TurnPass<V> {
         self.number
     }
 
-    /// How many entries of a cell's story are the caller's own. A crate that gives each caller room for so many subtracts
-    /// this from it.
+    /// How many entries of a cell's story are the caller's own. A crate that gives each caller room
+    /// for so many subtracts this from it.
     pub fn made(&self, cell: u16) -> u64
         requires { cell < length self.now.parts }
         ensures { AllAt self.now.parts cell (λ q. result ≡ length (own V.by self.now.caller q.seen)) }
