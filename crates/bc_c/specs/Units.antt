@@ -1,4 +1,5 @@
--- What consecutive data units become: unit i is enciphered, or deciphered, under the first number plus i.
+-- What consecutive data units become: unit i is enciphered, or deciphered, under the first number
+-- plus i.
 use Rattle.std.specs.Prelude.{◌≡◌, ℕ, ◌+◌, ◌*◌, ◌/◌, List, length, take, drop, Some}
 use Rattle.std.specs.List.{flat_map, range_with_len}
 use Rattle.bc_key.specs.declared.config.Mode.{Mode}

@@ -1,5 +1,6 @@
--- What a thread carries while it works on its section, over its own entries and events and what it has seen. It acts when it
--- submits an accepted bio, evicts and resets; other operations are answered by themselves.
+-- What a thread carries while it works on its section, over its own entries and events and what it
+-- has seen. It acts when it submits an accepted bio, evicts and resets; other operations are
+-- answered by themselves.
 use Rattle.std.specs.Prelude.{ℕ, ◌<◌, Bool, true, false, List, [], flat_map, is_none}
 use Rattle.std.specs.Option.{option_map_or}
 use Rattle.bc_base.specs.Lists.{Each}
@@ -21,8 +22,8 @@ is_act script (op, ops.Evict key) = true
 is_act script (op, ops.Reset device) = true
 is_act script (op, operation) = option_map_or (λ bio. is_none (refusal_of script bio)) (bio_of operation) false
 
--- `acts` are the operations that were acted on, in order, all with numbers below `next`; `opening` is what the thread had seen
--- of the orders when its section began
+-- `acts` are the operations that were acted on, in order, all with numbers below `next`; `opening`
+-- is what the thread had seen of the orders when its section began
 pub record Acted (script : Script) (shards thread : ℕ) (opening : List (List Entry)) (acts : List (ℕ × Op)) (next : ℕ)
     (seen : List (List Entry)) (noted : List (List Noted)) (made : List Entry) (evictions : List Eviction)
     : Type 0 where

@@ -1,5 +1,5 @@
--- What shards and devices tell when they are closed: one order for each shard and one journal for each device, of which
--- each thread has seen the front, and what each order leaves.
+-- What shards and devices tell when they are closed: one order for each shard and one journal for
+-- each device, of which each thread has seen the front, and what each order leaves.
 use Rattle.std.specs.Prelude.{◌≡◌, ℕ, ◌<◌, List, map, length}
 use Rattle.bc_base.specs.Lists.{Each, At, list_at}
 use Rattle.bc_base.specs.Story.{IsFront}

@@ -1,5 +1,6 @@
--- A run put together from its sections: what each thread knows, and what the closed shards and devices tell. Such a run is
--- lawful but for who held a slot; where its sections follow one another it is the one serial run, which is lawful whole.
+-- A run put together from its sections: what each thread knows, and what the closed shards and
+-- devices tell. Such a run is lawful but for who held a slot; where its sections follow one another
+-- it is the one serial run, which is lawful whole.
 use Rattle.std.specs.Prelude.{◌≡◌, ℕ, ◌*◌, ◌<◌, ◌≤◌, List, [], map, filter, flat_map, length, All, ⊤}
 use Rattle.std.specs.List.{range_with_len, enumerate_from}
 use Rattle.bc_base.specs.Lists.{Each, list_at}
@@ -20,7 +21,8 @@ use Rattle.bc_report.specs.SerialRun.{NamesHoldUnder, serial_journal, IsSerial, 
 use Rattle.bc_compose.specs.SectionDone.{key_of_entry, SectionDone}
 use Rattle.bc_compose.specs.Closed.{ShardsClosed, StoresClosed, DevicesClosed, IsReported}
 
--- all sections of a script are done over this image on so many shards, and the shards are closed with these orders
+-- all sections of a script are done over this image on so many shards, and the shards are closed
+-- with these orders
 pub record AreSectionsOf (script : Script) (image : List ℕ) (shards : ℕ) (report : Report) (left : List ℕ)
     (made : ℕ → List Entry) (orders : List (List Entry)) (journals : List (List Noted)) : Type 0 where
   pub base : ℕ → Sectors
@@ -44,12 +46,13 @@ FollowOneAnother shards threads made orders =
     (shard : ℕ) → shard < shards
     → list_at orders shard ≡ flat_map (λ t. filter (lies_in shards shard) (made t)) (range_with_len 0 threads)
 
--- the entry names the slot of its own hold, and the event that programmed it, as the uses of its device up to that hold have
--- it
+-- the entry names the slot of its own hold, and the event that programmed it, as the uses of its
+-- device up to that hold have it
 abbrev pub NamesItsHold : Script → Entry → Type 0
 NamesItsHold script e = NamesHoldUnder script (key_of_entry e) (name_of_entry e) e.via
 
--- each journal is that of the device's uses by one caller, and each entry of each thread names its own hold
+-- each journal is that of the device's uses by one caller, and each entry of each thread names its
+-- own hold
 pub record AreUses (script : Script) (threads : ℕ) (made : ℕ → List Entry) (journals : List (List Noted)) : Type 0 where
   pub journals_are : map events_of journals ≡ map (serial_journal script) (enumerate_from 0 script.targets)
   pub holds : (t : ℕ) → t < threads → Each (NamesItsHold script) (made t)
@@ -78,7 +81,8 @@ SerialRunsHaveKnownHolders =
     (script : Script) (run : Run) (report : Report)
     → IsScript script → IsSerial script run report → HoldersAreKnown script report
 
--- two serial runs of one script, over one image, with as many shards, have one report and leave one image
+-- two serial runs of one script, over one image, with as many shards, have one report and leave one
+-- image
 abbrev pub SerialRunsAgree : Type 0
 SerialRunsAgree =
     (script : Script) (image : List ℕ) (shards : ℕ) (one other : Report) (left other_left : List ℕ)
@@ -86,7 +90,8 @@ SerialRunsAgree =
     → IsSerialRun script image shards one left → IsSerialRun script image shards other other_left
     → (one ≡ other) × (left ≡ other_left)
 
--- an event found no slot with references: it isn't a refusal, nor a programming that passed over a slot
+-- an event found no slot with references: it isn't a refusal, nor a programming that passed over a
+-- slot
 abbrev pub FindsNone : Event → Type 0
 FindsNone (events.Program slot key skipped) = skipped ≡ []
 FindsNone (events.Busy slot key refs) = ⊥

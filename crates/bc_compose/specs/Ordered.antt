@@ -1,5 +1,6 @@
--- What calls tell of a thread's holds and evictions, and what the thread carries of them while it works on its section, so that
--- the point on programmings follows: over its own entries and events, and the journals as far as it has seen them.
+-- What calls tell of a thread's holds and evictions, and what the thread carries of them while it
+-- works on its section, so that the point on programmings follows: over its own entries and events,
+-- and the journals as far as it has seen them.
 use Rattle.std.specs.Prelude.{◌≡◌, ℕ, ◌<◌, ◌≤◌, List, [], ◌∷◌, ◌++◌, length, filter_map, slice_get, IsTrue, ⊤}
 use Rattle.std.specs.List.{AllByRecursion}
 use Rattle.std.specs.Option.{option_map_or}
@@ -37,8 +38,8 @@ GoesInline script key = IsTrue (is_inline script (record { 0 = key }))
 abbrev pub Rises : InlineEntry → InlineEntry → Type 0
 Rises first second = first.key ≡ second.key → first.device ≡ second.device → first.event ≤ second.event
 
--- the hold of an inline entry: the journal as the hold was taken stands between those before and after the call, and the
--- last programming of the key there is the entry's
+-- the hold of an inline entry: the journal as the hold was taken stands between those before and
+-- after the call, and the last programming of the key there is the entry's
 pub record HasHold (script : Script) (before after : List (List Noted)) (i : InlineEntry) : Type 0 where
   pub is_inline : GoesInline script i.key
   pub front : List Noted
@@ -47,7 +48,8 @@ pub record HasHold (script : Script) (before after : List (List Noted)) (i : Inl
   pub seen : StartsWith (list_at after i.device) front
   pub holds : Holds (slots_of script i.device) front i.key slot i.event
 
--- the key is in no slot of the device, in its journal as it stood between those before and after the call
+-- the key is in no slot of the device, in its journal as it stood between those before and after
+-- the call
 pub record IsTakenOut (script : Script) (before after : List (List Noted)) (device key : ℕ) : Type 0 where
   pub front : List Noted
   pub begins : StartsWith front (list_at before device)
@@ -60,7 +62,8 @@ pub record Held (script : Script) (before after : List (List Noted)) (es : List 
   pub holds : Each (HasHold script before after) (filter_map inline_of es)
   pub rises : Pairs Rises (filter_map inline_of es)
 
--- an eviction left its key in no slot of a device that it passed, behind all events that earlier entries name
+-- an eviction left its key in no slot of a device that it passed, behind all events that earlier
+-- entries name
 pub record Passed (script : Script) (noted : List (List Noted)) (made : List Entry) (v : Eviction) (device : ℕ)
     : Type 0 where
   pub front : List Noted
@@ -74,7 +77,8 @@ abbrev pub IsPassed : Script → List (List Noted) → List Entry → Eviction �
 IsPassed script noted made v =
     (device : ℕ) → IsTrue (passes device v.answer) → GoesInline script v.key → Passed script noted made v device
 
--- a thread's entries and evictions, in order; all have numbers below `next`, that of the operation that comes next
+-- a thread's entries and evictions, in order; all have numbers below `next`, that of the operation
+-- that comes next
 pub record Ordered (script : Script) (thread next : ℕ) (made : List Entry) (evictions : List Eviction)
     (noted : List (List Noted)) : Type 0 where
   pub pairs : Pairs (InOrder evictions thread) (filter_map inline_of made)

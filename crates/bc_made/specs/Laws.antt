@@ -1,5 +1,5 @@
--- The law of generated scripts: whatever the slots, the shards and the order in which the threads' data units met,
--- every lawful run over zeros leaves one image, which the number of pairs decides.
+-- The law of generated scripts: whatever the slots, the shards and the order in which the threads'
+-- data units met, every lawful run over zeros leaves one image, which the number of pairs decides.
 use Rattle.std.specs.Prelude.{◌≡◌, ℕ, ◌≤◌, List}
 use Rattle.bc_script.specs.Script.{Script}
 use Rattle.bc_script.specs.Generated.{generated}

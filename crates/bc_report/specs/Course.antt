@@ -1,5 +1,5 @@
--- Where a report's lines stand, and which line may follow. The contracts of private functions speak of this; no public one
--- does.
+-- Where a report's lines stand, and which line may follow. The contracts of private functions speak
+-- of this; no public one does.
 use Rattle.std.specs.Prelude.{◌≡◌, ℕ, suc, zero, ◌+◌, ◌-◌, ◌^◌, ◌<◌, if◌then◌else◌, List, [], ◌∷◌, codes}
 use Rattle.std.specs.Str.{bytes_eq}
 use Rattle.bc_text.specs.Lines.{TextLine}
@@ -12,8 +12,9 @@ use Rattle.bc_report.specs.declared.limits.TheConstants.{MAX_THREADS, MAX_SHARDS
 use Rattle.bc_report.specs.Report.{IsAnswer, IsEntry, IsEvent}
 use Rattle.bc_report.specs.ReportText.{answer_line, entry_line, event_line, thread_line, shard_line, device_line, head_line, foot_line}
 
--- Before the head; in a thread, with how many have begun; between whole parts, with how many threads, shards and devices
--- have begun; in a shard or a device, with the number of lines that it still needs at the end; after the foot.
+-- Before the head; in a thread, with how many have begun; between whole parts, with how many
+-- threads, shards and devices have begun; in a shard or a device, with the number of lines that it
+-- still needs at the end; after the foot.
 pub data At : Type 0 where
   Head : At
   InThread : ℕ → At

@@ -1,5 +1,5 @@
--- Programmings: an inline entry names an event that programs its slot with its own key, and later entries of a thread
--- name no earlier event.
+-- Programmings: an inline entry names an event that programs its slot with its own key, and later
+-- entries of a thread name no earlier event.
 use Rattle.std.specs.Prelude.{◌≡◌, ℕ, ◌<◌, ◌≤◌, Bool, true, false, ◌&&◌, ◌==◌, nat_lt, List, [], flat_map, filter_map, find, All, AllPairs, Option, Some, None, IsTrue, IsSomeAnd, option_map, option_and_then, slice_get, slice_index_or, ⊤}
 use Rattle.std.specs.List.{list_any, enumerate_from}
 use Rattle.bc_bio.specs.declared.context.Context.{Context}
@@ -34,7 +34,8 @@ abbrev pub via_of : Report → UnitName → Option Via
 via_of report name =
     option_map (λ line. line.via) (find (λ line. is_same (name_in line) name) (flat_map (λ lines. lines) report.shards))
 
--- an inline entry of a thread: the numbers of its operation and its key, and the device and the event that it names
+-- an inline entry of a thread: the numbers of its operation and its key, and the device and the
+-- event that it names
 pub record InlineEntry : Type 0 where
   pub op : ℕ
   pub key : ℕ
@@ -57,7 +58,8 @@ entry_of report thread u =
 abbrev pub entries_in_order : Report → ℕ → List PlannedUnit → List InlineEntry
 entries_in_order report thread issued = filter_map (entry_of report thread) issued
 
--- an eviction with this answer took the key from this device: it was answered `evicted`, or `busy` at a later device
+-- an eviction with this answer took the key from this device: it was answered `evicted`, or `busy`
+-- at a later device
 abbrev pub passes : ℕ → Answer → Bool
 passes device answers.Evicted = true
 passes device (answers.Busy d slot refs) = nat_lt device d
@@ -70,8 +72,8 @@ is_evicted_between evictions thread key device first second =
     (λ e. (e.thread == thread) && (e.key == key) && nat_lt first e.op && nat_lt e.op second && passes device e.answer)
     evictions
 
--- of two entries under one key on one device: the later one names no earlier event, and a later event where the thread
--- evicted the key between them
+-- of two entries under one key on one device: the later one names no earlier event, and a later
+-- event where the thread evicted the key between them
 pub record InOrder (evictions : List Eviction) (thread : ℕ) (first second : InlineEntry) : Type 0 where
   pub never_earlier : first.key ≡ second.key → first.device ≡ second.device → first.event ≤ second.event
   pub later_after_eviction : first.key ≡ second.key → first.device ≡ second.device

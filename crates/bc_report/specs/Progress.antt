@@ -1,5 +1,5 @@
--- A report that is being read: what the lines say that have been read so far. The contracts of private functions speak of
--- this; no public one does.
+-- A report that is being read: what the lines say that have been read so far. The contracts of
+-- private functions speak of this; no public one does.
 use Rattle.std.specs.Prelude.{◌≡◌, ℕ, ◌+◌, ◌-◌, ◌^◌, ◌<◌, ◌≤◌, List, [], ◌∷◌, ◌++◌, length, map, ⊤}
 use Rattle.std.specs.List.{AllByRecursion}
 use Rattle.bc_text.specs.Lines.{TextLine, nothing}
@@ -17,7 +17,8 @@ use Rattle.bc_report.specs.Report.{Report, IsReport, IsAnswer, IsEntry, IsEvent,
 use Rattle.bc_report.specs.ReportText.{entry_line, event_line, thread_lines, shard_line, device_line, all_threads, all_shards, all_devices, head_line, foot_line, report_lines}
 use Rattle.bc_report.specs.Course.{At, Head, InThread, Between, Foot, shard_at, device_at, Goes, IsStuck}
 
--- the part that is being read, the parts that are whole, the lines of the one that isn't, and how many it still needs
+-- the part that is being read, the parts that are whole, the lines of the one that isn't, and how
+-- many it still needs
 pub record Progress : Type 0 where
   pub part : Part
   pub threads : List (List Answer)

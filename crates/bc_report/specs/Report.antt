@@ -1,5 +1,6 @@
--- What a run did, as its report says: for each thread what its operations were answered, for each shard its entries in
--- order, for each device the events of its keyslots in order; and the ranges that every report keeps.
+-- What a run did, as its report says: for each thread what its operations were answered, for each
+-- shard its entries in order, for each device the events of its keyslots in order; and the ranges
+-- that every report keeps.
 use Rattle.std.specs.Prelude.{◌≡◌, ◌^◌, ◌<◌, ◌≤◌, List, length, ⊤}
 use Rattle.std.specs.List.{AllByRecursion}
 use Rattle.hex.specs.Hex.{IsBytes}
@@ -14,7 +15,8 @@ use Rattle.bc_report.specs.declared.answer.Answer.{Answer}
 use Rattle.bc_report.specs.declared.answer.Answer.TheVariants as answers
 use Rattle.bc_report.specs.declared.line.Line.{Line as Entry}
 
--- for each thread the answers of its operations, for each shard its entries, for each device its events
+-- for each thread the answers of its operations, for each shard its entries, for each device its
+-- events
 pub record Report : Type 0 where
   pub threads : List (List Answer)
   pub shards : List (List Entry)

@@ -1,5 +1,5 @@
--- The text of a report, by its lines: the head, for each thread its answers, for each shard its entries, for each device
--- its events, and the foot. Each sort of line is one definition.
+-- The text of a report, by its lines: the head, for each thread its answers, for each shard its
+-- entries, for each device its events, and the foot. Each sort of line is one definition.
 use Rattle.std.specs.Prelude.{◌≡◌, ℕ, List, [], ◌∷◌, ◌++◌, codes, length, map, flat_map}
 use Rattle.std.specs.List.{enumerate_from}
 use Rattle.std.specs.Fmt.{decimal}
@@ -44,7 +44,8 @@ answer_line Unplug = codes "unplug" ∷ []
 
 -- ---- a line for each entry
 
--- the way of a data unit: an inline one names its device, its slot, and the event that programmed the slot
+-- the way of a data unit: an inline one names its device, its slot, and the event that programmed
+-- the slot
 abbrev pub via_fields : Via → TextLine
 via_fields Plain = codes "plain" ∷ []
 via_fields Soft = codes "soft" ∷ []

@@ -1,4 +1,5 @@
--- Fields that follow the first one of a line. The contracts of private functions speak of these; no public one does.
+-- Fields that follow the first one of a line. The contracts of private functions speak of these; no
+-- public one does.
 use Rattle.std.specs.Prelude.{ℕ, List, ◌∷◌, flat_map}
 use Rattle.bc_text.specs.Lines.{TextLine, space}
 

@@ -16,9 +16,9 @@ use std::alloc::Global;
 ///
 /// # Errors
 ///
-/// `Bad` where no report has the text: the first line, from 1, that no report has there. Where each line is possible and
-/// the text ends too early that is the line after the last one. A last line without a line feed is itself the line named.
-/// `Memory` where the process was out of memory.
+/// `Bad` where no report has the text: the first line, from 1, that no report has there. Where each
+/// line is possible and the text ends too early that is the line after the last one. A last line
+/// without a line feed is itself the line named. `Memory` where the process was out of memory.
 pub fn parse(alloc: Global, text: &[u8]) -> Result<Report, ReportError>
     requires { length text.now < 2 ^ 32 - 1 }
     ensures says { IfOk result (Says text.now) }
@@ -50,7 +50,8 @@ fn take(alloc: Global, reader: &mut Reader, line: Parts, number: u32) -> Result<
     }
 }
 
-/// The report whose last line has been read, and which has nothing after it but this, with the number of the next line.
+/// The report whose last line has been read, and which has nothing after it but this, with the
+/// number of the next line.
 fn finish(reader: Reader, rest: Parts, number: u32) -> Result<Report, ReportError>
     ensures ok { IfOk result (IsWhole reader rest.entry) }
     ensures bad { IfErr result (EndsNone reader rest.entry number) }

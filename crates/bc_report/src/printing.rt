@@ -17,8 +17,8 @@ use bc_profile::{Event, Skip};
 use bc_text::{put_hex, put_number};
 use std::alloc::{AllocError, Global};
 
-/// The one text of the report: its head, a part for each thread, each shard and each device, and its foot. Each line ends
-/// with a line feed.
+/// The one text of the report: its head, a part for each thread, each shard and each device, and
+/// its foot. Each line ends with a line feed.
 ///
 /// # Errors
 ///

@@ -1,5 +1,5 @@
--- What the commands `serial` and `threads` carry out: the script that a text says, over the image that the words name
--- or over zeros, with the shards that they say.
+-- What the commands `serial` and `threads` carry out: the script that a text says, over the image
+-- that the words name or over zeros, with the shards that they say.
 use Rattle.std.specs.Prelude.{◌≡◌, ℕ, false, ◌*◌, ◌≤◌, List, length, Option, Some, MatchOption, IfSome}
 use Rattle.std.specs.Prelude.{IsSomeAnd}
 use Rattle.bc_base.specs.declared.geometry.TheConstants.{BLOCK_BYTES}
@@ -40,7 +40,8 @@ pub record IsBadScript (error : ScriptError) (text : List ℕ) : Type 0 where
 abbrev pub bytes_of_disk : Script → ℕ
 bytes_of_disk script = BLOCK_BYTES * script.blocks
 
--- where an image is named the run begins with what the folder has under the name, and else with zeros
+-- where an image is named the run begins with what the folder has under the name, and else with
+-- zeros
 abbrev pub BeginsWith : Option Files → Option (List ℕ) → Script → List ℕ → Type 0
 BeginsWith files name script image = MatchOption name (image ≡ zeros_for script) (λ n. Has files n image)
 
@@ -55,13 +56,14 @@ HasImageFor files name script = IfSome name (λ n.
     IsSomeAnd files (λ held. IsSomeAnd (held n) (λ image.
     (length image ≡ bytes_of_disk script) × (length image ≤ MAX_IMAGE))))
 
--- where the sections weren't carried out at once, the run is lawful whole and goes section after section
+-- where the sections weren't carried out at once, the run is lawful whole and goes section after
+-- section
 abbrev pub IsOneCallers : Options → Script → List ℕ → Report → List ℕ → Type 0
 IsOneCallers options script image report left =
     options.at_once ≡ false → IsSerialRun script image options.shards report left
 
--- a report and the image that is left are those of a run of the script by these options, lawful in all that every order
--- of the sections' operations keeps
+-- a report and the image that is left are those of a run of the script by these options, lawful in
+-- all that every order of the sections' operations keeps
 pub record IsRunOf (files : Option Files) (options : Options) (script : Script) (report : Report) (left : List ℕ)
     : Type 0 where
   pub image : List ℕ
@@ -84,7 +86,8 @@ pub record IsScriptAnd (Holds : Script → Type 0) (text : Option (List ℕ)) : 
   pub accepted : IfSome text (λ t. IsTextOf t script)
   pub holds : Holds script
 
--- the script's disk has so many bytes, and the folder has another number of bytes under the name, within 64 MiB
+-- the script's disk has so many bytes, and the folder has another number of bytes under the name,
+-- within 64 MiB
 pub record HasAnotherLength (files : Option Files) (name : Option (List ℕ)) (script : Script) (want got : ℕ)
     : Type 0 where
   pub want_is : want ≡ bytes_of_disk script

@@ -1,5 +1,6 @@
--- The words of a command as `clap` reads them: the simple commands that stand for `serial` and `threads` together and
--- for `make`, which words they take, and the values that their options have then.
+-- The words of a command as `clap` reads them: the simple commands that stand for `serial` and
+-- `threads` together and for `make`, which words they take, and the values that their options have
+-- then.
 use Rattle.std.specs.Prelude.{◌≡◌, ◌⊎◌, ◌≤◌, ℕ, Bool, true, false, List, [], Option, Some, codes, slice_get}
 use Rattle.std.specs.Option.{option_map_or}
 use Rattle.std.specs.Str.{bytes_eq}
@@ -31,7 +32,8 @@ script_command =
     with_rule (with_rule (with_rule (new_app (codes "script")) (number_rule (codes "shards") 1 64))
     (option_rule (codes "image"))) (option_rule (codes "out"))
 
--- `make N [--slots N] [--shards N] [--threads]` with N in 1..=2048, slots in 1..=32 and shards in 1..=64
+-- `make N [--slots N] [--shards N] [--threads]` with N in 1..=2048, slots in 1..=32 and shards in
+-- 1..=64
 abbrev pub make_command : App
 make_command =
     with_rule (with_rule (with_rule (with_rule (new_app (codes "make")) (required_number (codes "n") 1 2048))
@@ -45,7 +47,8 @@ Begins word words = slice_get words 0 ≡ Some word
 abbrev pub NamesScript : List (List ℕ) → Type 0
 NamesScript words = Begins (codes "serial") words ⊎ Begins (codes "threads") words
 
--- the words are those of `serial` or `threads`: that is the first one, and clap finds no fault in the others
+-- the words are those of `serial` or `threads`: that is the first one, and clap finds no fault in
+-- the others
 pub record IsScriptCommand (words : List (List ℕ)) : Type 0 where
   pub named : NamesScript words
   pub taken : fault_of script_command words ≡ []
@@ -63,8 +66,8 @@ IsCommand words = IsScriptCommand words ⊎ IsMakeCommand words
 abbrev pub NamesCommand : List (List ℕ) → Type 0
 NamesCommand words = NamesScript words ⊎ Begins (codes "make") words
 
--- what the words of `serial` and `threads` say: where the image comes from, where it goes to, over how many shards, and
--- whether all sections are carried out at once
+-- what the words of `serial` and `threads` say: where the image comes from, where it goes to, over
+-- how many shards, and whether all sections are carried out at once
 pub record Options : Type 0 where
   pub image : Option (List ℕ)
   pub out : Option (List ℕ)
@@ -83,7 +86,8 @@ value_of name words = first_of name (matches_of script_command words)
 abbrev pub names_threads : List (List ℕ) → Bool
 names_threads words = option_map_or (λ word. bytes_eq word (codes "threads")) (slice_get words 0) false
 
--- what valid words of `serial` or `threads` say: without options an image of zeros, which goes nowhere, over one shard
+-- what valid words of `serial` or `threads` say: without options an image of zeros, which goes
+-- nowhere, over one shard
 abbrev pub options_of : List (List ℕ) → Options
 options_of words = record {
   image = value_of (codes "image") words;
@@ -101,8 +105,9 @@ IsNumberIn least most value =
 abbrev pub IsShardCount : ℕ → Type 0
 IsShardCount n = (1 ≤ n) × (n ≤ 64)
 
--- what the words of `make` say: how many pairs of a write and a read each thread has, how many keyslots the device has,
--- over how many shards the image lies, and whether all sections are carried out at once
+-- what the words of `make` say: how many pairs of a write and a read each thread has, how many
+-- keyslots the device has, over how many shards the image lies, and whether all sections are
+-- carried out at once
 pub record MakeOptions : Type 0 where
   pub n : ℕ
   pub slots : ℕ
@@ -117,8 +122,8 @@ made_number name other words = option_map_or number_of (first_of name (matches_o
 abbrev pub is_set : Option (List ℕ) → Bool
 is_set value = option_map_or (λ text. bytes_eq text (codes "true")) value false
 
--- what valid words of `make` say, which have the first number: without options one keyslot, eight shards, and one section
--- after the other
+-- what valid words of `make` say, which have the first number: without options one keyslot, eight
+-- shards, and one section after the other
 abbrev pub make_options_of : List (List ℕ) → MakeOptions
 make_options_of words = record {
   n = made_number (codes "n") 1 words;

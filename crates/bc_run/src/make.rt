@@ -1,4 +1,5 @@
-//! The command `make`: a script is generated and carried out over zeros, and the digest of what is left is written.
+//! The command `make`: a script is generated and carried out over zeros, and the digest of what is
+//! left is written.
 
 ghost use Rattle.std.specs.Prelude.{false, ◌≡◌, ◌≢◌, ◌≤◌, ◌++◌, map, codes, IfOk, IfErr, OnOk, Err};
 ghost use Rattle.std.specs.String.{string_bytes};
@@ -28,8 +29,8 @@ use std::alloc::{AllocError, Global};
 use std::sync::Wait;
 use std::thread::Threads;
 
-/// How many data units the script of `make` writes and reads for each of its number: sixteen threads write one and read
-/// it.
+/// How many data units the script of `make` writes and reads for each of its number: sixteen
+/// threads write one and read it.
 const UNITS: u64 = 32;
 
 /// Runs the command `make`, which the first word names, and returns how that ended.
@@ -57,7 +58,8 @@ pub(crate) fn make<R: Threads + Wait + Sync, K: Sink, G: Gate + Sync>(
     }
 }
 
-/// Reads the words, carries the script of their numbers out, and writes the line. An `Err` is never `Ok`'s status.
+/// Reads the words, carries the script of their numbers out, and writes the line. An `Err` is never
+/// `Ok`'s status.
 fn write_line<R: Threads + Wait + Sync, K: Sink, G: Gate + Sync>(
     rt: &R,
     alloc: Global,

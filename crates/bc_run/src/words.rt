@@ -106,7 +106,8 @@ pub(crate) fn number_named<'a>(alloc: Global, name: &'a str, least: u64, most: u
     option_named(alloc, name).value_parser(ValueParser::unsigned(least, most))
 }
 
-/// What clap finds in the words, read as one simple command, whichever of the two the first word names.
+/// What clap finds in the words, read as one simple command, whichever of the two the first word
+/// names.
 fn matches_of_words<'w>(alloc: Global, words: &'w [String]) -> Result<ArgMatches<'w>, Error>
     ensures found { IfOk result (HasMatchesOf script_command (map string_bytes words.now)) }
     ensures faults { FailsBy (fault_of script_command (map string_bytes words.now)) result }

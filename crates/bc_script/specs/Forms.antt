@@ -1,5 +1,5 @@
--- The forms of lines: what sort of line it is, by its first word, the number of its fields and its fixed words; the other
--- fields stand as they are written.
+-- The forms of lines: what sort of line it is, by its first word, the number of its fields and its
+-- fixed words; the other fields stand as they are written.
 use Rattle.std.specs.Prelude.{ℕ, Bool, true, false, not, if◌then◌else◌, List, [], ◌∷◌, codes, Option, Some, None}
 use Rattle.std.specs.Str.{bytes_eq}
 use Rattle.bc_text.specs.Lines.{TextLine}

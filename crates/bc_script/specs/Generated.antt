@@ -1,5 +1,6 @@
--- The script that `make N` carries out: sixteen threads, each of which writes N data units and reads each back at once. Each
--- thread has 64 blocks of its own, so every answer is the same in every order.
+-- The script that `make N` carries out: sixteen threads, each of which writes N data units and
+-- reads each back at once. Each thread has 64 blocks of its own, so every answer is the same in
+-- every order.
 use Rattle.std.specs.Prelude.{ℕ, ◌+◌, ◌*◌, ◌%◌, true, List, [], ◌∷◌, codes, map, flat_map, Some}
 use Rattle.std.specs.List.{range_with_len}
 use Rattle.bc_key.specs.KeyData.{KeyData, key_size}
@@ -24,7 +25,8 @@ generated_blocks = 1024
 abbrev pub generated_threads : ℕ
 generated_threads = 16
 
--- the one device: all blocks, so many keyslots, data units of 512 and 4096 bytes in XTS, none in ESSIV, numbers of 8 bytes
+-- the one device: all blocks, so many keyslots, data units of 512 and 4096 bytes in XTS, none in
+-- ESSIV, numbers of 8 bytes
 abbrev pub generated_device : ℕ → Target
 generated_device slots = record {
   first = 0;
@@ -58,7 +60,8 @@ generated_keys = key_a ∷ key_b ∷ key_c ∷ []
 
 -- ---- the sections
 
--- the key of a thread's pair j, from 0, and j as the number of its data unit: neighbouring pairs and threads take other keys
+-- the key of a thread's pair j, from 0, and j as the number of its data unit: neighbouring pairs
+-- and threads take other keys
 abbrev pub generated_context : ℕ → ℕ → Context
 generated_context thread j = record { key = record { 0 = (thread + j) % 3 }; dun = j }
 
@@ -87,7 +90,8 @@ generated_pair n thread j = generated_write n thread j ∷ generated_read n thre
 abbrev pub generated_section : ℕ → ℕ → List Op
 generated_section n thread = flat_map (generated_pair n thread) (range_with_len 0 n)
 
--- the script of n pairs a thread over a device with so many keyslots: a disk of 1024 blocks, the fallback on, no faults
+-- the script of n pairs a thread over a device with so many keyslots: a disk of 1024 blocks, the
+-- fallback on, no faults
 abbrev pub generated : ℕ → ℕ → Script
 generated n slots = record {
   blocks = generated_blocks;

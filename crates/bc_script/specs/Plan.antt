@@ -1,4 +1,5 @@
--- The plan of a script: for each thread the data units of its accepted bios, by operation and then unit.
+-- The plan of a script: for each thread the data units of its accepted bios, by operation and then
+-- unit.
 use Rattle.std.specs.Prelude.{ℕ, ◌+◌, ◌*◌, List, [], map, replicate, flat_map, slice_range, is_none, if◌then◌else◌}
 use Rattle.std.specs.List.{enumerate_from, range_with_len}
 use Rattle.std.specs.Option.{option_map_or}

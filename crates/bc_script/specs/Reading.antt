@@ -1,5 +1,5 @@
--- What a reader of scripts keeps beside the progress, and what it answers. The contracts of private functions speak of this;
--- no public one does.
+-- What a reader of scripts keeps beside the progress, and what it answers. The contracts of private
+-- functions speak of this; no public one does.
 use Rattle.std.specs.Prelude.{◌≡◌, ℕ, ◌+◌, Bool, true, false, List, [], ◌∷◌, ◌++◌, length, sum_by, Some, None, ⊤}
 use Rattle.bc_text.specs.Lines.{TextLine, nothing}
 use Rattle.bc_script.specs.declared.op.Op.{Op}

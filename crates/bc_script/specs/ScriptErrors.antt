@@ -1,7 +1,8 @@
 -- The first line of a text that fails a test, and the first test that it fails.
 --
--- A test speaks of its line and of the lines above: how many devices, keys, faults, operations or data units those have is
--- a count or a sum over their forms, which stand here with the nearest line first.
+-- A test speaks of its line and of the lines above: how many devices, keys, faults, operations or
+-- data units those have is a count or a sum over their forms, which stand here with the nearest
+-- line first.
 use Rattle.std.specs.Prelude.{ℕ, ◌+◌, ◌*◌, ◌/◌, ◌^◌, ◌&&◌, ◌||◌, not, nat_lt, nat_le, nat_eq, Bool, true, false, if◌then◌else◌, List, [], ◌∷◌, length, Option, Some, None, is_some, sum_by, count_by, unwrap_or}
 use Rattle.std.specs.Option.{option_map, option_map_or}
 use Rattle.std.specs.Result.{result_ok}
@@ -172,8 +173,8 @@ abbrev pub key_test : Why → Why → Why
 key_test None next = next
 key_test (Some kind) next = Some kind
 
--- The devices, if there are any, have the disk's blocks together. The line at which this fails, if one does, is the
--- first after the devices.
+-- The devices, if there are any, have the disk's blocks together. The line at which this fails, if
+-- one does, is the first after the devices.
 abbrev pub device_test : List Form → Why → Why
 device_test above next = first_of (are_whole above) why.Device next
 
@@ -195,7 +196,8 @@ device_tests above device =
     (first_of (nat_lt (count_by is_device above) max_devices) why.Limit
     None))
 
--- a new name; a mode, a unit and number bytes; some digits; a valid key; whole devices; and room for one more key
+-- a new name; a mode, a unit and number bytes; some digits; a valid key; whole devices; and room
+-- for one more key
 abbrev pub key_tests : List Form → KeyForm → Why
 key_tests above key =
     first_of (is_name key.name && not (is_declared key.name above)) why.Name
@@ -207,7 +209,8 @@ key_tests above key =
     (first_of (nat_lt (count_by is_key above) max_keys) why.Limit
     None))))))
 
--- a shard and a place in its order; after the fault before it; whole devices; and room for one more fault
+-- a shard and a place in its order; after the fault before it; whole devices; and room for one more
+-- fault
 abbrev pub fault_tests : List Form → FaultForm → Why
 fault_tests above fault =
     number_test 0 last_shard fault.shard
@@ -299,7 +302,8 @@ abbrev pub or_below : ℕ → Why → Option ScriptError → Option ScriptError
 or_below number None below = below
 or_below number (Some kind) below = Some (record { line = number; why = kind })
 
--- The first line, from 1, that fails, and the test. The last of the lines is what stands after the last line feed.
+-- The first line, from 1, that fails, and the test. The last of the lines is what stands after the
+-- last line feed.
 abbrev pub first_error : List Form → List TextLine → Option ScriptError
 first_error above [] = None
 first_error above (tail ∷ []) = or_below (length above + 1) (error_at_end above tail) None

@@ -38,7 +38,8 @@ on_off false = codes "off"
 abbrev pub fallback_line : Bool → TextLine
 fallback_line fallback = codes "fallback" ∷ on_off fallback ∷ []
 
--- the first block, the blocks, the keyslots, the masks of data unit sizes of both modes, and the number bytes
+-- the first block, the blocks, the keyslots, the masks of data unit sizes of both modes, and the
+-- number bytes
 abbrev pub device_line : Target → TextLine
 device_line device =
     codes "device" ∷ decimal device.first ∷ decimal device.blocks ∷ decimal device.slots ∷ decimal device.caps.xts
@@ -56,7 +57,8 @@ abbrev pub mode_text : Mode → List ℕ
 mode_text Aes256Xts = codes "aes-256-xts"
 mode_text Aes128CbcEssiv = codes "aes-128-cbc-essiv"
 
--- the name, the mode, the data unit's bytes, the number bytes, and the key's bytes in hexadecimal digits
+-- the name, the mode, the data unit's bytes, the number bytes, and the key's bytes in hexadecimal
+-- digits
 abbrev pub key_line : NamedKey → TextLine
 key_line named =
     codes "key" ∷ named.name ∷ mode_text named.key.config.mode ∷ decimal (bytes_of named.key.config.unit)

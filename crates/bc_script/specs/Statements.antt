@@ -1,5 +1,6 @@
--- What one line states: the line that states it, whether it fits after the lines that have been read, and what is read with it.
--- The contracts of private functions speak of this; no public one does.
+-- What one line states: the line that states it, whether it fits after the lines that have been
+-- read, and what is read with it. The contracts of private functions speak of this; no public one
+-- does.
 use Rattle.std.specs.Prelude.{◌≡◌, ℕ, ◌+◌, ◌-◌, ◌<◌, ◌≤◌, Bool, true, false, List, [], ◌∷◌, ◌++◌, codes, length, slice_get, sum_by, Some, IsSome, Result, MatchResult, ⊤}
 use Rattle.std.specs.Option.{option_map_or}
 use Rattle.bc_text.specs.Lines.{TextLine}
@@ -102,7 +103,8 @@ pub record FitsFault (p : Progress) (fault : ℕ × ℕ) : Type 0 where
   pub ascends : is_after p.faults fault ≡ true
   pub room : length p.faults < max_faults
 
--- a valid operation, which opens no plug twice and closes none that isn't open, and for which there is room
+-- a valid operation, which opens no plug twice and closes none that isn't open, and for which there
+-- is room
 pub record FitsOp (p : Progress) (op : Op) : Type 0 where
   pub valid : IsOp (length p.targets) (bare_keys p.keys) op
   pub plugs : IsSome (open_after false (p.section ++ op ∷ []))
@@ -193,6 +195,7 @@ abbrev pub Refuses : Bool → ScriptWhy → Unread → Type 0
 Refuses passed kind (unread.Bad why) = (passed ≡ false) × (why ≡ kind)
 Refuses passed kind unread.Memory = ⊤
 
--- a line of this form is read as the statement that it makes, or refused by the first test that it fails
+-- a line of this form is read as the statement that it makes, or refused by the first test that it
+-- fails
 abbrev pub ReadsForm : Progress → Form → Result Statement Unread → Type 0
 ReadsForm p form r = MatchResult r (IsStatementOf p form) (Reports (tests_of (forms_read p) form))

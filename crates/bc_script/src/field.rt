@@ -136,7 +136,8 @@ fn key_bytes_in(field: &[u8], room: &mut [u8]) -> Option<ArrayVec<u8, MAX_KEY_BY
     Some(bytes)
 }
 
-/// The `count` bytes that the field says. Takes memory only where the field is as long as their digits.
+/// The `count` bytes that the field says. Takes memory only where the field is as long as their
+/// digits.
 fn hex_bytes(alloc: Global, field: &[u8], count: usize) -> Result<Option<Items<u8>>, AllocError>
     ensures value { IfOk result (λ answer. MatchOption answer
         (is_hex_text count count field.now ≡ false)

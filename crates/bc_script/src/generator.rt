@@ -1,7 +1,7 @@
 //! The script that `make N` carries out.
 //!
-//! Sixteen threads write data units under three keys, and each reads back what it wrote. A thread keeps to 64 blocks of its
-//! own, so every answer is the same in whatever order the threads run.
+//! Sixteen threads write data units under three keys, and each reads back what it wrote. A thread
+//! keeps to 64 blocks of its own, so every answer is the same in whatever order the threads run.
 
 ghost use Rattle.std.specs.Prelude.{◌≡◌, ◌++◌, ◌<◌, ◌≤◌, None, IsTrue, IfOk, OnOk, [], ◌∷◌, map};
 ghost use Rattle.std.specs.List.{range_with_len};
@@ -32,8 +32,8 @@ const THREAD_BLOCKS: u32 = BLOCKS / MAX_THREADS as u32;
 /// How many bytes the numbers of data units may have.
 const NUMBER_BYTES: u8 = 8;
 
-/// The script of `make`: a disk of 1024 blocks on one device with so many keyslots, three keys, and sixteen threads. Each
-/// thread writes a data unit and reads it back, `n` times.
+/// The script of `make`: a disk of 1024 blocks on one device with so many keyslots, three keys, and
+/// sixteen threads. Each thread writes a data unit and reads it back, `n` times.
 ///
 /// # Errors
 ///
@@ -57,7 +57,8 @@ pub fn generate(alloc: Global, n: u32, slots: u16) -> Result<Script, AllocError>
     ))
 }
 
-/// The one device. It has the whole disk, and supports XTS alone, with data units of 512 and 4096 bytes.
+/// The one device. It has the whole disk, and supports XTS alone, with data units of 512 and 4096
+/// bytes.
 fn devices(alloc: Global, slots: u16) -> Result<Vec<Target>, AllocError>
     ensures { IfOk result (λ devices. devices.items ≡ generated_device slots ∷ []) }
 {

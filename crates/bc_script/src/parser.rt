@@ -15,8 +15,8 @@ use std::alloc::Global;
 ///
 /// # Errors
 ///
-/// `Bad` where no script has the text: the first line that fails a test, and the first test that it fails. `Memory` where
-/// there was no memory for the script.
+/// `Bad` where no script has the text: the first line that fails a test, and the first test that it
+/// fails. `Memory` where there was no memory for the script.
 pub fn parse(alloc: Global, text: &[u8]) -> Result<Script, ParseError>
     ensures says { IfOk result (Says text.now) }
     ensures passes { OnOk result (error_of text.now ≡ None) }

@@ -19,8 +19,8 @@ use bc_stack::Target;
 use bc_text::{put_hex, put_number};
 use std::alloc::{AllocError, Global};
 
-/// The one text of the script: its first three lines, a line for each device, for each key, for each fault that is
-/// planned and for each thread's section and its operations, and the `end` line.
+/// The one text of the script: its first three lines, a line for each device, for each key, for
+/// each fault that is planned and for each thread's section and its operations, and the `end` line.
 ///
 /// # Errors
 ///

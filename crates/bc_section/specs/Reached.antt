@@ -1,4 +1,5 @@
--- How far a section has been carried out, where a plug may hold bios back; and what each call of a device tells.
+-- How far a section has been carried out, where a plug may hold bios back; and what each call of a
+-- device tells.
 use Rattle.std.specs.Prelude.{◌≡◌, ◌⊎◌, ℕ, ◌+◌, ◌<◌, ◌≤◌, ◌==◌, true, false, Bool, IsTrue, List, [], ◌∷◌, ◌++◌}
 use Rattle.std.specs.Prelude.{length, map, flat_map, take, drop, filter, filter_map, slice_get}
 use Rattle.std.specs.Prelude.{Option, Some, None, IsSomeAnd}
@@ -141,7 +142,8 @@ pub record HasReset (old new : DeviceData) (op device : ℕ) : Type 0 where
 abbrev pub steps_from : Script → List Op → ℕ → List Step
 steps_from script section op = filter_map (step_of script) (enumerate_from op (drop op section))
 
--- the turns that are left, where these bios are held back: in a plug more may be held back with them
+-- the turns that are left, where these bios are held back: in a plug more may be held back with
+-- them
 abbrev pub turns_left : Bool → List TaggedBio → List Step → List Turn
 turns_left true bios steps = turns_from (Some bios) steps
 turns_left false bios steps = turns.Window bios ∷ turns_from None steps
@@ -161,7 +163,8 @@ WindowEnds script thread plugged bios steps =
 abbrev pub HoldsNone : Bool → List ℕ → Type 0
 HoldsNone plugged pending = plugged ≡ false → pending ≡ []
 
--- the uses of a section so far, of operations below `next`, with which those that are left are all of them
+-- the uses of a section so far, of operations below `next`, with which those that are left are all
+-- of them
 pub record HasUsed (start now : DeviceData) (section : List Op) (op next : ℕ) (plugged : Bool) (pending : List ℕ)
     (made : List Entry) : Type 0 where
   pub done : ℕ → List DeviceUse
@@ -171,7 +174,8 @@ pub record HasUsed (start now : DeviceData) (section : List Op) (op next : ℕ) 
       ≡ done device ++ uses_left start.script device start.thread plugged (bios_of (numbered section pending))
       (steps_from start.script section op)
 
--- operations below `op` were acted on, are held back, or are answered by themselves; whether a plug is open then
+-- operations below `op` were acted on, are held back, or are answered by themselves; whether a plug
+-- is open then
 pub record Reached (start now : DeviceData) (section : List Op) (op : ℕ) (plugged : Bool) (pending : List ℕ)
     (answers : List (Option Answer)) : Type 0 where
   pub acts : List (ℕ × Op)

@@ -1,5 +1,5 @@
--- What one caller makes of the devices of a script: the uses of each device, in order, what they record in its journal,
--- and which hold an inline entry names.
+-- What one caller makes of the devices of a script: the uses of each device, in order, what they
+-- record in its journal, and which hold an inline entry names.
 use Rattle.std.specs.Prelude.{◌≡◌, ℕ, ◌<◌, ⊤, Bool, true, false, List, [], ◌∷◌, ◌++◌, length, map, filter_map}
 use Rattle.std.specs.Prelude.{Option, Some, option_map}
 use Rattle.std.specs.List.{list_any}
@@ -40,8 +40,9 @@ after_uses script device journal done =
 abbrev pub is_for : UnitName → DeviceUse → Bool
 is_for name u = list_any (is_same name) u.units
 
--- An inline entry names its own hold among the uses of its device: the hold is of the key of the entry's unit, it is
--- the first use that is for that unit, and as it is taken the slot has the key, which the event programmed there.
+-- An inline entry names its own hold among the uses of its device: the hold is of the key of the
+-- entry's unit, it is the first use that is for that unit, and as it is taken the slot has the key,
+-- which the event programmed there.
 pub record NamesOwnUse (script : Script) (journal : List Event) (done : List DeviceUse) (e : Entry)
     (device slot event : ℕ) : Type 0 where
   pub under : Context
@@ -62,8 +63,8 @@ NamesUse script journals done e (vias.Inline device slot event) =
     NamesOwnUse script (journals device) (done device) e device slot event
 NamesUse script journals done e via = ⊤
 
--- from journals `old` to journals `new` just these uses were made of each device, and each entry that was made names
--- its own hold among them
+-- from journals `old` to journals `new` just these uses were made of each device, and each entry
+-- that was made names its own hold among them
 pub record MakesUses (script : Script) (old new : ℕ → List Event) (done : ℕ → List DeviceUse) (made : List Entry)
     : Type 0 where
   pub journals : (device : ℕ) → device < length script.targets

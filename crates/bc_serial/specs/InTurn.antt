@@ -1,5 +1,5 @@
--- Inside a window: the bios of it that were begun, what was attempted of them, and the hold that is open. A bio of
--- which only the first n data units were gone over counts as a bio of n units.
+-- Inside a window: the bios of it that were begun, what was attempted of them, and the hold that is
+-- open. A bio of which only the first n data units were gone over counts as a bio of n units.
 use Rattle.std.specs.Prelude.{◌≡◌, ◌==◌, Bool, ℕ, ◌+◌, ◌<◌, ◌≤◌, true, false, List, [], ◌∷◌, ◌++◌, length, take}
 use Rattle.std.specs.Prelude.{filter_map, slice_get, Option, Some, None, IfSome, IsSomeAnd, option_map, option_and_then}
 use Rattle.std.specs.Prelude.{if◌then◌else◌, ⊤}
@@ -48,8 +48,8 @@ last_request script bios = unwrap_or (last_or None (requests_of (keys_of script)
 abbrev pub last_unit : List NamedUnit → Option NamedUnit
 last_unit units = last_or None units
 
--- the device and the key of the hold that is open after these bios: the device of the last unit of the last request, if
--- that goes inline and has a unit
+-- the device and the key of the hold that is open after these bios: the device of the last unit of
+-- the last request, if that goes inline and has a unit
 abbrev pub open_after : Script → List TaggedBio → Option (ℕ × ℕ)
 open_after script bios =
     let request = last_request script bios in
@@ -69,9 +69,9 @@ StillHolds now hold =
 abbrev pub NoLater : List Event → ℕ → ℕ → Type 0
 NoLater journal key event = (found : ℕ × ℕ) × (last_programming key journal ≡ Some found) × (event ≤ found.1)
 
--- These bios of a window were gone over: each inline piece of them took a hold, and each entry that was made names its
--- own; under one key on one device no entry names an earlier event than one before it. The hold that is open is the
--- last one.
+-- These bios of a window were gone over: each inline piece of them took a hold, and each entry that
+-- was made names its own; under one key on one device no entry names an earlier event than one
+-- before it. The hold that is open is the last one.
 pub record InTurn (start now : CourseData) (bios : List TaggedBio) (made : List Entry) : Type 0 where
   pub script_is : now.script ≡ start.script
   pub thread_is : now.thread ≡ start.thread
@@ -125,8 +125,8 @@ pub record LeavesHolds (old new : CourseData) : Type 0 where
   pub journals : new.journals ≡ old.journals
   pub opened : new.opened ≡ old.opened
 
--- unit number n of a bio was reached: where it goes inline, the hold that is open is of its key on its device, and was
--- taken where none was
+-- unit number n of a bio was reached: where it goes inline, the hold that is open is of its key on
+-- its device, and was taken where none was
 pub record Reaches (old new : CourseData) (bio : Extent) (n : ℕ) : Type 0 where
   pub left : old.left ≡ new.left + 1
   pub same : new ≡ record old { left = new.left; journals = new.journals; opened = new.opened }
@@ -141,7 +141,8 @@ abbrev pub HasOpen : CourseData → Option Context → Type 0
 HasOpen course None = ⊤
 HasOpen course (Some under) = is_inline course.script under.key ≡ true → IsOpenFor course.opened under.key.0
 
--- where a unit under this context goes inline, the hold that is open is of its key on the device of its sector
+-- where a unit under this context goes inline, the hold that is open is of its key on the device of
+-- its sector
 abbrev pub HasOpenAt : CourseData → Option Context → ℕ → Type 0
 HasOpenAt course None sector = ⊤
 HasOpenAt course (Some under) sector =
@@ -160,8 +161,8 @@ pub record AttemptsOn (old new : CourseData) (u : PlannedUnit) (answer : UnitAns
   pub same : new ≡ record old { shards = new.shards }
   pub via : unit.entry.via ≡ via_in old u.context
 
--- Unit number n of a bio was gone over: it was reached, and then attempted where no unit before it met a fault. The
--- number of the unit that met one, if one did, was `before` and is `after`.
+-- Unit number n of a bio was gone over: it was reached, and then attempted where no unit before it
+-- met a fault. The number of the unit that met one, if one did, was `before` and is `after`.
 pub record GoesOver (old new : CourseData) (bio : Extent) (n : ℕ) (u : PlannedUnit) (answer : Bool → UnitAnswer)
     (before after : Option ℕ) : Type 0 where
   pub mid : CourseData
@@ -173,8 +174,8 @@ pub record GoesOver (old new : CourseData) (bio : Extent) (n : ℕ) (u : Planned
 
 -- ---- bios
 
--- A bio may follow these in a window, behind which a hold was open or none was: where it runs on from the last one,
--- that hold is open still, and else none is.
+-- A bio may follow these in a window, behind which a hold was open or none was: where it runs on
+-- from the last one, that hold is open still, and else none is.
 pub record MayFollow (script : Script) (done : List TaggedBio) (next : TaggedBio) (was opened : Option OpenHold)
     : Type 0 where
   pub goes_on : joins_last (joins (keys_of script)) (last_request script done) next ≡ true → opened ≡ was

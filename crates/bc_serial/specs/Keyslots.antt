@@ -1,5 +1,6 @@
--- What contracts see of the keyslots of a script's devices, for one caller. A hold may be open: it was taken, and is
--- given back by the next call that takes one. The journals are seen as they stand when the open hold is given back.
+-- What contracts see of the keyslots of a script's devices, for one caller. A hold may be open: it
+-- was taken, and is given back by the next call that takes one. The journals are seen as they stand
+-- when the open hold is given back.
 use Rattle.std.specs.Prelude.{◌≡◌, ℕ, ◌+◌, ◌*◌, ◌<◌, ◌≤◌, ◌==◌, ◌&&◌, Bool, false, List, [], ◌∷◌, ◌++◌, length, drop}
 use Rattle.std.specs.Prelude.{map, zip, slice_get, slice_set, Option, Some, None, IfSome, IsSomeAnd, Ok}
 use Rattle.std.specs.Prelude.{option_and_then, if◌then◌else◌}
@@ -33,7 +34,8 @@ use Rattle.bc_compose.specs.Ordered.{slots_of}
 use Rattle.bc_serial.specs.declared.open_hold.OpenHold.{OpenHold}
 use Rattle.bc_section.specs.Uses.{after_uses}
 
--- the script's devices, the journal of each, what each journal was when the section began, and the hold that is open
+-- the script's devices, the journal of each, what each journal was when the section began, and the
+-- hold that is open
 pub record KeyslotsData : Type 0 where
   pub script : Script
   pub journals : List (List Event)
@@ -64,7 +66,8 @@ giving_back held = option_map_or (λ slot. events.Idle slot ∷ []) held []
 abbrev pub journal_in : SoloData → List Event
 journal_in solo = solo.journal ++ giving_back solo.held
 
--- the story of a device for a thread whose section began with these events: those before are others'
+-- the story of a device for a thread whose section began with these events: those before are
+-- others'
 abbrev pub story_of : ℕ → List Event × List Event → List Noted
 story_of thread (begun, journal) = notes (thread + 1) begun ++ notes thread (drop (length begun) journal)
 
@@ -117,9 +120,9 @@ HasRoom keyslots device events = length (list_at keyslots.journals device) + eve
 
 -- ---- Private: what stands behind it
 
--- a device with its keyslots: as many as the script says, with the rows of the script's keys; one is held where a hold
--- is open on the device; its journal is lawful, with no more events than may be recorded, and their numbers are in
--- their ranges
+-- a device with its keyslots: as many as the script says, with the rows of the script's keys; one
+-- is held where a hold is open on the device; its journal is lawful, with no more events than may
+-- be recorded, and their numbers are in their ranges
 pub record IsKeyslotsOf (script : Script) (opened : Option OpenHold) (device : ℕ) (target : Target) (solo : SoloData)
     : Type 0 where
   pub count : solo.count ≡ target.slots
@@ -153,7 +156,8 @@ pub record SlotCipherData : Type 0 where
 abbrev pub KeepsTo : Capabilities → Option SlotCipherData → Type 0
 KeepsTo caps kept = IfSome kept (λ c. read_words c.words caps ≡ Ok c.parts)
 
--- the open hold is of a key of the script, on a device whose slot has the key; the slot's cipher is the key's
+-- the open hold is of a key of the script, on a device whose slot has the key; the slot's cipher is
+-- the key's
 pub record IsOpenHold (script : Script) (devices : List SoloData) (ciphers : List (List (Option SlotCipherData)))
     (hold : OpenHold) : Type 0 where
   pub key : KeyData

@@ -1,5 +1,5 @@
--- What holds of the shards of a run by one caller, and what one attempt of a data unit does to them. The contracts of
--- private functions speak of this; no public one does.
+-- What holds of the shards of a run by one caller, and what one attempt of a data unit does to
+-- them. The contracts of private functions speak of this; no public one does.
 use Rattle.std.specs.Prelude.{◌≡◌, ℕ, ◌+◌, ◌*◌, ◌<◌, ◌≤◌, ◌==◌, Bool, true, false, List, [], ◌∷◌, ◌++◌, length, map}
 use Rattle.std.specs.Prelude.{filter, slice_get, Option, None, ⊤}
 use Rattle.std.specs.List.{range_with_len}
@@ -44,8 +44,8 @@ use Rattle.bc_serial.specs.Keyslots.{KeyslotsData, HaveNotKey, max_events, stori
 
 -- ---- shards
 
--- a shard of the script's disk: writes had the script's keys, the sectors of its blocks are its own, it fails as
--- planned, and it has room for so many entries more
+-- a shard of the script's disk: writes had the script's keys, the sectors of its blocks are its
+-- own, it fails as planned, and it has room for so many entries more
 pub record Stands (script : Script) (shards left shard : ℕ) (s : ShardData RamData) : Type 0 where
   pub keys : HasKeys (keys_of script) s
   pub owned : (sector : ℕ) → sector < sectors_in script → shard_of shards sector ≡ shard → owns s.start sector ≡ true
@@ -62,8 +62,8 @@ AllStand script left shards = (shard : ℕ) → AllAt shards shard (Stands scrip
 abbrev pub HaveRoom : ℕ → List (List Event) → Type 0
 HaveRoom left journals = Each (λ journal. length journal + 2 * left ≤ max_events) journals
 
--- a script is being carried out: with its keys' ciphers, over shards of its disk, each with room for so many entries
--- more, and over its devices, each with room for as many holds
+-- a script is being carried out: with its keys' ciphers, over shards of its disk, each with room
+-- for so many entries more, and over its devices, each with room for as many holds
 pub record IsCourse (script : Script) (keys : List KeyData) (shards : List (ShardData RamData))
     (keyslots : KeyslotsData) (left : ℕ) : Type 0 where
   pub rules : IsScript script
@@ -77,9 +77,9 @@ pub record IsCourse (script : Script) (keys : List KeyData) (shards : List (Shar
 abbrev pub sectors_at : List (ShardData RamData) → ℕ → Sectors
 sectors_at shards shard = option_map_or (λ s. contents s.start) (slice_get shards shard) (λ sector. [])
 
--- a script that is being carried out by one caller: over which shards, whose section it is, how many data units,
--- evictions and resets more fit, the journals of the devices and what they were when the section began, and the hold
--- that is open
+-- a script that is being carried out by one caller: over which shards, whose section it is, how
+-- many data units, evictions and resets more fit, the journals of the devices and what they were
+-- when the section began, and the hold that is open
 pub record CourseData : Type 0 where
   pub script : Script
   pub shards : List (ShardData RamData)
@@ -105,8 +105,8 @@ device_of course = record {
 
 -- ---- data units
 
--- a bio can be performed: it isn't refused, has no more data units and sectors than a script's may have, and none of
--- its numbers wraps
+-- a bio can be performed: it isn't refused, has no more data units and sectors than a script's may
+-- have, and none of its numbers wraps
 pub record IsPerformable (script : Script) (bio : Extent) : Type 0 where
   pub unrefused : refusal_of script bio ≡ None
   pub accepted : IsAccepted (keys_of script) (sectors_in script) bio
@@ -174,7 +174,8 @@ pub record HasBegun (begun journals : List (List Event)) : Type 0 where
 
 -- ---- evictions and resets
 
--- a key was taken out of the keyslots of all devices, where it goes inline, and another key out of none
+-- a key was taken out of the keyslots of all devices, where it goes inline, and another key out of
+-- none
 pub record EvictsKey (old new : CourseData) (key : KeyNo) : Type 0 where
   pub left : old.left ≡ new.left + 1
   pub same : new ≡ record old { left = new.left; journals = new.journals; opened = new.opened }
@@ -204,7 +205,8 @@ pub record AttemptsUnit (old new : DeviceData) (u : PlannedUnit) (answer : UnitA
 
 -- ---- the whole run
 
--- a run begins: nothing was attempted or recorded yet, and each shard has its own sectors of the image
+-- a run begins: nothing was attempted or recorded yet, and each shard has its own sectors of the
+-- image
 pub record IsBegun (script : Script) (image : List ℕ) (shards : ℕ) (course : CourseData) : Type 0 where
   pub script_is : course.script ≡ script
   pub shards_are : length course.shards ≡ shards

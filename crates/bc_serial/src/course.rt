@@ -106,7 +106,8 @@ impl Course<'_> {
         self.keyslots.has_begun();
     }
 
-    /// Does nothing, and states that the script keeps its rules, and that each device has a journal.
+    /// Does nothing, and states that the script keeps its rules, and that each device has a
+    /// journal.
     pub(crate) fn has_devices(&self)
         ensures rules { IsScript self.now.script }
         ensures devices { length self.now.journals ≡ length self.now.script.targets }
@@ -165,8 +166,8 @@ impl Course<'_> {
         }
     }
 
-    /// Takes a hold for data unit number `unit` of a bio, where it goes inline and the hold that is open isn't of its
-    /// key on its device. What fits is one less.
+    /// Takes a hold for data unit number `unit` of a bio, where it goes inline and the hold that is
+    /// open isn't of its key on its device. What fits is one less.
     fn reach(&mut self, bio: &Extent, unit: u64)
         requires performable { IsPerformable self.old.script bio.now }
         requires unit { unit < bio.now.units }
@@ -211,7 +212,8 @@ impl Course<'_> {
         }
     }
 
-    /// Enciphers a data unit in place, by the hold that is open or by software; without a context it stays as it is.
+    /// Enciphers a data unit in place, by the hold that is open or by software; without a context
+    /// it stays as it is.
     fn encipher(&self, context: Option<Context>, text: &mut [u8])
         requires key { HasKey (keys_of self.now.script) context }
         requires opened { HasOpen self.now context }
@@ -237,7 +239,8 @@ impl Course<'_> {
         }
     }
 
-    /// Deciphers a data unit in place, by the hold that is open or by software; without a context it stays as it is.
+    /// Deciphers a data unit in place, by the hold that is open or by software; without a context
+    /// it stays as it is.
     fn decipher(&self, context: Option<Context>, text: &mut [u8])
         requires key { HasKey (keys_of self.now.script) context }
         requires opened { HasOpen self.now context }
@@ -292,8 +295,8 @@ impl Course<'_> {
         }
     }
 
-    /// Goes over data unit number `unit` of a bio: reaches it, and writes it where none before it met a fault. Returns
-    /// the number of the one that met a fault, if one did.
+    /// Goes over data unit number `unit` of a bio: reaches it, and writes it where none before it
+    /// met a fault. Returns the number of the one that met a fault, if one did.
     fn write_next(
         &mut self,
         alloc: Global,
@@ -384,8 +387,8 @@ impl Course<'_> {
         }
     }
 
-    /// Goes over data unit number `unit` of a bio: reaches it, and reads it into its place where none before it met a
-    /// fault. Returns the number of the one that met a fault, if one did.
+    /// Goes over data unit number `unit` of a bio: reaches it, and reads it into its place where
+    /// none before it met a fault. Returns the number of the one that met a fault, if one did.
     fn read_next(
         &mut self,
         op: u32,

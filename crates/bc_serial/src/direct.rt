@@ -46,8 +46,8 @@ impl Direct<'_> {
         self.course.begin(thread);
     }
 
-    /// Performs an operation's bio, which isn't refused, after the one of the window before it. Its first hold is taken
-    /// anew where it doesn't run on from that one.
+    /// Performs an operation's bio, which isn't refused, after the one of the window before it. Its
+    /// first hold is taken anew where it doesn't run on from that one.
     fn submit(
         &mut self,
         op: u32,

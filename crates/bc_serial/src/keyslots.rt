@@ -33,8 +33,8 @@ use std::alloc::{AllocError, Global};
 use std::marker::Model;
 use std::snapshot::Snapshot;
 
-/// The keyslots of a script's devices. One hold may be open: it is given back when another one is taken, and before a
-/// key is evicted or a device reset.
+/// The keyslots of a script's devices. One hold may be open: it is given back when another one is
+/// taken, and before a key is evicted or a device reset.
 #[derive(Drop)]
 pub(crate) struct Keyslots<'s> {
     script: &'s Script,
@@ -146,8 +146,8 @@ impl<'s> Keyslots<'s> {
         }
     }
 
-    /// Takes a hold of the key on the device: it stays open. Where no slot has the key, the least recently idle one is
-    /// programmed with it.
+    /// Takes a hold of the key on the device: it stays open. Where no slot has the key, the least
+    /// recently idle one is programmed with it.
     pub(crate) fn hold(&mut self, device: u8, key: KeyNo)
         requires device { device < length self.old.script.targets }
         requires key { key.0 < length (keys_of self.old.script) }
@@ -336,8 +336,8 @@ fn no_ciphers(alloc: Global, slots: u16) -> Result<Vec<Option<SlotCipher>>, Allo
     Ok(ciphers)
 }
 
-/// Has the cipher that these words mean kept: the one that is there, where it is that of the same words, and else a new
-/// one.
+/// Has the cipher that these words mean kept: the one that is there, where it is that of the same
+/// words, and else a new one.
 fn keep_cipher(kept: &mut Option<SlotCipher>, words: &Row, caps: &UfsCaps)
     requires kept { KeepsTo caps.now kept.old }
     requires reads { IsOk (read_words words.now caps.now) }

@@ -17,7 +17,8 @@ use bc_medium::{Shards, UnitAt, Via};
 use bc_script::Text;
 use std::alloc::{AllocError, Global};
 
-/// Writes a data unit, whose bytes in the clear are `plain` and enciphered `cipher`. Tells whether it met no fault.
+/// Writes a data unit, whose bytes in the clear are `plain` and enciphered `cipher`. Tells whether
+/// it met no fault.
 pub(crate) fn write_unit(
     shards: &mut Shards<RamStore>,
     keys: &Keys,
@@ -42,7 +43,8 @@ pub(crate) fn write_unit(
     }
 }
 
-/// Reads a data unit as it stands. Tells whether it met no fault; where it met one the bytes of the place mean nothing.
+/// Reads a data unit as it stands. Tells whether it met no fault; where it met one the bytes of the
+/// place mean nothing.
 pub(crate) fn read_unit(
     shards: &mut Shards<RamStore>,
     at: &UnitAt,

@@ -12,8 +12,8 @@ use Rattle.bc_report.specs.Counts.{touches_any}
 abbrev pub entries_asked : Script → ℕ → List (ℕ × Op) → ℕ → ℕ
 entries_asked script shards operations shard = units_on shards shard (flat_map (units_of script) operations)
 
--- two events for an accepted inline bio that touches the device, one for an eviction of a key that goes inline, and one for a
--- reset of the device
+-- two events for an accepted inline bio that touches the device, one for an eviction of a key that
+-- goes inline, and one for a reset of the device
 abbrev pub events_of_one : Script → ℕ → ℕ × Op → ℕ
 events_of_one script device (op, ops.Evict key) = if is_inline script key then 1 else 0
 events_of_one script device (op, ops.Reset other) = if other == device then 1 else 0

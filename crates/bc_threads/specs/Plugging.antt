@@ -1,4 +1,5 @@
--- Private: the bios of a window, taken from where they were prepared and plugged; and its replies, noted.
+-- Private: the bios of a window, taken from where they were prepared and plugged; and its replies,
+-- noted.
 use Rattle.std.specs.Prelude.{◌≡◌, ℕ, ◌==◌, false, List, map, slice_get, Option, Some}
 use Rattle.std.specs.List.{AllZip, list_any}
 use Rattle.bc_base.specs.Lists.{At}

@@ -18,7 +18,8 @@ use Rattle.bc_script.specs.Bios.{bio_of}
 use Rattle.bc_script.specs.Plan.{written_at}
 use Rattle.bc_threads.specs.declared.outcome.Outcome.{Outcome}
 
--- the bio is that of operation number `op`: it has its extent, and its units their bytes, of a write those that it writes
+-- the bio is that of operation number `op`: it has its extent, and its units their bytes, of a
+-- write those that it writes
 pub record IsBioOf (script : Script) (op : ℕ) (operation : Op) (bio : Bio) : Type 0 where
   pub tag : bio.tag ≡ op
   pub extent : bio_of operation ≡ Some (extent_of bio)

@@ -1,4 +1,5 @@
--- How much each caller of a disk may add that is opened for a script: no less than its section asks for.
+-- How much each caller of a disk may add that is opened for a script: no less than its section asks
+-- for.
 use Rattle.std.specs.Prelude.{ℕ, ◌+◌, ◌*◌, ◌==◌, List, [], ◌∷◌, length, map, replicate, sum_by, if◌then◌else◌}
 use Rattle.std.specs.List.{range_with_len}
 use Rattle.std.specs.Option.{option_map_or}
@@ -19,7 +20,8 @@ units_on script shards shard operation =
     option_map_or (λ bio. units_from shards shard bio.sector (unit_sectors (keys_of script) bio.context) bio.units)
     (bio_of operation) 0
 
--- how many entries the thread of a section may have at a shard: as many as its bios have units there
+-- how many entries the thread of a section may have at a shard: as many as its bios have units
+-- there
 abbrev pub unit_quota : Script → ℕ → ℕ → List Op → ℕ
 unit_quota script shards shard section = sum_by (units_on script shards shard) section
 

@@ -39,7 +39,8 @@ module _ {S : Type 0} (contents : S → Option Sectors) where
     spare = 0;
   }
 
-  -- the disk was opened for a script: with its keys, devices, fallback and blocks, over stores that tell their sectors
+  -- the disk was opened for a script: with its keys, devices, fallback and blocks, over stores that
+  -- tell their sectors
   pub record IsOpenFor (script : Script) (disk : DiskData S) : Type 0 where
     pub rules : IsScript script
     pub keys : keys_in disk ≡ keys_of script
@@ -61,8 +62,8 @@ module _ {S : Type 0} (contents : S → Option Sectors) where
     pub events : (device : ℕ) → device < length script.targets
         → events_asked script operations device ≤ events_left disk pass device
 
-  -- The thread can carry out these operations on the disk: their bios are prepared, its pass has room for them, its plug and
-  -- its list of replies are empty.
+  -- The thread can carry out these operations on the disk: their bios are prepared, its pass has
+  -- room for them, its plug and its list of replies are empty.
   pub record CanCarryOut (script : Script) (thread : ℕ) (disk : DiskData S) (pass : PassData S)
       (bios : List (Option Bio)) (plug : PlugParts) (replies : List Reply) (room : ℕ) (operations : List (ℕ × Op))
       : Type 0 where

@@ -11,7 +11,8 @@ use bc_base::BLOCK_SECTORS;
 use bc_script::{Op, Script};
 use std::alloc::{AllocError, Global};
 
-/// For each caller of a disk that is opened for a script, how many entries it may have at each shard.
+/// For each caller of a disk that is opened for a script, how many entries it may have at each
+/// shard.
 pub(crate) fn units_of_callers(
     alloc: Global,
     script: &Script,
@@ -103,7 +104,8 @@ fn counted(shards: u16, shard: u16, sector: u64) -> u32
     0
 }
 
-/// For each caller of a disk that is opened for a script, how many events it may make on each device.
+/// For each caller of a disk that is opened for a script, how many events it may make on each
+/// device.
 pub(crate) fn events_of_callers(alloc: Global, script: &Script) -> Result<Vec<Vec<u32>>, AllocError>
     ensures { IfOk result (λ rows. map (λ row. row.items) rows.items ≡ event_rows script.now) }
 {

@@ -11,8 +11,8 @@ use bc_script::limits::MAX_PLUGGED;
 use std::alloc::{AllocError, Global};
 use std::marker::Model;
 
-/// A section of a script that is to be carried out, with all memory that this takes: its bios with their units'
-/// bytes, a plug, and room for the replies and outcomes.
+/// A section of a script that is to be carried out, with all memory that this takes: its bios with
+/// their units' bytes, a plug, and room for the replies and outcomes.
 #[derive(Drop)]
 pub struct Section<'s> {
     pub(crate) script: &'s Script,

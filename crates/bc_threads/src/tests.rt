@@ -1,4 +1,5 @@
-//! Runs in which a gate holds a thread up until another one has come somewhere, by [`threads`] and by [`sections`].
+//! Runs in which a gate holds a thread up until another one has come somewhere, by [`threads`] and
+//! by [`sections`].
 
 ghost use Rattle.std.specs.Prelude.{◌≡◌, ◌*◌, ◌≤◌, length};
 
@@ -132,7 +133,8 @@ impl Gate for HoldingGate<'_> {
 
 // ---- runs
 
-/// Opens a disk, has the sections of a script carried out, of which there is one, and closes the disk.
+/// Opens a disk, has the sections of a script carried out, of which there is one, and closes the
+/// disk.
 fn by_sections<G: Gate + Sync, R: Threads + Wait + Sync>(
     rt: &R,
     alloc: Global,
@@ -150,8 +152,8 @@ fn by_sections<G: Gate + Sync, R: Threads + Wait + Sync>(
     finish(rt, alloc, script, disk, passes, answers)
 }
 
-/// The report of a script of a section at least that is carried out over zeros, by [`threads`] or by [`sections`], while
-/// threads are held up so. None of them may have waited in vain.
+/// The report of a script of a section at least that is carried out over zeros, by [`threads`] or
+/// by [`sections`], while threads are held up so. None of them may have waited in vain.
 fn report_of<R: Threads + Wait + Sync>(
     rt: &R,
     alloc: Global,

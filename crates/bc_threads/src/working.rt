@@ -14,10 +14,11 @@ use bc_disk::{Disk, Pass};
 use bc_section::carry_out;
 use std::sync::Wait;
 
-/// Carries out a section on a disk, by the pass of the section's thread, and returns what each operation came to.
-/// Takes no memory: the section has all that is needed.
+/// Carries out a section on a disk, by the pass of the section's thread, and returns what each
+/// operation came to. Takes no memory: the section has all that is needed.
 ///
-/// The disk was opened for the section's script, and the pass is new, with room for what the section's operations ask.
+/// The disk was opened for the section's script, and the pass is new, with room for what the
+/// section's operations ask.
 pub fn work<S: Store, G: Gate, R: Wait>(
     rt: &R,
     disk: &Disk<S>,

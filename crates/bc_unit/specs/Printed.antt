@@ -1,4 +1,5 @@
--- What is printed: of a text in hexadecimal digits its digits and a line feed, and of raw bytes the raw bytes.
+-- What is printed: of a text in hexadecimal digits its digits and a line feed, and of raw bytes the
+-- raw bytes.
 use Rattle.std.specs.Prelude.{◌≡◌, ⊤, ℕ, List, [], ◌∷◌, ◌++◌, length, Ok, Err}
 use Rattle.hex.specs.Hex.{decode_of, encode_lower}
 use Rattle.bc_unit.specs.declared.direction.Direction.{Direction}

@@ -1,5 +1,6 @@
--- What the words and the text of a call ask for: one data unit, which is enciphered or deciphered under a key and a number.
--- The key's length tells the mode, and the text's length the data unit's size.
+-- What the words and the text of a call ask for: one data unit, which is enciphered or deciphered
+-- under a key and a number. The key's length tells the mode, and the text's length the data unit's
+-- size.
 use Rattle.std.specs.Prelude.{◌≡◌, ◌≢◌, ⊤, ℕ, ◌^◌, ◌<◌, ◌==◌, List, length, Option, Some, None, MatchOption, if◌then◌else◌, Ok, Err, codes}
 use Rattle.std.specs.Str.{bytes_eq}
 use Rattle.hex.specs.Hex.{decode_of}
@@ -30,7 +31,8 @@ abbrev pub carried : Direction → Mode → List ℕ → ℕ → List ℕ → Li
 carried Encrypt mode raw number text = encipher_unit mode raw number text
 carried Decrypt mode raw number text = decipher_unit mode raw number text
 
--- the words KEY and NUMBER are a key's and a number's, the text is one data unit, and this becomes of it
+-- the words KEY and NUMBER are a key's and a number's, the text is one data unit, and this becomes
+-- of it
 pub record Carries (way : Direction) (key number text out : List ℕ) : Type 0 where
   pub raw : List ℕ
   pub mode : Mode

@@ -13,12 +13,13 @@ use bc_modes::UnitCipher;
 use hex::FromHexError;
 use std::alloc::{AllocError, Global};
 
-/// What is printed of a data unit that is written in hexadecimal digits: the digits of what it becomes, and a line feed.
+/// What is printed of a data unit that is written in hexadecimal digits: the digits of what it
+/// becomes, and a line feed.
 ///
 /// # Errors
 ///
-/// KEY or TEXT aren't pairs of hexadecimal digits, NUMBER isn't a number's text, KEY is no key for a data unit of TEXT's
-/// length, or memory is out.
+/// KEY or TEXT aren't pairs of hexadecimal digits, NUMBER isn't a number's text, KEY is no key for
+/// a data unit of TEXT's length, or memory is out.
 pub fn in_digits(
     alloc: Global,
     way: Direction,
@@ -54,8 +55,8 @@ fn line_of(alloc: Global, bytes: &[u8]) -> Result<String, AllocError>
 ///
 /// # Errors
 ///
-/// KEY isn't pairs of hexadecimal digits, NUMBER isn't a number's text, KEY is no key for a data unit of this length, or
-/// memory is out. The text stays as it was.
+/// KEY isn't pairs of hexadecimal digits, NUMBER isn't a number's text, KEY is no key for a data
+/// unit of this length, or memory is out. The text stays as it was.
 pub fn carry(
     alloc: Global,
     way: Direction,

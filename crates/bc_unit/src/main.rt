@@ -6,10 +6,11 @@
 //! | `decrypt KEY NUMBER TEXT` | the text of a data unit's raw bytes |
 //! | `encrypt KEY NUMBER`, `decrypt KEY NUMBER` | the same of the bytes of standard input, as bytes |
 //!
-//! KEY has 64 bytes for AES-256-XTS, or 16 for AES-128-CBC-ESSIV. NUMBER is the data unit's number in hexadecimal digits.
-//! A text has 512, 1024, 2048 or 4096 bytes. The process ends with 0 where the data unit is printed. Else it says why on
-//! standard error, and ends with 1 for words that are no command, 2 for a word or a text that is wrong, 3 where reading
-//! failed, 4 where writing failed, and 9 where memory is out.
+//! KEY has 64 bytes for AES-256-XTS, or 16 for AES-128-CBC-ESSIV. NUMBER is the data unit's number
+//! in hexadecimal digits. A text has 512, 1024, 2048 or 4096 bytes. The process ends with 0 where
+//! the data unit is printed. Else it says why on standard error, and ends with 1 for words that are
+//! no command, 2 for a word or a text that is wrong, 3 where reading failed, 4 where writing
+//! failed, and 9 where memory is out.
 #![tactic(auto)]
 
 mod carrying;
