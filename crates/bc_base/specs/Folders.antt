@@ -1,4 +1,5 @@
--- What a folder has under each name, and what a call does to it, as far as the folder tells. A name is its bytes in UTF-8.
+-- What a folder has under each name, and what a call does to it, as far as the folder tells. A name is its bytes in
+-- UTF-8.
 use Rattle.std.specs.Prelude.{◌≡◌, ◌≢◌, ℕ, ◌<◌, List, [], ◌∷◌, length, slice_index_or, true, false, Option, Some, None, IfSome, IsSomeAnd, if◌then◌else◌}
 use Rattle.std.specs.Str.{bytes_eq}
 use Rattle.bc_base.specs.Memory.{Calls}

@@ -24,7 +24,8 @@ pub trait Store {
     /// How often it has failed.
     ghost faults: { Self → ℕ };
 
-    /// Reads the sectors from `sector` on, as many as `into` has room for. A read changes no sector, also where it fails.
+    /// Reads the sectors from `sector` on, as many as `into` has room for. A read changes no sector, also where it
+    /// fails.
     ///
     /// # Errors
     /// A fault of the store. `into` is then unspecified.

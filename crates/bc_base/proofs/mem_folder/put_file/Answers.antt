@@ -1,4 +1,4 @@
-use Rattle.std.proofs.Common.{◌≡◌, List, ℕ, None, sym, ap, ◌∙◌, subst}
+use Rattle.std.proofs.Common.{◌≡◌, List, ℕ, None, ap, ◌∙◌, subst}
 use Rattle.bc_base.specs.Folders.{FileData, IsPlaceOf, bytes_of}
 use Rattle.bc_base.proofs.Files.{set_named, set_other, push_named, push_other}
 use Rattle.bc_base.proofs.mem_folder.put_file.Goals as goal
