@@ -14,7 +14,7 @@ use Rattle.bc_medium.specs.Entries.{caller_of}
 use Rattle.bc_medium.specs.ShardOrder.{StoreOrder, IsOrder}
 use Rattle.bc_medium.specs.Medium.{OpeningData, Keeps, quota_of}
 
-sum-set : (q : List ℕ) (i v : ℕ) → i < length q → sum (set q i v) + get_or q i 0 ≡ sum q + v
+pub sum-set : (q : List ℕ) (i v : ℕ) → i < length q → sum (set q i v) + get_or q i 0 ≡ sum q + v
 sum-set q i v l = sum_by-set (λ x. x) q i v 0 l
 
 pub fits_one : (q : List ℕ) (c : ℕ) → get_or q c 0 ≤ sum q

@@ -13,9 +13,10 @@ use Rattle.std.proofs.lemmas.Map.Views.{any-filter_same}
 use Rattle.bc_profile.specs.declared.limits.TheConstants.{MAX_SLOTS}
 use Rattle.bc_profile.specs.declared.skips.Skip.{Skip}
 use Rattle.bc_profile.specs.SlotJournal.{Slots, without, is_listed, key_of, IsHeld, MayProgram}
-use Rattle.bc_profile.proofs.MemberLemmas.{In, all_at, all_from_in, in_of_filter, distinct_without, distinct_push, gone_without, pigeons}
+use Rattle.bc_profile.proofs.MemberLemmas.{distinct_without, distinct_push, gone_without, pigeons}
 use Rattle.bc_profile.proofs.SkipLemmas.{skipped}
 use Rattle.bc_profile.specs.SlotTable.{IsTable, WasFound, refs_of, is_held, one_more}
+use Rattle.bc_base.proofs.Members.{In, in_of_filter, all_at, all_from_in}
 
 pub many_held : (n : ℕ) → 1 ≤ n → not (n == 0) ≡ true
 many_held n some = ap not (ne_eqb n 0 (λ none. absurd (omega (arith, some, none))))

@@ -2,7 +2,7 @@
 use Rattle.std.proofs.Common.{◌≡◌, ℕ, zero, suc, ◌+◌, ◌*◌, ◌/◌, ◌<◌, ◌≤◌, ◌^◌, ◌⊎◌, inl, inr, Bool, true, false, cond, List, [], ◌∷◌, ◌++◌, length, map, take, refl, sym, ap, subst, ◌∙◌, arith, not, Option, Some}
 use Rattle.std.specs.Prelude.{◌↔◌, ◌==◌, ◌&&◌, ◌||◌, filter, flat_map, Contains, slice_get, slice_index_or, nat_lt, option_map, IsSomeAnd}
 use Rattle.std.specs.Option.{option_map_or}
-use Rattle.std.specs.List.{AllByRecursion, AllZip, range_with_len, enumerate_from, list_any, position_or_len}
+use Rattle.std.specs.List.{AllByRecursion, range_with_len, enumerate_from, list_any, position_or_len}
 use Rattle.std.proofs.Math.Logic.{⊎_elim}
 use Rattle.std.proofs.lemmas.Bool.{eq-eqb, ne_eqb, eqb-true, true≢false, cases_lt, and_right, ltb-true, false_from_ne_true}
 use Rattle.std.proofs.lemmas.Option.{none-some, same_Some}
@@ -42,11 +42,12 @@ use Rattle.bc_serial.specs.Keyslots.{KeyslotsData}
 use Rattle.bc_section.specs.Uses.{after_uses, is_for, NamesUse, MakesUses}
 use Rattle.bc_section.specs.Openings.{planned_on}
 use Rattle.bc_serial.specs.Standing.{Stands, IsCourse, CourseData, HasBegun, device_of, sectors_at, IsBegun}
-use Rattle.bc_section.proofs.Lists.{In, in_append_left, in_append_right, list_at_past, in_of_filter, in_of_flat_map, all_at, all_from_in, all_slice, all_by_place, filter_all, filter_none, at_exists, at_map, at_of_map, list_at_map, by_places, same_tests}
+use Rattle.bc_section.proofs.Lists.{list_at_past, all_slice, all_by_place, filter_all, filter_none, at_exists, at_map, at_of_map, list_at_map, by_places}
 use Rattle.bc_serial.proofs.Sectioning.{events_at, events_are, same_by_places}
 use Rattle.bc_section.proofs.Using.{holds_within}
 use Rattle.bc_serial.proofs.Turns.{callers_below}
 use Rattle.bc_serial.proofs.Beginning.{nothing_behind}
+use Rattle.bc_base.proofs.Members.{In, in_append_left, in_append_right, in_of_filter, in_of_flat_map, same_tests, all_at, all_from_in, zip_length}
 
 -- ---- planned faults
 
@@ -178,12 +179,6 @@ names_its_hold script e (vias.Inline device slot event) is =
     (subst (λ (o : Option Target). IsSomeAnd o (λ t. last_programming is.under.key.0 (journal_by t (uses_through script device (name_of_entry e))) ≡ Some (slot, event))) (sym target.1) last)
 
 -- ---- lists
-
-zip_length : {X Y : Type 0} (R : X → Y → Type 0) (xs : List X) (ys : List Y) → AllZip R xs ys → length ys ≡ length xs
-zip_length R [] [] all = refl
-zip_length R [] (y ∷ ys) all = absurd all
-zip_length R (x ∷ xs) [] all = absurd all
-zip_length R (x ∷ xs) (y ∷ ys) all = ap suc (zip_length R xs ys all.1)
 
 length_numbered : {X Y : Type 0} (f : ℕ × X → Y) (n : ℕ) (xs : List X) → length (map f (enumerate_from n xs)) ≡ length xs
 length_numbered f n [] = refl

@@ -23,7 +23,7 @@ use Rattle.bc_serial.specs.Keyslots.{story_of, stories_of, used_at, used_each}
 use Rattle.bc_section.specs.Sections.{journal_seen}
 use Rattle.bc_serial.specs.Standing.{CourseData, HasBegun, device_of}
 use Rattle.bc_section.specs.Uses.{after_uses}
-use Rattle.bc_section.proofs.Growing.{begins_trans}
+use Rattle.bc_medium.proofs.Growing.{begins_trans}
 
 -- ---- events and who made them
 

@@ -30,8 +30,7 @@ use Rattle.bc_section.specs.Uses.{bios_of}
 use Rattle.bc_pieces.specs.Pieces.{is_piece_on, pieces_on}
 use Rattle.bc_disk.specs.Submissions.{events_for, inline_key, inline_pieces}
 use Rattle.bc_threads.specs.Asked.{events_asked, events_of_one}
-use Rattle.bc_threads.proofs.Events.{count_cons}
-use Rattle.bc_section.proofs.Holding.{hold_weight, holds_of, touched_by, window_holds}
+use Rattle.bc_section.proofs.Holding.{hold_weight, holds_of, touched_by, window_holds, count_cons}
 use Rattle.bc_threads.proofs.Past.{none_on}
 use Rattle.bc_threads.proofs.WindowBios.{IsWindowBio}
 
