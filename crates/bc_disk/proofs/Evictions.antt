@@ -29,6 +29,7 @@ use Rattle.bc_disk.specs.Evictions.{AddsAt, AddsEvents, AsksFirst, AsksOne, Empt
 use Rattle.bc_base.proofs.Members.{at_set, zip_length}
 use Rattle.bc_medium.proofs.Growing.{begins_itself, begins_trans}
 use Rattle.bc_pieces.proofs.ManyCallers.{noticed_made}
+use Rattle.bc_profile.specs.declared.book.Busy.{Busy as Found}
 
 -- a controller has a row of each key
 pub rows_here : (keys : List KeyData) (controllers : List ControllerData) (device : ℕ) (controller : ControllerData) → AreControllers keys controllers → At controllers device controller → length controller.profile.rows ≡ length keys

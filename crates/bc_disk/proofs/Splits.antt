@@ -16,7 +16,7 @@ use Rattle.bc_medium.specs.Medium.{Belongs, EachTwoFrom, IsEnd, MediumData, Open
 use Rattle.bc_profile.specs.declared.event.Event.{Event}
 use Rattle.bc_profile.specs.declared.noted.Noted.{Noted}
 use Rattle.bc_profile.specs.Story.{events_of}
-use Rattle.bc_profile.specs.Passes.{IsFree, SlotFacts, IsOf}
+use Rattle.bc_profile.specs.Passes.{IsClosed as IsEndOfSlots, IsFree, SlotFacts, IsOf}
 use Rattle.bc_ufs.specs.Controllers.{ControllerData}
 use Rattle.bc_disk.specs.Disks.{DiskData, IsDisk, IsPassOf, PassData}
 use Rattle.bc_disk.specs.Dealing.{dealt}

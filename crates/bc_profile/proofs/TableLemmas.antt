@@ -92,7 +92,7 @@ pub equal : (a b : ℕ) → (a == b) ≡ true → a ≡ b
 equal a b e = ⊎_elim (λ (same : a ≡ b). same) (λ (differ : a ≢ b). absurd (true≢false (sym e ∙ ne_eqb a b differ))) (cases_eq a b)
 
 -- a slot that is taken off the list: others are listed as before
-listed_without : (list : List ℕ) (slot o : ℕ) → o ≢ slot → list_any (λ other. other == o) (without slot list) ≡ list_any (λ other. other == o) list
+pub listed_without : (list : List ℕ) (slot o : ℕ) → o ≢ slot → list_any (λ other. other == o) (without slot list) ≡ list_any (λ other. other == o) list
 listed_without list slot o apart = any-filter_same (λ other. other == o) (λ other. not (other == slot)) true (λ k is. ap not (ne_eqb k slot (λ same. apart (sym (equal k o is) ∙ same)))) list
 
 without_within : (list : List ℕ) (slot n : ℕ) → AllByRecursion (λ o. o < n) list → AllByRecursion (λ o. o < n) (without slot list)

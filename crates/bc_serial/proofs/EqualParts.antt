@@ -1,12 +1,7 @@
 -- Parts of one size of a list, and facts of numbered parts.
-use Rattle.std.proofs.Common.{◌≡◌, ℕ, zero, suc, ◌+◌, ◌*◌, ◌<◌, ◌≤◌, List, length, drop, ◌-◌, arith, length-take, length-drop, ap, ◌∙◌}
+use Rattle.std.proofs.Common.{◌≡◌, ℕ, ◌+◌, ◌*◌, ◌<◌, ◌≤◌, List, length, drop, ◌-◌, arith, length-take, length-drop, ap, ◌∙◌}
 use Rattle.std.specs.Prelude.{slice_range}
-
--- part i ends within as many parts as there are
-pub part_within : (size i n : ℕ) → i < n → size * i + size ≤ n * size
-part_within size i zero lt = absurd (omega arith)
-part_within size zero (suc n) lt = omega arith
-part_within size (suc i) (suc n) lt = let before = part_within size i n (omega arith) in omega arith
+use Rattle.bc_section.proofs.Numbered.{part_within}
 
 pub length-range : (bytes : List ℕ) (a size : ℕ) → a + size ≤ length bytes → length (slice_range bytes a (a + size)) ≡ size
 length-range bytes a size within = omega (arith, length-take (a + size - a) (drop a bytes), length-drop a bytes)

@@ -47,8 +47,9 @@ use Rattle.bc_serial.specs.InTurn.{InTurn}
 use Rattle.bc_section.proofs.Lists.{in_of_filter_map, list_at_past}
 use Rattle.bc_serial.proofs.Counting.{window_bounds}
 use Rattle.bc_section.proofs.Reaching.{enumerated_at}
-use Rattle.bc_serial.proofs.Stories.{GoOn, begun_more, course_journals, events_of_append, events_of_notes, seen_journals, stories_more, stories_note}
+use Rattle.bc_serial.proofs.Stories.{GoOn, begun_more, course_journals, seen_journals, stories_more, stories_note}
 use Rattle.bc_base.proofs.Members.{In}
+use Rattle.bc_section.proofs.Numbered.{events_of_append, events_of_notes}
 
 -- ---- journals
 

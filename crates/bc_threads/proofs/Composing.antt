@@ -43,10 +43,11 @@ use Rattle.bc_threads.specs.Quotas.{sections_of, unit_row}
 use Rattle.bc_threads.specs.Runs.{AreCarriedOut, IsCarriedOut, IsOpenedFor, contents_told}
 use Rattle.bc_threads.specs.Shared.{base_on}
 use Rattle.bc_threads.proofs.Apart.{any_at, choose, few_from, list_at_is, of_some, two_at, two_long, zip_by_place, zip_length}
-use Rattle.bc_threads.proofs.Faults.{empty_behind, fail_at, met_planned, not_behind, nothing_behind, planned_met}
+use Rattle.bc_threads.proofs.Faults.{empty_behind}
 use Rattle.bc_threads.proofs.Opening.{calls_told, is_owned}
 use Rattle.bc_threads.proofs.Ready.{shards_are}
 use Rattle.bc_base.proofs.Members.{same_tests}
+use Rattle.bc_section.proofs.Faults.{not_behind, nothing_behind, fail_at, met_planned, planned_met}
 
 counted : (threads : List (List Op)) → 0 < length threads → length (sections_of threads) ≡ length threads
 counted [] some = absurd (omega arith)
