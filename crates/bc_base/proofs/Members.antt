@@ -1,11 +1,12 @@
 -- Membership, facts of each element, tests and filters of lists.
-use Rattle.std.proofs.Common.{◌≡◌, List, [], ◌∷◌, map, refl, ap, ◌⊎◌, ◌+◌, inl, inr, ◌++◌, Bool, true, false, cond, sym, ◌∙◌, subst, ℕ, zero, suc, set, length, arith}
+use Rattle.std.proofs.Common.{◌≡◌, List, [], ◌∷◌, map, refl, ap, ◌⊎◌, ◌+◌, inl, inr, ◌++◌, Bool, true, false, cond, sym, ◌∙◌, subst, ℕ, zero, suc, set, length, arith, ◌-◌, ◌<◌, get_or}
 use Rattle.std.proofs.Math.Logic.{⊎_elim}
-use Rattle.std.specs.Prelude.{filter, flat_map, ◌||◌}
+use Rattle.std.specs.Prelude.{filter, flat_map, ◌||◌, sum}
 use Rattle.std.specs.List.{AllZip, list_any, AllByRecursion, range_with_len}
 use Rattle.std.proofs.lemmas.Bool.{true≢false}
 use Rattle.std.proofs.lemmas.Option.{none-some}
 use Rattle.bc_base.specs.Lists.{At}
+use Rattle.std.proofs.lemmas.List.Sums.{sum_by-set}
 
 pub map-map : {A B C : Type 0} (f : A → B) (g : B → C) (xs : List A) → map g (map f xs) ≡ map (λ x. g (f x)) xs
 map-map f g [] = refl
@@ -146,3 +147,6 @@ zip_length R [] [] all = refl
 zip_length R [] (y ∷ ys) all = absurd all
 zip_length R (x ∷ xs) [] all = absurd all
 zip_length R (x ∷ xs) (y ∷ ys) all = ap suc (zip_length R xs ys all.1)
+
+pub sum-set : (q : List ℕ) (i v : ℕ) → i < length q → sum (set q i v) + get_or q i 0 ≡ sum q + v
+sum-set q i v l = sum_by-set (λ x. x) q i v 0 l

@@ -1,7 +1,6 @@
 -- A controller's capability for a data unit: where it stands, and that its mask is not empty.
-use Rattle.std.proofs.Common.{◌≡◌, ℕ, suc, ◌+◌, List, [], ◌∷◌, ◌++◌, ap, true, false, sym, subst}
+use Rattle.std.proofs.Common.{◌≡◌, ℕ, suc, List, [], ◌∷◌, ◌++◌, ap, true, false, Some, sym, subst}
 use Rattle.std.specs.Prelude.{slice_get, ◌==◌}
-use Rattle.bc_base.specs.Lists.{At}
 use Rattle.bc_modes.specs.declared.ufs_caps.Capability.{Capability}
 use Rattle.std.proofs.lemmas.Bool.{true≢false, ne_eqb}
 use Rattle.bc_key.specs.declared.config.DataUnit.{DataUnit}
@@ -9,7 +8,7 @@ use Rattle.bc_key.specs.declared.config.DataUnit.TheVariants.{Bytes512, Bytes102
 use Rattle.bc_key.specs.DataUnits.{bit_of}
 use Rattle.bc_key.specs.Support.{has_bits}
 
-pub place : (first second : List Capability) (capability : Capability) → second ≡ capability ∷ [] → (k : ℕ) × At (first ++ second) k capability
+pub place : (first second : List Capability) (capability : Capability) → second ≡ capability ∷ [] → (k : ℕ) × (slice_get (first ++ second) k ≡ Some capability)
 place [] second capability is = (0, ap (λ (l : List Capability). slice_get l 0) is)
 place (c ∷ cs) second capability is = let r = place cs second capability is in (suc r.0, r.1)
 

@@ -7,7 +7,7 @@ use mathlib.Core.Logic.{dite}
 use native.Mathlib.Decide.{dec_lt, ℕ_discrete}
 use Rattle.bc_base.specs.Lists.{Each}
 use Rattle.bc_base.specs.Story.{own, StartsWith}
-use Rattle.bc_medium.proofs.Quotas.{sum-set}
+use Rattle.bc_base.proofs.Members.{sum-set}
 
 module _ {E : Type 0} where
   pub begins_itself : (story : List E) → StartsWith story story
