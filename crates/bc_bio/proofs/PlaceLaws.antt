@@ -16,7 +16,7 @@ use Rattle.bc_bio.specs.Ends.{ends_after, begin_of, Parts, IsFound}
 units_of : TaggedBio → ℕ
 units_of tagged = tagged.bio.units
 
-count-cons : (tagged : TaggedBio) (bios : List TaggedBio) → count_units (tagged ∷ bios) ≡ tagged.bio.units + count_units bios
+pub count-cons : (tagged : TaggedBio) (bios : List TaggedBio) → count_units (tagged ∷ bios) ≡ tagged.bio.units + count_units bios
 count-cons tagged bios = sum_by-cons (λ (t : TaggedBio). t.bio.units) tagged bios
 
 pub length-ends_after : (before : ℕ) (bios : List TaggedBio) → length (ends_after before bios) ≡ length bios

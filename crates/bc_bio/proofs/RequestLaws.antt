@@ -7,7 +7,7 @@ use Rattle.std.specs.List.{AllByRecursion}
 use Rattle.std.proofs.lemmas.Bool.{and_parts, eqb-true}
 use Rattle.std.proofs.lemmas.Bool.Decides.{nat_tests}
 use Rattle.std.proofs.lemmas.List.{map-append, length-map}
-use Rattle.std.proofs.lemmas.List.Sums.{sum_by-cons, sum_by-append}
+use Rattle.std.proofs.lemmas.List.Sums.{sum_by-append}
 use Rattle.std.proofs.lemmas.List.FromFn.{length-map-range_with_len, get_or-map-range_with_len}
 use Rattle.std.proofs.lemmas.Option.{slice_get-get_or}
 use Rattle.std.proofs.Math.Seq.{map-set_same}
@@ -31,7 +31,7 @@ use Rattle.bc_bio.specs.declared.unit_place.UnitPlace.{UnitPlace}
 use Rattle.bc_bio.specs.BioUnits.{extent_of}
 use Rattle.bc_bio.specs.Requests.{CanBePlaced, tagged_of, tagged_bios, place_of, place_in, unmarked, with_bio_of, unit_in, first_fault}
 use Rattle.bc_bio.specs.Ends.{IsFound, HasEnds, ends_after}
-use Rattle.bc_bio.proofs.PlaceLaws.{length-ends_after, ends_after-append}
+use Rattle.bc_bio.proofs.PlaceLaws.{length-ends_after, ends_after-append, count-cons}
 
 -- ---- lengths
 
@@ -64,9 +64,6 @@ runs_on_after keys first second joined =
     let both = and_parts (same_access first.access second.access && (second.sector == end_of keys first)) (context_runs_on first.context first.units second.context) joined in
     let place = and_parts (same_access first.access second.access) (second.sector == end_of keys first) both.0 in
     eqb-true second.sector (end_of keys first) place.1
-
-count-cons : (tagged : TaggedBio) (bios : List TaggedBio) → count_units (tagged ∷ bios) ≡ tagged.bio.units + count_units bios
-count-cons tagged bios = sum_by-cons (λ (t : TaggedBio). t.bio.units) tagged bios
 
 -- what runs on at the back of linked bios starts behind all their units
 pub starts_behind : (keys : List KeyData) (first : TaggedBio) (bios : List TaggedBio) (next : TaggedBio)

@@ -21,17 +21,19 @@ use Rattle.bc_medium.specs.KeyedDisk.{Sectors, meets_fault, UnitAnswer, Faulted,
 use Rattle.bc_medium.specs.Entries.{caller_of, name_of_entry, unit_of, performed_by, left_by, told_by, IsTold}
 use Rattle.bc_medium.specs.LawfulOrders.{name_of, is_same, is_attempted, is_earlier}
 use Rattle.bc_medium.specs.Outcome.{Run, unit_named, disk_of, answers_on, answers_of, final_image, is_fault, is_unit_of, answer_text, unit_answer, answers_of_bio, fault_of, without_fault, bio_answer, BioAnswer, Wrote, Bytes, Fault}
-use Rattle.bc_compose.proofs.Image.{image_of-image_sectors}
 use Rattle.bc_script.specs.Script.{Script, keys_of}
 use Rattle.bc_base.specs.Lists.{list_at}
 use Rattle.bc_medium.specs.Growth.{IsEntryOf, failed_names, attempted_by, lies_in, Knows}
 use Rattle.bc_compose.specs.SectionDone.{IsBioAnswer}
 use Rattle.bc_compose.specs.Closed.{ShardsClosed, StoresClosed}
-use Rattle.bc_compose.proofs.Lists.{In, in_at, all_at, all_from_in, in_map, in_filter, in_of_filter, beside, beside_left, any_from, slice_get_append}
+use Rattle.bc_compose.proofs.Lists.{in_at, in_map, in_filter, beside_left, slice_get_append}
 use Rattle.bc_compose.proofs.Names.{Apart, finds}
 use Rattle.bc_compose.proofs.Distinct.{Distinct, distinct_filter, distinct_from_own, distinct_same, distinct_units, same_names, same_itself, find_the, find_some, find_none, in_of_range, in_range}
 use Rattle.bc_compose.proofs.Along.{Known, Agree, along}
 use Rattle.bc_compose.proofs.Orders.{HasMade, named, by_thread, placed, made_by, at_map}
+use Rattle.bc_base.proofs.Members.{In, in_of_filter, beside, any_from, all_at, all_from_in}
+use Rattle.bc_base.proofs.Image.{image_of-image_sectors}
+use Rattle.bc_medium.proofs.Told.{told_append}
 
 -- ---- entries and answers
 
@@ -50,12 +52,6 @@ distinct_told keys disk (e ∷ es) all = (
       (λ x at' same. let r = told_in keys (performed_by keys disk e).disk es x at' in all_at (λ y. name_of_entry e ≡ name_of_entry y → ⊥) es r.0 all.0 r.1 (same ∙ sym r.2)),
   distinct_told keys (performed_by keys disk e).disk es all.1,
 )
-
--- what was told of a front stays told of the whole
-pub told_append : (keys : List KeyData) (disk : Sectors) (es more : List Entry) → told_by keys disk (es ++ more) ≡ told_by keys disk es ++ told_by keys (left_by keys disk es) more
-told_append keys disk [] more = refl
-told_append keys disk (e ∷ es) more =
-    ap (λ (l : List (UnitName × UnitAnswer)). (name_of_entry e, (performed_by keys disk e).answer) ∷ l) (told_append keys (performed_by keys disk e).disk es more)
 
 pub still_told : (keys : List KeyData) (disk : Sectors) (caller : ℕ) (seen order : List Entry) (name : UnitName) (answer : UnitAnswer)
     → IsFront caller_of caller seen order → IsTold (told_by keys disk seen) name answer → IsTold (told_by keys disk order) name answer

@@ -9,8 +9,9 @@ use Rattle.bc_base.specs.Story.{own}
 use Rattle.bc_bio.specs.PlannedUnit.{PlannedUnit}
 use Rattle.bc_medium.specs.declared.unit_name.UnitName.{UnitName}
 use Rattle.bc_medium.specs.LawfulOrders.{name_of, is_same}
-use Rattle.bc_compose.proofs.Lists.{In, all_at, all_from_in, in_of_filter, in_filter, in_append_cases, in_append_left, in_append_right}
+use Rattle.bc_compose.proofs.Lists.{in_filter}
 use Rattle.bc_compose.proofs.Names.{Apart, shares}
+use Rattle.bc_base.proofs.Members.{In, in_append_left, in_append_right, in_append_cases, in_of_filter, all_at, all_from_in}
 
 -- no two elements have one name
 abbrev pub Distinct : {X N : Type 0} → (X → N) → List X → Type 0

@@ -21,9 +21,9 @@ use Rattle.bc_report.specs.RunOf.{name_in, orders_of, run_of}
 use Rattle.bc_report.specs.SerialRun.{NamesHold, NamesHoldUnder, serial_order, IsSerial}
 use Rattle.bc_compose.specs.Closed.{line_of}
 use Rattle.bc_compose.specs.Composed.{AreSectionsOf, FollowOneAnother, NamesItsHold, AreUses}
-use Rattle.bc_compose.proofs.Lists.{all_at}
 use Rattle.bc_compose.proofs.Orders.{at_map, own_order}
 use Rattle.bc_compose.proofs.Whole.{few, has_made, the_run, run_is, orders_are, made_of, own_key_is, each_line}
+use Rattle.bc_base.proofs.Members.{all_at}
 
 module _ (sizes : UnitsHaveSizes) (blocks : UnitsLieInBlocks) (unrefused : UnrefusedIsAccepted)
     (script : Script) (image : List ℕ) (shards : ℕ) (report : Report) (left : List ℕ) (made : ℕ → List Entry) (orders : List (List Entry)) (journals : List (List Noted))

@@ -7,7 +7,7 @@ use Rattle.std.proofs.lemmas.Bool.{eq-eqb}
 use Rattle.bc_bio.specs.PlannedUnit.{PlannedUnit}
 use Rattle.bc_medium.specs.LawfulOrders.{name_of}
 use Rattle.bc_medium.specs.Outcome.{is_named}
-use Rattle.bc_compose.proofs.Lists.{In, all_at}
+use Rattle.bc_base.proofs.Members.{In, all_at}
 
 -- one unit has another's name
 abbrev pub shares : PlannedUnit → PlannedUnit → Bool

@@ -17,10 +17,11 @@ use Rattle.bc_medium.specs.LawfulOrders.{name_of, is_attempted, is_earlier, at_p
 use Rattle.bc_script.specs.declared.op.Op.{Op}
 use Rattle.bc_script.specs.Script.{Script, keys_of}
 use Rattle.bc_script.specs.Plan.{unit_at, units_of, units_of_section, plan_of}
-use Rattle.bc_compose.proofs.Lists.{In, in_at, all_at, all_from_in, in_of_filter, in_of_map, any_in, any_from, same_tests, filter-map, map-map, slice_get_append}
+use Rattle.bc_compose.proofs.Lists.{in_at, filter-map, slice_get_append}
 use Rattle.bc_compose.proofs.Distinct.{in_of_range}
-use Rattle.bc_compose.proofs.Units.{all_of, all_append, all_map, by_bio, ops_of, later_ops, later_units}
+use Rattle.bc_compose.proofs.Units.{all_map, by_bio, ops_of, later_ops, later_units}
 use Rattle.bc_compose.proofs.Orders.{in_filter_map, in_of_filter_map, at_is, within_of}
+use Rattle.bc_base.proofs.Members.{map-map, In, in_of_map, in_of_filter, any_in, any_from, same_tests, all_at, all_from_in, all_append, all_of}
 
 -- ---- items that have a name and lie in a shard
 

@@ -18,7 +18,8 @@ use Rattle.bc_medium.specs.LawfulOrders.{name_of, is_attempted, is_earlier, at_p
 use Rattle.bc_base.specs.Lists.{list_at}
 use Rattle.bc_medium.specs.Growth.{IsEntryOf, failed_names, attempted_by, lies_in}
 use Rattle.bc_compose.specs.Closed.{ShardsClosed}
-use Rattle.bc_compose.proofs.Lists.{In, in_at, place_of, in_map, in_of_map, in_filter, in_of_filter, any_in, any_from, same_tests, filter-map, filter_same_in, filter_swap, filter_beside, map_beside, own_seen, all_at}
+use Rattle.bc_compose.proofs.Lists.{in_at, place_of, in_map, in_filter, filter-map, filter_swap, filter_beside, map_beside, own_seen}
+use Rattle.bc_base.proofs.Members.{In, in_of_map, in_of_filter, any_in, any_from, same_tests, filter_same_in, all_at}
 
 -- what each thread has made: the part of `SectionDone` that the orders stand on
 pub record HasMade (shards thread : ℕ) (issued : List PlannedUnit) (seen : List (List Entry)) (made : List Entry) : Type 0 where

@@ -38,12 +38,13 @@ use Rattle.bc_report.specs.Programmings.{Programs, NamesProgramming, via_of, Inl
 use Rattle.bc_compose.specs.SectionDone.{key_of_entry, inline_of, NamesOwn}
 use Rattle.bc_compose.specs.Closed.{line_of}
 use Rattle.bc_compose.specs.Composed.{AreSectionsOf}
-use Rattle.bc_compose.proofs.Lists.{In, all_at, all_from_in, in_map, in_of_map, in_of_filter, beside, any_in, any_from, slice_get_append}
+use Rattle.bc_compose.proofs.Lists.{in_map, slice_get_append}
 use Rattle.bc_compose.proofs.Flat.{in_flat, in_of_flat, numbered}
 use Rattle.bc_compose.proofs.Distinct.{same_names, same_itself, distinct_same, find_some, find_none}
 use Rattle.bc_compose.proofs.Orders.{named, at_map, in_of_filter_map}
 use Rattle.bc_compose.proofs.Whole.{few, the_run, run_is, has_made, made_of, own_key_is, stands_there, made_distinct, each_line}
 use Rattle.bc_compose.proofs.Counted.{device_at_is, own_evictions, eviction_from}
+use Rattle.bc_base.proofs.Members.{In, in_of_map, in_of_filter, beside, any_in, any_from, all_at, all_from_in}
 
 module _ (sizes : UnitsHaveSizes) (blocks : UnitsLieInBlocks) (unrefused : UnrefusedIsAccepted)
     (script : Script) (image : List ℕ) (shards : ℕ) (report : Report) (left : List ℕ) (made : ℕ → List Entry) (orders : List (List Entry)) (journals : List (List Noted))

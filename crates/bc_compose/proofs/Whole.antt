@@ -39,7 +39,6 @@ use Rattle.bc_report.specs.Ways.{way_in, HasWay, HaveWays}
 use Rattle.bc_compose.specs.SectionDone.{key_of_entry, IsReply, IsBioAnswer, SaysItsWay}
 use Rattle.bc_compose.specs.Closed.{line_of}
 use Rattle.bc_compose.specs.Composed.{AreSectionsOf}
-use Rattle.bc_compose.proofs.Lists.{In, all_at, all_from_in, in_of_map, map-map}
 use Rattle.bc_compose.proofs.Flat.{zip_from_each, zip_weaker, stands_at}
 use Rattle.bc_compose.proofs.Names.{Apart}
 use Rattle.bc_compose.proofs.Distinct.{Distinct}
@@ -48,6 +47,7 @@ use Rattle.bc_compose.proofs.Placed.{one_shard}
 use Rattle.bc_compose.proofs.Along.{Known}
 use Rattle.bc_compose.proofs.Orders.{HasMade, lawful_orders, made_by, stands}
 use Rattle.bc_compose.proofs.Answered.{known, distinct_made, bio_answered, image_left}
+use Rattle.bc_base.proofs.Members.{map-map, In, in_of_map, all_at, all_from_in}
 
 module _ (sizes : UnitsHaveSizes) (blocks : UnitsLieInBlocks) (unrefused : UnrefusedIsAccepted)
     (script : Script) (image : List ℕ) (shards : ℕ) (report : Report) (left : List ℕ) (made : ℕ → List Entry) (orders : List (List Entry)) (journals : List (List Noted))

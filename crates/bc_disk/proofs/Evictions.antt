@@ -6,28 +6,30 @@ use Rattle.std.specs.Result.{result_err}
 use Rattle.std.proofs.Math.Logic.{⊎_elim}
 use Rattle.std.proofs.lemmas.Bool.{eq-eqb, ne_eqb, cases_eq, cases_lt}
 use Rattle.std.proofs.lemmas.Option.{slice_get_within}
-use Rattle.std.proofs.lemmas.List.{length-append, length-map}
 use Rattle.bc_base.specs.Lists.{At, list_at}
 use Rattle.bc_base.specs.Sectors.{Sectors}
 use Rattle.bc_base.specs.Story.{own}
 use Rattle.bc_base.proofs.Lists.{at_one, at_read, each_at, each_set}
 use Rattle.bc_key.specs.declared.keys.KeyNo.{KeyNo}
 use Rattle.bc_key.specs.KeyData.{KeyData}
-use Rattle.bc_profile.specs.declared.book.Busy.{Busy as Found}
 use Rattle.bc_profile.specs.declared.event.Event.{Event}
 use Rattle.bc_profile.specs.declared.event.Event.TheVariants as events
 use Rattle.bc_profile.specs.declared.noted.Noted.{Noted}
 use Rattle.bc_profile.specs.Passes.{SlotFacts, Evicts, HasSpare, IsOf, Noticed, Refuses, TakesOutOf, base_in, made_by, quota_of, slots_in}
-use Rattle.bc_profile.specs.Story.{IsGone, author_of, note, notes}
+use Rattle.bc_profile.specs.Story.{IsGone, author_of, notes}
 use Rattle.bc_ufs.specs.Controllers.{ControllerData}
 use Rattle.bc_queue.specs.Queues.{AreControllers, IsController}
-use Rattle.bc_queue.proofs.Lists.{at_set, get_or_map, get_or_set_other, get_set_other, map-set}
-use Rattle.bc_queue.proofs.Queues.{from_start, rows_length, zip_at, zip_length, zip_set}
+use Rattle.bc_queue.proofs.Lists.{get_or_map, get_or_set_other, get_set_other, map-set}
+use Rattle.bc_queue.proofs.Queues.{from_start, rows_length, zip_at, zip_set}
 use Rattle.bc_pieces.specs.Pieces.{DeviceFacts, NotesOn, at_device}
-use Rattle.bc_pieces.proofs.Telling.{begins_itself, begins_trans, notes_append}
+use Rattle.bc_pieces.proofs.Telling.{notes_append}
 use Rattle.bc_disk.specs.declared.eviction.Busy.{Busy}
 use Rattle.bc_disk.specs.Disks.{DiskData, IsPassOf, PassData, events_left, facts_on, goes_inline, keys_in, pass_by}
 use Rattle.bc_disk.specs.Evictions.{AddsAt, AddsEvents, AsksFirst, AsksOne, Empties, HasAskedFor, IsBefore, IsRefusedBy, asks}
+use Rattle.bc_base.proofs.Members.{at_set, zip_length}
+use Rattle.bc_medium.proofs.Growing.{begins_itself, begins_trans}
+use Rattle.bc_pieces.proofs.ManyCallers.{noticed_made}
+use Rattle.bc_profile.specs.declared.book.Busy.{Busy as Found}
 
 -- a controller has a row of each key
 pub rows_here : (keys : List KeyData) (controllers : List ControllerData) (device : ℕ) (controller : ControllerData) → AreControllers keys controllers → At controllers device controller → length controller.profile.rows ≡ length keys
@@ -42,13 +44,6 @@ noticed_notes caller old new es is n = record {
       subst (λ c. own author_of c new.seen ≡ own author_of c old.seen ++ notes c es) is
       (sym (ap (λ c. own author_of c new.seen) n.caller) ∙ n.own_events);
 }
-
-noticed_made : (old new : SlotFacts) (es : List Event) → Noticed old new es → length (made_by new) ≡ length (made_by old) + length es
-noticed_made old new es n =
-    let many = ap length n.own_events in
-    let both = length-append (made_by old) (notes old.caller es) in
-    let mapped = length-map es (note old.caller) in
-    omega (arith, many, both, mapped)
 
 notes_none : (caller : ℕ) (seen : List Noted) → NotesOn caller seen seen []
 notes_none caller seen = record { front = begins_itself seen; adds = sym (append-nil (own author_of caller seen)) }

@@ -14,6 +14,7 @@ use Rattle.bc_ufs.specs.Controllers.{ControllerData}
 use Rattle.bc_disk.specs.Disks.{PassData, pass_by}
 use Rattle.bc_disk.specs.Dealing.{dealt, new_slots, passes_with}
 use Rattle.bc_disk.specs.Closings.{devices_with}
+use Rattle.bc_medium.proofs.Openings.{there}
 
 -- one more went from the end of what is joined to the front of what was turned round
 pub moved_back : {A : Type 0} (all front done done' whole : List A) (x : A) → all ≡ front ++ x ∷ [] → done' ≡ done ++ x ∷ [] → all ++ reverse done ≡ whole → front ++ reverse done' ≡ whole
@@ -90,11 +91,6 @@ pub all_push : {A : Type 0} (R : ℕ → A → Type 0) (xs : List A) (x : A) →
 all_push R xs x each is k y at =
     let e : 0 + k ≡ k = omega arith in let f : length xs ≡ 0 + length xs = omega arith in
     subst (λ n. R n y) e (push_from R 0 xs x (λ j w there. let z : j ≡ 0 + j = omega arith in subst (λ n. R n w) z (each j w there)) (subst (λ n. R n x) f is) k y at)
-
-pub there : {A : Type 0} (xs : List A) (k : ℕ) → k < length xs → (x : A) × At xs k x
-there [] k l = absurd (omega arith)
-there (x ∷ xs) zero l = (x, refl)
-there (x ∷ xs) (suc k) l = there xs k (omega arith)
 
 pub below : {A : Type 0} (xs : List A) (k : ℕ) (x : A) → At xs k x → k < length xs
 below [] k x at = absurd (none-some x at)

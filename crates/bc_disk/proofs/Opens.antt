@@ -23,7 +23,8 @@ use Rattle.bc_disk.specs.Disks.{DiskData, IsDisk, PassData, pass_by}
 use Rattle.bc_disk.specs.Dealing.{new_slots, passes_with}
 use Rattle.bc_stack.specs.Targets.{StackParts}
 use Rattle.bc_disk.specs.Openings.{AreNewDevices, IsNewDevice, IsNewPass, IsOpened, quota_at}
-use Rattle.bc_disk.proofs.Joins.{there, below}
+use Rattle.bc_disk.proofs.Joins.{below}
+use Rattle.bc_medium.proofs.Openings.{there}
 
 each_of_places : {A : Type 0} (P : A → Type 0) (xs : List A) → ((k : ℕ) (x : A) → At xs k x → P x) → Each P xs
 each_of_places P [] f = tt

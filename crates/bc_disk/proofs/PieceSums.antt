@@ -20,8 +20,9 @@ use Rattle.bc_queue.specs.RequestUnits.{planned_part, units_on}
 use Rattle.bc_pieces.specs.Pieces.{AreOfOneHold, at_device, is_piece_on, named_on, part_of, pieces_in, pieces_on, units_in}
 use Rattle.bc_pieces.specs.Told.{IsHoldOf, OneHold, events_on}
 use Rattle.bc_pieces.proofs.Units.{part_on}
-use Rattle.bc_pieces.proofs.Walk.{length-units_of_request}
 use Rattle.bc_disk.proofs.Adding.{pieces_append}
+use Rattle.bc_pieces.proofs.ManyCallers.{length_one}
+use Rattle.bc_stack.proofs.PieceLaws.{length-units_of_request}
 
 -- ---- units
 
@@ -91,11 +92,6 @@ pieces_shard keys targets request shards shard =
     ∙ sym (part_on keys request shards shard 0 count (omega arith))
 
 -- ---- events
-
-length_one : {X : Type 0} (n : ℕ) (x : X) → n ≤ 1 → length (take n (x ∷ [])) ≤ 1
-length_one zero x few = omega arith
-length_one (suc zero) x few = omega arith
-length_one (suc (suc n)) x few = absurd (omega (arith, few))
 
 -- one hold adds two events at most
 hold_two : (key slot : ℕ) (made : List Event) → AreOfOneHold key slot made → length made ≤ 2

@@ -11,7 +11,6 @@ use Rattle.bc_profile.specs.Laws.{HoldsNameProgrammings, LaterHoldsNameLater}
 use Rattle.bc_stack.specs.declared.target.Target.{Target}
 use Rattle.bc_queue.specs.Carrying.{AccessFacts, GoesOn}
 use Rattle.bc_queue.specs.Laws.{TagsDiffer}
-use Rattle.bc_queue.proofs.Lists.{zip_append}
 use Rattle.bc_pieces.specs.Attempted.{HasNoFault, IsWhole}
 use Rattle.bc_pieces.specs.Becoming.{Becomes}
 use Rattle.bc_pieces.specs.Laws.{BecomesStays, PlannedByBios}
@@ -20,8 +19,10 @@ use Rattle.bc_disk.specs.Submissions.{Adds, CarriesRequest, Submits, bare_bios, 
 use Rattle.bc_disk.proofs.Adding.{adds_append, adds_none}
 use Rattle.bc_disk.proofs.Attempting.{attempts_on, differ_back, differ_front, units_planned}
 use Rattle.bc_disk.proofs.Inlining.{planned_is}
-use Rattle.bc_disk.proofs.OneWay.{becomes_by, zip_each}
+use Rattle.bc_disk.proofs.OneWay.{becomes_by}
 use Rattle.bc_disk.proofs.Submitting.{adds_by, replies_to}
+use Rattle.bc_base.proofs.Members.{zip_append}
+use Rattle.bc_pieces.proofs.Whole.{zip_each}
 
 -- these bios were submitted, in requests with these pieces, and became those
 pub record Sent (old new : DeviceFacts) (bios afters : List MarkedBio) (pieces : List (List NamedUnit)) : Type 0 where

@@ -21,6 +21,7 @@ use Rattle.bc_ufs.specs.Controllers.{ControllerData}
 use Rattle.bc_disk.specs.Disks.{DiskData, IsDisk, IsPassOf, PassData}
 use Rattle.bc_disk.specs.Dealing.{dealt}
 use Rattle.bc_disk.specs.Closings.{AreAllPasses, IsClosedDisk, IsJournalOf, IsOpenDevice, IsSplit, OpenDeviceData, SplitData, devices_with, passes_on}
+use Rattle.bc_base.proofs.Members.{zip_length}
 
 -- ---- places
 
@@ -29,12 +30,6 @@ zip_there R [] ys k x all at = absurd (none-some x at)
 zip_there R (z ∷ xs) [] k x all at = absurd all
 zip_there R (z ∷ xs) (y ∷ ys) zero x all at = (y, refl, subst (λ w. R w y) (same_Some z x at) all.0)
 zip_there R (z ∷ xs) (y ∷ ys) (suc k) x all at = zip_there R xs ys k x all.1 at
-
-zip_length : {X Y : Type 0} (R : X → Y → Type 0) (xs : List X) (ys : List Y) → AllZip R xs ys → length ys ≡ length xs
-zip_length R [] [] all = refl
-zip_length R [] (y ∷ ys) all = absurd all
-zip_length R (x ∷ xs) [] all = absurd all
-zip_length R (x ∷ xs) (y ∷ ys) all = ap suc (zip_length R xs ys all.1)
 
 each_from_at : {A : Type 0} (P : ℕ → A → Type 0) (first : ℕ) (xs : List A) (k : ℕ) (x : A) → EachFrom P first xs → At xs k x → P (first + k) x
 each_from_at P first [] k x each at = absurd (none-some x at)

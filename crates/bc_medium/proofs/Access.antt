@@ -16,8 +16,9 @@ use Rattle.bc_medium.specs.Entries.{caller_of, Stand}
 use Rattle.bc_medium.specs.Growth.{Appended}
 use Rattle.bc_medium.specs.ShardOrder.{StoreOrder, IsOrder}
 use Rattle.bc_medium.specs.Medium.{OpeningData, MediumData, Keeps, Belongs, KeepsWithin, HasRoom, OwnsSectors, seen_by, shards_of, quota_of}
-use Rattle.bc_medium.proofs.Chosen.{at_set, entries_at, entries_other}
+use Rattle.bc_medium.proofs.Chosen.{entries_at, entries_other}
 use Rattle.bc_medium.proofs.Quotas.{keeps_more, has_spare}
+use Rattle.bc_base.proofs.Members.{at_set}
 
 pub either_way : {X Y : Type 0} (r : Result X Y) (P : X → Type 0) (Q : Y → Type 0) (R : Type 0) → ((x : X) → P x → R) → ((y : Y) → Q y → R) → IfOk r P → IfErr r Q → R
 either_way (Ok x) P Q R f g p q = f x p

@@ -2,7 +2,7 @@
 use Rattle.std.proofs.Common.{◌≡◌, ℕ, zero, suc, ◌+◌, ◌<◌, ◌≤◌, List, [], ◌∷◌, ◌++◌, map, length, set, get_or, drop, sym, ap, ap₂, ◌∙◌, subst, arith, append_assoc, length-append, refl, ◌≢◌}
 use Rattle.std.proofs.lemmas.List.{reverse-append, drop_more}
 use Rattle.std.specs.Prelude.{◌↔◌, IfSome, Contains, Option}
-use Rattle.std.proofs.lemmas.Option.{none-some, get_or_from_slice_get}
+use Rattle.std.proofs.lemmas.Option.{get_or_from_slice_get}
 use mathlib.Core.List.{reverse}
 use Rattle.bc_base.specs.declared.place.Place.{Place}
 use Rattle.bc_base.specs.Lists.{At, ChangesAt, list_at}
@@ -14,6 +14,7 @@ use Rattle.bc_medium.specs.declared.entry.Entry.{Entry}
 use Rattle.bc_medium.specs.Places.{shard_of}
 use Rattle.bc_medium.specs.ShardOrder.{ShardData, Appends, opened}
 use Rattle.bc_medium.specs.Shards.{orders_of, Adds, opened_with}
+use Rattle.bc_base.proofs.Members.{at_set}
 
 pub shard_inside : (shards sector : ℕ) → 1 ≤ shards → shard_of shards sector < shards
 shard_inside shards sector some = omega arith
@@ -52,11 +53,6 @@ more_opened {S} done rest all quotas s q whole e pop inside gq =
 -- one access, from what it did to its shard
 pub entries_at : {A B : Type 0} (f : A → List B) (xs : List A) (k : ℕ) (x : A) → At xs k x → list_at (map f xs) k ≡ f x
 entries_at f xs k x at = get_or_from_slice_get (map f xs) k (f x) [] (at_map f xs k x at)
-
-pub at_set : {A : Type 0} (xs : List A) (k : ℕ) (x y : A) → At xs k x → At (set xs k y) k y
-at_set [] k x y at = absurd (none-some x at)
-at_set (z ∷ xs) zero x y at = refl
-at_set (z ∷ xs) (suc k) x y at = at_set xs k x y at
 
 pub entries_other : {A B : Type 0} (f : A → List B) (xs : List A) (k other : ℕ) (y : A) → other ≢ k → list_at (map f (set xs k y)) other ≡ list_at (map f xs) other
 entries_other f [] k other y apart = refl

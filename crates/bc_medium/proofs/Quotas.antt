@@ -2,7 +2,6 @@
 use Rattle.std.proofs.Common.{◌≡◌, ◌≢◌, ℕ, ◌+◌, ◌-◌, ◌<◌, ◌≤◌, Bool, List, [], ◌∷◌, ◌++◌, length, set, get_or, refl, sym, ap, ◌∙◌, subst, arith, eq-eqb, ne_eqb, length-append, Some, Option}
 use Rattle.std.specs.Prelude.{sum}
 use Rattle.std.proofs.lemmas.List.{get_or_past, get_or-set_same, get_or-set_other}
-use Rattle.std.proofs.lemmas.List.Sums.{sum_by-set}
 use mathlib.Core.Logic.{dite}
 use native.Mathlib.Decide.{dec_lt, ℕ_discrete}
 use Rattle.bc_base.specs.Sectors.{Sectors}
@@ -13,9 +12,7 @@ use Rattle.bc_medium.specs.declared.entry.Entry.{Entry}
 use Rattle.bc_medium.specs.Entries.{caller_of}
 use Rattle.bc_medium.specs.ShardOrder.{StoreOrder, IsOrder}
 use Rattle.bc_medium.specs.Medium.{OpeningData, Keeps, quota_of}
-
-sum-set : (q : List ℕ) (i v : ℕ) → i < length q → sum (set q i v) + get_or q i 0 ≡ sum q + v
-sum-set q i v l = sum_by-set (λ x. x) q i v 0 l
+use Rattle.bc_base.proofs.Members.{sum-set}
 
 pub fits_one : (q : List ℕ) (c : ℕ) → get_or q c 0 ≤ sum q
 fits_one q c = dite (dec_lt c (length q)) (λ l. let s = sum-set q c 0 l in omega arith) (λ no. let z = get_or_past q c 0 (omega arith) in omega arith)

@@ -21,7 +21,7 @@ use Rattle.bc_medium.specs.Growth.{Knows}
 use Rattle.bc_medium.specs.ShardOrder.{ShardData, Appends, HasKeys, Leaves, IsOrder}
 use Rattle.bc_medium.specs.Shards.{HaveKeys, Answers, AllLeft}
 use Rattle.bc_medium.proofs.Orders.{known_leaves}
-use Rattle.bc_medium.proofs.Chosen.{at_set}
+use Rattle.bc_base.proofs.Members.{at_set}
 
 pub told_append : (keys : List KeyData) (disk : Sectors) (es more : List Entry) → told_by keys disk (es ++ more) ≡ told_by keys disk es ++ told_by keys (left_by keys disk es) more
 told_append keys disk [] more = refl

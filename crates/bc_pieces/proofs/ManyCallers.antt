@@ -26,11 +26,13 @@ use Rattle.bc_ufs.specs.Controllers.{ControllerData}
 use Rattle.bc_queue.specs.RequestUnits.{planned_part, units_on}
 use Rattle.bc_queue.specs.Queues.{QueueData, CanGo, Dispatches, HasEvents, HasSpareOfUnits, HoldsOnce, IsPass}
 use Rattle.bc_queue.specs.Carrying.{ArePerformable}
-use Rattle.bc_queue.proofs.Lists.{at_set, get_or_map, get_or_set_other, get_set_other, map-set}
+use Rattle.bc_queue.proofs.Lists.{get_or_map, get_or_set_other, get_set_other, map-set}
 use Rattle.bc_pieces.specs.Pieces.{CarriesPiece, IsOnDevice, NotesOn, at_device, is_piece_on, named_on, part_of, pieces_on}
 use Rattle.bc_pieces.specs.ManyCallers.{QueueDevicesData, HasRoomFor, IsReady, TakesOn, facts_over}
-use Rattle.bc_pieces.proofs.Telling.{begins_itself, begins_trans, notes_append}
+use Rattle.bc_pieces.proofs.Telling.{notes_append}
 use Rattle.bc_pieces.proofs.Units.{at_within, part_on, piece_on}
+use Rattle.bc_base.proofs.Members.{at_set}
+use Rattle.bc_medium.proofs.Growing.{begins_itself, begins_trans}
 
 -- ---- one hold
 
@@ -73,14 +75,14 @@ noticed_notes caller old new es is n = record {
       (sym (ap (λ c. own author_of c new.seen) n.caller) ∙ n.own_events);
 }
 
-noticed_made : (old new : SlotFacts) (es : List Event) → Noticed old new es → length (made_by new) ≡ length (made_by old) + length es
+pub noticed_made : (old new : SlotFacts) (es : List Event) → Noticed old new es → length (made_by new) ≡ length (made_by old) + length es
 noticed_made old new es n =
     let many = ap length n.own_events in
     let both = length-append (made_by old) (notes old.caller es) in
     let mapped = length-map es (note old.caller) in
     omega (arith, many, both, mapped)
 
-length_one : {X : Type 0} (n : ℕ) (x : X) → n ≤ 1 → length (take n (x ∷ [])) ≤ 1
+pub length_one : {X : Type 0} (n : ℕ) (x : X) → n ≤ 1 → length (take n (x ∷ [])) ≤ 1
 length_one zero x few = omega arith
 length_one (suc zero) x few = omega arith
 length_one (suc (suc n)) x few = absurd (omega (arith, few))

@@ -16,7 +16,7 @@ use Rattle.bc_stack.specs.Devices.{device_at}
 use Rattle.bc_stack.specs.Pieces.{device_of}
 use Rattle.bc_queue.specs.RequestUnits.{named_at, no_unit, planned_at, planned_part, units_on}
 use Rattle.bc_pieces.specs.Pieces.{IsOnDevice, is_piece_on, is_piece_under, named_on, part_of, units_in}
-use Rattle.bc_pieces.proofs.Walk.{length-units_of_request}
+use Rattle.bc_stack.proofs.PieceLaws.{length-units_of_request}
 
 -- ---- lists
 

@@ -6,14 +6,11 @@ use Rattle.std.proofs.lemmas.Bool.{eq-eqb, ne_eqb, cases_eq}
 use Rattle.std.proofs.lemmas.Option.{none-some, same_Some}
 use Rattle.std.proofs.Math.Logic.{⊎_elim}
 use Rattle.std.proofs.lemmas.List.Sums.{sum_by-cons}
-use Rattle.std.proofs.lemmas.List.{length-append}
-use Rattle.std.proofs.lemmas.List.FromFn.{length-map-range_with_len}
 use Rattle.std.specs.Prelude.{IsSomeAnd}
 use Rattle.std.specs.Option.{unwrap_or}
 use Rattle.bc_bio.specs.Extent.{unit_sectors}
 use Rattle.bc_bio.specs.Conditions.{IsFull}
 use Rattle.bc_bio.specs.declared.context.Context.{Context}
-use Rattle.bc_bio.specs.Windows.{TaggedBio, named_unit, named_units}
 use Rattle.bc_queue.specs.RequestUnits.{named_at, no_unit}
 use Rattle.bc_queue.specs.Carrying.{IsPerformable}
 use Rattle.bc_key.specs.KeyData.{KeyData}
@@ -23,13 +20,9 @@ use Rattle.bc_bio.specs.Requests.{RequestParts, tagged_bios, unit_in}
 use Rattle.bc_stack.specs.declared.target.Target.{Target}
 use Rattle.bc_stack.specs.Pieces.{device_of, pieces_of}
 use Rattle.bc_pieces.specs.Pieces.{DeviceFacts, CarriesPiece, CarriesFirst, CarriesPieces, HasCarried, IsOnDevice, part_of, pieces_in, units_in}
+use Rattle.bc_stack.proofs.PieceLaws.{length-units_of_request, slice_get-drop}
 
 -- ---- lists
-
-pub slice_get-drop : {X : Type 0} (xs : List X) (n i : ℕ) → slice_get (drop n xs) i ≡ slice_get xs (n + i)
-slice_get-drop xs zero i = ap (slice_get xs) (let same : i ≡ 0 + i = omega arith in same)
-slice_get-drop [] (suc n) i = refl
-slice_get-drop (x ∷ xs) (suc n) i = slice_get-drop xs n i ∙ ap (slice_get (x ∷ xs)) (let same : suc (n + i) ≡ suc n + i = omega arith in same)
 
 drop_nil : {X : Type 0} (k : ℕ) → drop {A = X} k [] ≡ []
 drop_nil zero = refl
@@ -64,15 +57,6 @@ sum_end {X = X} (ys ∷ xss) xs =
     let fewer = sum_by-cons (λ (l : List X). length l) ys xss in
     let rest = sum_end xss xs in
     omega (arith, more, fewer, rest)
-
-pub length-units_of_request : (keys : List KeyData) (bios : List TaggedBio) → length (units_of_request keys bios) ≡ count_units bios
-length-units_of_request keys [] = refl
-length-units_of_request keys (tagged ∷ bios) =
-    let here = length-map-range_with_len (named_unit keys tagged) 0 tagged.bio.units in
-    let both = length-append (named_units keys tagged) (units_of_request keys bios) in
-    let rest = length-units_of_request keys bios in
-    let sum = sum_by-cons (λ (t : TaggedBio). t.bio.units) tagged bios in
-    omega (arith, here, both, rest, sum)
 
 -- ---- one chunk
 

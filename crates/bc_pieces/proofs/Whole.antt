@@ -1,6 +1,6 @@
 -- The pieces of a request, as one.
-use Rattle.std.proofs.Common.{◌≡◌, ℕ, zero, suc, ◌+◌, ◌<◌, ◌≤◌, inl, inr, Bool, true, false, cond, not, List, [], ◌∷◌, ◌++◌, length, take, drop, map, append-nil, append_assoc, refl, sym, ap, subst, ◌∙◌, arith, Option, Some, length-drop}
-use Rattle.std.specs.Prelude.{filter, slice_get, sum_by}
+use Rattle.std.proofs.Common.{◌≡◌, ℕ, zero, suc, ◌+◌, ◌<◌, ◌≤◌, inl, inr, Bool, true, false, cond, not, List, [], ◌∷◌, ◌++◌, length, take, drop, map, append-nil, append_assoc, refl, sym, ap, subst, ◌∙◌, arith, length-drop}
+use Rattle.std.specs.Prelude.{filter, sum_by}
 use Rattle.std.specs.List.{AllZip, range_with_len}
 use Rattle.std.proofs.Math.Logic.{⊎_elim}
 use Rattle.std.proofs.lemmas.Bool.{cases_lt}
@@ -9,61 +9,36 @@ use Rattle.std.proofs.lemmas.List.Sums.{sum_by-cons, fold-append}
 use Rattle.bc_base.specs.Lists.{Each, list_at}
 use Rattle.bc_base.specs.Story.{StartsWith}
 use Rattle.bc_key.specs.KeyData.{KeyData}
-use Rattle.bc_bio.specs.declared.access.Access.{Access}
-use Rattle.bc_bio.specs.declared.unit.Unit.{Unit}
 use Rattle.bc_bio.specs.declared.marked_bio.MarkedBio.{MarkedBio}
-use Rattle.bc_bio.specs.PlannedUnit.{PlannedUnit}
 use Rattle.bc_bio.specs.Windows.{NamedUnit, TaggedBio, count_units}
 use Rattle.bc_bio.specs.Requests.{RequestParts, tagged_bios, place_of, is_after, is_over, unit_in}
 use Rattle.bc_medium.specs.declared.entry.Entry.{Entry}
 use Rattle.bc_medium.specs.declared.unit_name.UnitName.{UnitName}
 use Rattle.bc_medium.specs.declared.via.Via.{Via}
 use Rattle.bc_medium.specs.declared.via.Via.TheVariants as ways
-use Rattle.bc_medium.specs.Entries.{name_of_entry}
 use Rattle.bc_medium.specs.Growth.{failed_names, Attempts, IsEntryOf}
 use Rattle.bc_medium.specs.LawfulOrders.{name_of, is_attempted}
 use Rattle.bc_medium.specs.Laws.{AnswersStay}
 use Rattle.bc_profile.specs.Laws.{HoldsNameProgrammings, LaterHoldsNameLater}
 use Rattle.bc_stack.specs.declared.target.Target.{Target}
-use Rattle.bc_queue.specs.RequestUnits.{named_at, access_at, written_bytes, planned_at, planned_part, faults_of, with_fault_at, with_faults, attempted_in, failed_among}
-use Rattle.bc_queue.specs.Carrying.{AccessFacts, GoesOn, IsCarried, CarriesOut, answer_of}
+use Rattle.bc_queue.specs.RequestUnits.{planned_at, planned_part, faults_of, with_fault_at, with_faults, attempted_in, failed_among}
+use Rattle.bc_queue.specs.Carrying.{AccessFacts, GoesOn, IsCarried, CarriesOut}
 use Rattle.bc_queue.specs.Laws.{AttemptedByNames, TagsDiffer, MarkSame}
-use Rattle.bc_queue.proofs.Lists.{at_append, zip_append, zip_more, range_split, each_filter, each_range, filter_same}
+use Rattle.bc_queue.proofs.Lists.{zip_more, range_split, each_filter, each_range, filter_same}
 use Rattle.bc_queue.proofs.Marks.{over, over_is}
-use Rattle.bc_queue.proofs.Growing.{told_more}
-use Rattle.bc_queue.proofs.Walk.{same_access_at, same_named_at}
+use Rattle.bc_queue.proofs.Walk.{same_named_at, same_planned, carried_more}
 use Rattle.bc_stack.specs.Pieces.{pieces_of}
 use Rattle.bc_pieces.specs.Pieces.{DeviceFacts, CarriesFirst, CarriesPieces, HasCarried, pieces_in, units_in, part_of, access_by}
 use Rattle.bc_pieces.specs.Told.{Tells}
 use Rattle.bc_pieces.specs.Attempted.{by_way, IsCarriedItsWay, CarriesUnits, CarriesWhole, HasNoFault, IsWhole}
-use Rattle.bc_pieces.proofs.Walk.{drop_all, length-units_of_request}
+use Rattle.bc_pieces.proofs.Walk.{drop_all}
 use Rattle.bc_pieces.proofs.Telling.{tells_none, tells_more}
 use Rattle.bc_pieces.proofs.Marks.{all_stay, failed_within, failed_append, names_append, no_fault_at}
 use Rattle.bc_pieces.proofs.Becoming.{becomes_all, marks_all}
+use Rattle.bc_base.proofs.Members.{zip_append}
+use Rattle.bc_stack.proofs.PieceLaws.{length-units_of_request}
 
 -- ---- one unit, over longer orders, and of the request as it was at first
-
-carried_more : AnswersStay → (facts : AccessFacts) (seen seen' : List (List Entry)) (old mid new : List MarkedBio) (n : ℕ) (e : Entry) → ((shard : ℕ) → StartsWith (list_at seen' shard) (list_at seen shard))
-    → unit_in new n ≡ unit_in mid n → IsCarried facts seen old mid n e → IsCarried facts seen' old new n e
-carried_more stay facts seen seen' old mid new n e fronts same c =
-    let begins = fronts c.place.shard in record {
-      entry = c.entry;
-      way = c.way;
-      place = c.place;
-      shard = c.shard;
-      stands = subst (λ l. slice_get l c.place.index ≡ Some e) (sym begins.1) (at_append (list_at seen c.place.shard) begins.0 c.place.index e c.stands);
-      bytes = c.bytes;
-      content = same ∙ c.content;
-      full = c.full;
-      back = c.back;
-      told = told_more stay facts.keys (facts.opening c.place.shard) (list_at seen c.place.shard) (list_at seen' c.place.shard) c.place.index (name_of_entry e) (answer_of e.access e.failed c.bytes) begins c.told;
-    }
-
-same_planned : (keys : List KeyData) (old new : List MarkedBio) (n : ℕ) → tagged_bios new ≡ tagged_bios old → unit_in new n ≡ unit_in old n → planned_at keys new n ≡ planned_at keys old n
-same_planned keys old new n tags unit =
-    ap (λ (u : NamedUnit). let p : PlannedUnit = record { tag = u.tag; unit = u.unit; access = access_at new n; context = u.context; sector = u.sector; bytes = written_bytes (access_at new n) (unit_in new n) } in p) (same_named_at keys old new n tags)
-    ∙ ap (λ (a : Access). let p : PlannedUnit = record { tag = (named_at keys old n).tag; unit = (named_at keys old n).unit; access = a; context = (named_at keys old n).context; sector = (named_at keys old n).sector; bytes = written_bytes a (unit_in new n) } in p) (same_access_at old new n tags)
-    ∙ ap (λ (x : Option Unit). let p : PlannedUnit = record { tag = (named_at keys old n).tag; unit = (named_at keys old n).unit; access = access_at old n; context = (named_at keys old n).context; sector = (named_at keys old n).sector; bytes = written_bytes (access_at old n) x } in p) unit
 
 carried_first : (facts mid : AccessFacts) (seen : List (List Entry)) (first old new : List MarkedBio) (n : ℕ) (e : Entry) → GoesOn facts mid → tagged_bios old ≡ tagged_bios first → unit_in old n ≡ unit_in first n
     → IsCarried mid seen old new n e → IsCarried facts seen first new n e
@@ -83,7 +58,7 @@ carried_first facts mid seen first old new n e goes tags unit c =
 
 -- ---- units of one way are units each of its own
 
-zip_each : {X Y : Type 0} (R S : X → Y → Type 0) (xs : List X) (ys : List Y) → ((x : X) (y : Y) → R x y → S x y) → AllZip R xs ys → AllZip S xs ys
+pub zip_each : {X Y : Type 0} (R S : X → Y → Type 0) (xs : List X) (ys : List Y) → ((x : X) (y : Y) → R x y → S x y) → AllZip R xs ys → AllZip S xs ys
 zip_each R S [] [] f all = tt
 zip_each R S [] (y ∷ ys) f all = absurd all
 zip_each R S (x ∷ xs) [] f all = absurd all

@@ -46,7 +46,7 @@ told_holds keys epochs journal slot key told has = record {
   has_key = ap (λ k. get_or k slot None) (sym told.keys_left) ∙ has;
 }
 
-all_true : (test : ℕ → Bool) (first n : ℕ) → ((k : ℕ) → k < first + n → test k ≡ true) → list_all test (range_with_len first n) ≡ true
+pub all_true : (test : ℕ → Bool) (first n : ℕ) → ((k : ℕ) → k < first + n → test k ≡ true) → list_all test (range_with_len first n) ≡ true
 all_true test first zero each = refl
 all_true test first (suc n) each =
     ap (λ (b : Bool). b && list_all test (range_with_len (first + 1) n)) (each first (omega arith))

@@ -1,34 +1,33 @@
 -- Requests of the tests' bios can be carried out on the tests' disk.
-use Rattle.std.proofs.Common.{◌≡◌, ◌≢◌, ℕ, zero, suc, ◌+◌, ◌-◌, ◌*◌, ◌^◌, ◌<◌, ◌≤◌, Bool, true, false, cond, List, [], ◌∷◌, ◌++◌, length, map, get_or, refl, sym, ap, subst, ◌∙◌, arith, Option, Some, None}
-use Rattle.std.specs.Prelude.{IsSomeAnd, slice_get, nat_lt, option_and_then, filter, ◌==◌, ⊤, if◌then◌else◌}
+use Rattle.std.proofs.Common.{◌≡◌, ℕ, suc, ◌+◌, ◌-◌, ◌^◌, ◌<◌, ◌≤◌, Bool, true, false, cond, List, [], ◌∷◌, length, get_or, refl, sym, ap, subst, ◌∙◌, arith, Option, Some, None}
+use Rattle.std.specs.Prelude.{IsSomeAnd, slice_get, nat_lt, option_and_then, filter, ◌==◌, if◌then◌else◌}
 use Rattle.std.specs.Option.{unwrap_or}
 use Rattle.std.specs.List.{range_with_len}
 use Rattle.std.proofs.lemmas.Bool.{ltb-true, ltb-false}
 use Rattle.std.proofs.lemmas.List.{length-map}
 use Rattle.std.proofs.lemmas.List.Sums.{sum_by-cons}
 use Rattle.std.proofs.lemmas.List.FromFn.{length-range_with_len}
-use Rattle.bc_base.specs.Lists.{Each, At}
-use Rattle.bc_base.proofs.Lists.{each_at, each_append}
-use Rattle.bc_key.specs.KeyData.{KeyData}
-use Rattle.bc_bio.specs.declared.bio.Bio.{Bio}
+use Rattle.bc_base.specs.Lists.{At}
+use Rattle.bc_base.proofs.Lists.{each_at}
 use Rattle.bc_bio.specs.declared.unit.Unit.{Unit}
 use Rattle.bc_bio.specs.declared.unit.Unit.TheVariants.{Full}
 use Rattle.std.proofs.lemmas.Option.{slice_get-get_or}
 use Rattle.bc_bio.specs.declared.context.Context.{Context}
 use Rattle.bc_bio.specs.declared.marked_bio.MarkedBio.{MarkedBio}
 use Rattle.bc_bio.specs.declared.unit_place.UnitPlace.{UnitPlace}
-use Rattle.bc_bio.specs.BioUnits.{extent_of, context_wrapped}
-use Rattle.bc_bio.specs.Conditions.{IsFull, IsPlaced, HasKey}
-use Rattle.bc_bio.specs.Extent.{unit_sectors, end_of}
+use Rattle.bc_bio.specs.BioUnits.{context_wrapped}
+use Rattle.bc_bio.specs.Conditions.{IsFull}
+use Rattle.bc_bio.specs.Extent.{unit_sectors}
 use Rattle.bc_bio.specs.PlannedUnit.{PlannedUnit}
-use Rattle.bc_bio.specs.Windows.{TaggedBio, NamedUnit, units_of_request, count_units, IsRequest}
-use Rattle.bc_bio.specs.Requests.{RequestParts, tagged_of, tagged_bios, place_of, place_in, unit_in, unmarked, with_bio}
+use Rattle.bc_bio.specs.Windows.{TaggedBio, NamedUnit, count_units}
+use Rattle.bc_bio.specs.Requests.{tagged_of, tagged_bios, place_of, place_in, unit_in}
 use Rattle.bc_bio.proofs.RequestLaws.{unit_found}
 use Rattle.bc_medium.specs.Places.{shard_of}
 use Rattle.bc_queue.specs.RequestUnits.{named_at, no_unit, planned_at, planned_part, units_on}
-use Rattle.bc_queue.specs.Carrying.{IsPerformable, ArePerformable}
+use Rattle.bc_queue.specs.Carrying.{IsPerformable}
 use Rattle.bc_queue.specs.OrderOnly.{IsPlainBio, ArePlain}
 use Rattle.bc_queue.proofs.Lists.{get_or_map}
+use Rattle.bc_queue.proofs.Names.{no_bio}
 
 -- a unit that is within stands in a bio, among its units
 pub record Stands (bios : List MarkedBio) (n : ℕ) : Type 0 where
@@ -60,9 +59,6 @@ stands (m ∷ bios) n less = at (nat_lt n (length m.bio.units)) refl (stands bio
         let all : count_units (tagged_bios (m ∷ bios)) ≡ length m.bio.units + count_units (tagged_bios bios) = sum_by-cons (λ (x : TaggedBio). x.bio.units) (tagged_of m.bio) (tagged_bios bios) in
         let s = later (omega (arith, past, all, less)) in
         of_place false is s.marked (next (place_in bios (n - length m.bio.units)).bio s.marked s.bio_at) s.within
-
-no_bio : TaggedBio
-no_bio = record { tag = 0; bio = record { access = Rattle.bc_bio.specs.declared.access.Access.TheVariants.Read; context = None; sector = 0; units = 0 } }
 
 pub performable : (bios : List MarkedBio) (n : ℕ) → ArePlain bios → n < count_units (tagged_bios bios) → IsPerformable [] (λ sector context. context ≡ None) bios n
 performable bios n are less =

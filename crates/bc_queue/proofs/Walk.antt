@@ -1,14 +1,14 @@
 -- Units of a request, one after the other.
-use Rattle.std.proofs.Common.{◌≡◌, ◌≢◌, ℕ, ◌+◌, ◌-◌, ◌*◌, ◌<◌, ◌≤◌, ◌⊎◌, inl, inr, Bool, true, false, cond, not, List, [], ◌∷◌, ◌++◌, length, map, append-nil, refl, sym, ap, subst, ◌∙◌, arith, Option, Some, None}
+use Rattle.std.proofs.Common.{◌≡◌, ◌≢◌, ℕ, ◌+◌, ◌-◌, ◌<◌, ◌≤◌, ◌⊎◌, inl, inr, Bool, true, false, cond, not, List, [], ◌∷◌, ◌++◌, length, map, append-nil, refl, sym, ap, subst, ◌∙◌, arith, Option, Some, None}
 use Rattle.std.specs.Prelude.{◌==◌, filter, zip, fold, slice_get, IsSomeAnd}
 use Rattle.std.specs.Option.{option_map, option_map_or}
 use Rattle.std.specs.List.{AllZip, range_with_len}
 use Rattle.std.proofs.Math.Logic.{⊎_elim}
-use Rattle.std.proofs.lemmas.Bool.{true≢false, cases_lt, cases_eq}
+use Rattle.std.proofs.lemmas.Bool.{true≢false, cases_lt}
 use Rattle.std.proofs.lemmas.List.{map-append, length-append}
 use Rattle.std.proofs.lemmas.List.Elements.{filter-append}
 use Rattle.std.proofs.lemmas.List.Sums.{fold-append}
-use Rattle.bc_base.specs.Lists.{Each, list_at}
+use Rattle.bc_base.specs.Lists.{list_at}
 use Rattle.bc_base.specs.Story.{StartsWith}
 use Rattle.bc_key.specs.KeyData.{KeyData}
 use Rattle.bc_bio.specs.declared.access.Access.{Access}
@@ -26,10 +26,12 @@ use Rattle.bc_medium.specs.Places.{shard_of}
 use Rattle.bc_medium.specs.Laws.{AnswersStay}
 use Rattle.bc_medium.specs.Entries.{name_of_entry}
 use Rattle.bc_queue.specs.RequestUnits.{named_at, access_at, written_bytes, planned_at, planned_part, units_on, faults_of, with_fault_at, with_faults, attempted_in, failed_among}
-use Rattle.bc_queue.specs.Carrying.{AccessFacts, GoesOn, one_on, AccessesOne, answer_of, IsCarried, IsLeft, CarriesOut, AttemptsOne, PassesOver, CarriesOne, IsPerformable, ArePerformable, HasSpareFor, faults_then}
-use Rattle.bc_queue.proofs.Lists.{at_append, get_map, zip_append, zip_more, pairs_append, range_push, range_split, each_filter, each_range, filter_same}
+use Rattle.bc_queue.specs.Carrying.{AccessFacts, GoesOn, one_on, answer_of, IsCarried, CarriesOut, AttemptsOne, PassesOver, CarriesOne, IsPerformable, ArePerformable, HasSpareFor, faults_then}
+use Rattle.bc_queue.proofs.Lists.{at_append, get_map, zip_more, pairs_append, range_split, each_filter, each_range, filter_same}
 use Rattle.bc_queue.proofs.Marks.{over, over_is, keeps_over}
-use Rattle.bc_queue.proofs.Growing.{begins_itself, begins_trans, grows_none, grows_append, grows_one, told_more}
+use Rattle.bc_queue.proofs.Growing.{grows_one, told_more}
+use Rattle.bc_base.proofs.Members.{range_push, zip_append}
+use Rattle.bc_medium.proofs.Growing.{grows_none, grows_append}
 
 -- ---- units of requests with the same bios
 
@@ -51,7 +53,7 @@ same_access_at old new n tags =
 pub same_named_at : (keys : List KeyData) (old new : List MarkedBio) (n : ℕ) → tagged_bios new ≡ tagged_bios old → named_at keys new n ≡ named_at keys old n
 same_named_at keys old new n tags = ap (λ (ts : List TaggedBio). Rattle.std.specs.Option.unwrap_or (slice_get (units_of_request keys ts) n) Rattle.bc_queue.specs.RequestUnits.no_unit) tags
 
-same_planned : (keys : List KeyData) (old new : List MarkedBio) (n : ℕ) → tagged_bios new ≡ tagged_bios old → unit_in new n ≡ unit_in old n → planned_at keys new n ≡ planned_at keys old n
+pub same_planned : (keys : List KeyData) (old new : List MarkedBio) (n : ℕ) → tagged_bios new ≡ tagged_bios old → unit_in new n ≡ unit_in old n → planned_at keys new n ≡ planned_at keys old n
 same_planned keys old new n tags unit =
     ap (λ (u : NamedUnit). let p : PlannedUnit = record { tag = u.tag; unit = u.unit; access = access_at new n; context = u.context; sector = u.sector; bytes = written_bytes (access_at new n) (unit_in new n) } in p) (same_named_at keys old new n tags)
     ∙ ap (λ (a : Access). let p : PlannedUnit = record { tag = (named_at keys old n).tag; unit = (named_at keys old n).unit; access = a; context = (named_at keys old n).context; sector = (named_at keys old n).sector; bytes = written_bytes a (unit_in new n) } in p) (same_access_at old new n tags)
@@ -60,7 +62,7 @@ same_planned keys old new n tags unit =
 -- ---- one unit more
 
 -- what is known of a unit that was attempted, over longer orders and with the same content
-carried_more : AnswersStay → (facts : AccessFacts) (seen seen' : List (List Entry)) (old mid new : List MarkedBio) (n : ℕ) (e : Entry) → ((shard : ℕ) → StartsWith (list_at seen' shard) (list_at seen shard))
+pub carried_more : AnswersStay → (facts : AccessFacts) (seen seen' : List (List Entry)) (old mid new : List MarkedBio) (n : ℕ) (e : Entry) → ((shard : ℕ) → StartsWith (list_at seen' shard) (list_at seen shard))
     → unit_in new n ≡ unit_in mid n → IsCarried facts seen old mid n e → IsCarried facts seen' old new n e
 carried_more stay facts seen seen' old mid new n e fronts same c =
     let begins = fronts c.place.shard in record {

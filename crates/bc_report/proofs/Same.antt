@@ -34,8 +34,9 @@ use Rattle.bc_report.specs.Report.{Report, IsReport, IsAnswer, IsVia, IsEntry, I
 use Rattle.bc_report.specs.ReportText.{refusal_word, answer_line, via_fields, entry_line, skip_field, event_line, thread_lines, shard_lines, device_lines, all_threads, all_shards, all_devices, head_line, foot_line, report_lines, report_text}
 use Rattle.bc_report.proofs.NoValue.{without_colon}
 use Rattle.bc_report.proofs.Walks.{answer_sort}
-use Rattle.bc_report.proofs.LineFields.{report_lines_are_lines, one_byte}
+use Rattle.bc_report.proofs.LineFields.{report_lines_are_lines}
 use Rattle.bc_report.proofs.Begun.{begins_prefix}
+use Rattle.bc_script.proofs.Fields.{one_byte}
 
 -- ---- fields
 

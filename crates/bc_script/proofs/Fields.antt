@@ -121,7 +121,7 @@ pub no_bytes : (least most : ℕ) (field : List ℕ) → ((bytes : List ℕ) →
 no_bytes least most field none =
     false_from_ne_true (is_hex_text least most field) (λ passed. let said = encode_lower-bytes_in least most field passed in none (bytes_in field) (IsBytes-bytes_in field) said.1 said.2 said.0)
 
-one_byte : (b : ℕ) → b < 256 → IsBytes (b ∷ [])
+pub one_byte : (b : ℕ) → b < 256 → IsBytes (b ∷ [])
 one_byte b small zero = small
 one_byte b small (suc i) = omega arith
 

@@ -31,10 +31,10 @@ use Rattle.bc_script.proofs.KeyNames.{is_name_of}
 -- ---- fields
 
 -- a byte that may stand in a field
-abbrev IsFieldByte : ℕ → Type 0
+pub abbrev IsFieldByte : ℕ → Type 0
 IsFieldByte b = (b ≢ space) × (b ≢ line_feed)
 
-hex_digit : (k : ℕ) → k < 16 → IsFieldByte (get_or lower_digits k 0)
+pub hex_digit : (k : ℕ) → k < 16 → IsFieldByte (get_or lower_digits k 0)
 hex_digit k lt = All-get_or IsFieldByte lower_digits k 0 (omega arith) (All-from_recursion IsFieldByte lower_digits (IsField-from_test lower_digits refl))
 
 pub IsField-encode_lower : (bytes : List ℕ) → IsBytes bytes → IsField (encode_lower bytes)

@@ -22,6 +22,7 @@ use Rattle.bc_script.proofs.Steps.{nothing_read, IsProgress-nothing_read}
 use Rattle.bc_script.proofs.Taken.{line_taken}
 use Rattle.bc_script.proofs.NoError.{Pass, no_error}
 use Rattle.bc_script.proofs.Devices.{are_devices}
+use Rattle.bc_script.proofs.Readings.{script_read}
 
 -- ---- the lines of a text in which none fails
 
@@ -77,10 +78,6 @@ all_taken p (line ∷ lines) is pass =
       lines = rest.lines ∙ ap (λ (ls : List TextLine). ls ++ lines) now.took.lines ∙ append_assoc (lines_read p) (line ∷ []) lines;
       forms = rest.forms ∙ ap (λ (above : List Form). forms_below above lines) forms;
     }
-
--- the script whose last line has been read
-abbrev pub script_read : Progress → Script
-script_read p = record { blocks = p.blocks; fallback = p.fallback; targets = p.targets; keys = p.keys; faults = p.faults; threads = p.threads }
 
 at_the_end : (p : Progress) → IsProgress p → p.last ≡ Some sorts.End → (IsScript (script_read p)) × (script_lines (script_read p) ≡ lines_read p)
 at_the_end p is last =

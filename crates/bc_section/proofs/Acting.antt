@@ -36,10 +36,11 @@ use Rattle.bc_report.specs.Counts.{is_reset_of, touches_under, touches_any, is_r
 use Rattle.bc_compose.specs.SectionDone.{key_of_entry, inline_of, SaysItsWay, NamesOwn, own_events, Bounds, IsReply, SectionDone}
 use Rattle.bc_compose.specs.Ordered.{Pairs, Notes, GoesInline, Rises, HasHold, IsTakenOut, Held}
 use Rattle.bc_compose.specs.Acted.{is_act, Acted}
-use Rattle.bc_section.proofs.Lists.{In, all_at, all_from_in, all_append, in_of_filter, in_of_map, in_of_filter_map, beside}
-use Rattle.bc_section.proofs.Growing.{begins_itself, grows_none, grows_append, After, attempts_append, attempts_fresh, named}
+use Rattle.bc_section.proofs.Lists.{in_of_filter_map}
 use Rattle.bc_section.proofs.Carrying.{op_of_unit}
 use Rattle.bc_section.proofs.Ordering.{submitted, evicted, goes_on, all_pairs}
+use Rattle.bc_base.proofs.Members.{In, in_of_map, in_of_filter, beside, all_at, all_from_in, all_append}
+use Rattle.bc_medium.proofs.Growing.{begins_itself, grows_none, grows_append, After, attempts_append, attempts_fresh, named}
 
 -- ---- bounds add up
 

@@ -32,8 +32,10 @@ use Rattle.bc_report.specs.Answers.{answer_of_outcome, IsOwnWord}
 use Rattle.bc_report.specs.Report.{IsAnswer}
 use Rattle.bc_compose.specs.SectionDone.{SaysItsWay, IsBioAnswer, IsReply}
 use Rattle.bc_section.specs.Sections.{DeviceData, Carries, CarriesOne, cost, cost_in, cost_of_section}
-use Rattle.bc_section.proofs.Lists.{In, in_of_flat_map, in_of_map, all_of, all_append, zip_append, zip_more, take_next, enumerate_push}
-use Rattle.bc_section.proofs.Growing.{grows_none, grows_append, goes_none, goes_append, attempts_append, attempts_fresh, failed_are}
+use Rattle.bc_section.proofs.Lists.{zip_more, take_next, enumerate_push}
+use Rattle.bc_section.proofs.Growing.{goes_none, goes_append}
+use Rattle.bc_base.proofs.Members.{In, in_of_map, in_of_flat_map, all_append, all_of, zip_append}
+use Rattle.bc_medium.proofs.Growing.{grows_none, grows_append, attempts_append, attempts_fresh, failed_are}
 
 -- ---- the units of an operation have its number
 

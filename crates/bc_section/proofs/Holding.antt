@@ -37,8 +37,9 @@ use Rattle.bc_report.specs.SerialRun.{DeviceUse, inline_key, is_on, name_at, pie
 use Rattle.bc_section.specs.Reached.{IsAcceptedBio}
 use Rattle.bc_section.specs.Uses.{bios_of}
 use Rattle.bc_section.proofs.Ascending.{HasKeyOf, one_key, request_devices}
-use Rattle.bc_section.proofs.Chunks.{chunks_join, chunks_linked, few_chunks}
-use Rattle.bc_section.proofs.Lists.{In, any_from, any_in, in_of_map}
+use Rattle.bc_section.proofs.Chunks.{chunks_linked, few_chunks}
+use Rattle.bc_base.proofs.Members.{In, in_of_map, any_in, any_from}
+use Rattle.bc_bio.proofs.ChunkLaws.{chunks_join}
 
 pub count_cons : {X : Type 0} (test : X → Bool) (x : X) (xs : List X) → count_by test (x ∷ xs) ≡ cond {A = ℕ} (test x) 1 0 + count_by test xs
 count_cons test x xs = sum_by-cons (λ (y : _). cond {A = ℕ} (test y) 1 0) x xs

@@ -27,9 +27,9 @@ use Rattle.bc_report.specs.SerialRun.{DeviceUse, uses_of_turn, uses_of_section}
 use Rattle.bc_section.specs.Sections.{DeviceData, journal_seen}
 use Rattle.bc_section.specs.Uses.{tagged_bio, bios_of, is_for, MakesUses}
 use Rattle.bc_section.specs.Reached.{numbered, IsAcceptedBio, MayBePlugged, steps_from, uses_left, WindowEnds, HasUsed, HoldsNone}
-use Rattle.bc_section.proofs.Lists.{In, in_of_filter, in_of_flat_map, beside, all_at, all_from_in, all_of, all_append}
 use Rattle.bc_section.proofs.Carrying.{op_of_unit}
 use Rattle.bc_section.proofs.Using.{none_for, other_op, uses_none, uses_same, uses_append, units_of_window}
+use Rattle.bc_base.proofs.Members.{In, in_of_filter, in_of_flat_map, beside, all_at, all_from_in, all_append, all_of}
 
 -- ---- the step of an operation
 

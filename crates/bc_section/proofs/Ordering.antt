@@ -24,8 +24,9 @@ use Rattle.bc_report.specs.Evictions.{Eviction}
 use Rattle.bc_report.specs.Programmings.{Programs, InlineEntry, entry_by, passes, is_evicted_between, InOrder}
 use Rattle.bc_compose.specs.SectionDone.{key_of_entry, inline_of, NamesOwn}
 use Rattle.bc_compose.specs.Ordered.{Pairs, slots_of, GoesInline, Rises, HasHold, IsTakenOut, Passed, IsPassed, Ordered}
-use Rattle.bc_section.proofs.Lists.{In, all_at, all_from_in, all_of, all_append, any_in, any_from, in_append_cases, in_of_filter_map}
-use Rattle.bc_section.proofs.Growing.{begins_trans, begins_itself}
+use Rattle.bc_section.proofs.Lists.{in_of_filter_map}
+use Rattle.bc_base.proofs.Members.{In, in_append_cases, any_in, any_from, all_at, all_from_in, all_append, all_of}
+use Rattle.bc_medium.proofs.Growing.{begins_itself, begins_trans}
 
 pub pairs_append : {X : Type 0} (R : X → X → Type 0) (xs ys : List X) → Pairs R xs → Pairs R ys → ((x y : X) → In x xs → In y ys → R x y) → Pairs R (xs ++ ys)
 pairs_append R [] ys ps qs cross = qs

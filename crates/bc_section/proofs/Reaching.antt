@@ -35,13 +35,15 @@ use Rattle.bc_compose.specs.Acted.{is_act, Acted}
 use Rattle.bc_section.specs.Sections.{DeviceData, GoOnBy, cost, cost_in, cost_of_section}
 use Rattle.bc_section.specs.Uses.{bios_of}
 use Rattle.bc_section.specs.Reached.{numbered, IsAcceptedBio, MayBePlugged, eviction_by, eviction_of, evictions_before, Submitted, Settled, Evicted, HasReset, SeesMore, Reached, CarriesSection, WindowEnds, HoldsNone, steps_from}
-use Rattle.bc_section.proofs.Lists.{In, all_at, all_from_in, all_append, in_append_left, in_append_right, is_in, in_is, not_in_is, enumerate_push}
-use Rattle.bc_section.proofs.Growing.{begins_itself, goes_none, goes_append}
+use Rattle.bc_section.proofs.Lists.{is_in, in_is, not_in_is, enumerate_push}
+use Rattle.bc_section.proofs.Growing.{goes_none, goes_append}
 use Rattle.bc_section.proofs.Carrying.{reply_more}
 use Rattle.bc_section.proofs.Ordering.{pairs_append}
 use Rattle.bc_section.proofs.Left.{used_none, used_more, used_window, used_turn, used_all, left, left_held, left_before, next_evict, next_reset}
 use Rattle.bc_section.proofs.Using.{units_of_evict, units_of_reset}
 use Rattle.bc_section.proofs.Acting.{acted_window, acted_evict, acted_reset, acted_none, acted_later, acted_done}
+use Rattle.bc_base.proofs.Members.{In, in_append_left, in_append_right, all_at, all_from_in, all_append}
+use Rattle.bc_medium.proofs.Growing.{begins_itself}
 
 -- ---- lists
 

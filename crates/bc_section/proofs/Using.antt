@@ -10,7 +10,7 @@ use Rattle.std.proofs.lemmas.List.{map-append}
 use Rattle.std.proofs.lemmas.List.Folds.{list_any-append}
 use Rattle.std.proofs.lemmas.List.Sums.{fold-append}
 use Rattle.bc_key.specs.declared.keys.KeyNo.{KeyNo}
-use Rattle.bc_bio.specs.Chunks.{chunks_with, chunk_by}
+use Rattle.bc_bio.specs.Chunks.{chunk_by}
 use Rattle.bc_bio.specs.Windows.{TaggedBio, NamedUnit, named_unit, named_units, requests_of, units_of_request, joins}
 use Rattle.bc_stack.specs.declared.target.Target.{Target}
 use Rattle.bc_stack.specs.Pieces.{same_device}
@@ -33,7 +33,8 @@ use Rattle.bc_script.specs.Windows as turns
 use Rattle.bc_report.specs.SerialRun.{DeviceUse, inline_key, is_on, name_at, pieces_of_request, holds_for, uses_of_turn}
 use Rattle.bc_compose.specs.Ordered.{slots_of}
 use Rattle.bc_section.specs.Uses.{after_uses, is_for, NamesOwnUse, NamesUse, MakesUses}
-use Rattle.bc_section.proofs.Lists.{In, in_append_left, in_append_right, in_of_flat_map, in_of_map, in_of_filter, any_in, all_at, all_from_in, all_of, all_append}
+use Rattle.bc_base.proofs.Members.{In, in_append_left, in_append_right, in_of_map, in_of_filter, in_of_flat_map, any_in, all_at, all_from_in, all_append, all_of}
+use Rattle.bc_bio.proofs.ChunkLaws.{chunks_join}
 
 -- ---- journals
 
@@ -205,19 +206,6 @@ in_flat [] xs x at at' = absurd at
 in_flat (ys ∷ xss) xs x at at' =
     ⊎_elim (λ (e : ys ≡ xs). in_append_left ys (flat_map (λ zs. zs) xss) x (subst (In x) (sym e) at'))
     (λ (more : In xs xss). in_append_right ys (flat_map (λ zs. zs) xss) x (in_flat xss xs x more at')) at
-
-chunks_join : {X : Type 0} (together : X → X → Bool) (xs : List X) → flat_map (λ chunk. chunk) (chunk_by together xs) ≡ xs
-chunks_join together [] = refl
-chunks_join together (x ∷ xs) = first_of together x (chunk_by together xs) ∙ ap (λ (l : List _). x ∷ l) (chunks_join together xs)
-  where
-    first_of : {X : Type 0} (together : X → X → Bool) (x : X) (chunks : List (List X)) → flat_map (λ chunk. chunk) (chunks_with together x chunks) ≡ x ∷ flat_map (λ chunk. chunk) chunks
-    first_of together x [] = refl
-    first_of together x ([] ∷ chunks) = refl
-    first_of together x ((y ∷ ys) ∷ chunks) =
-        elim (together x y) as (λ (b : Bool). flat_map (λ chunk. chunk) (cond b ((x ∷ y ∷ ys) ∷ chunks) ((x ∷ []) ∷ (y ∷ ys) ∷ chunks)) ≡ x ∷ ((y ∷ ys) ++ flat_map (λ chunk. chunk) chunks)) [
-          | true ↦ refl
-          | false ↦ refl
-        ]
 
 -- what stands in a chunk stands in the list
 in_chunk : {X : Type 0} (together : X → X → Bool) (xs chunk : List X) (x : X) → In chunk (chunk_by together xs) → In x chunk → In x xs

@@ -14,6 +14,9 @@ mod pending;
 mod lines;
 mod read_answer;
 
+// what a write writes
+mod unit_text;
+
 // the beginning and the end of a run
 mod finished;
 mod opening;
@@ -23,3 +26,4 @@ pub use finished::Finished;
 pub use lines::lines_of_shards;
 pub use opening::stores_of;
 pub use read_answer::answer_of;
+pub use unit_text::text_of_unit;

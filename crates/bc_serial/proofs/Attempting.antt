@@ -34,9 +34,11 @@ use Rattle.bc_report.specs.Report.{IsAnswer}
 use Rattle.bc_compose.specs.SectionDone.{SaysItsWay, IsBioAnswer, IsReply}
 use Rattle.bc_section.specs.Sections.{DeviceData, CarriesOne, GoOnBy, cost}
 use Rattle.bc_serial.specs.Standing.{first_units, AttemptsUnit}
-use Rattle.bc_section.proofs.Lists.{In, in_of_map, all_append, all_at, zip_append, filter_all, filter_none, range_push}
-use Rattle.bc_section.proofs.Growing.{goes_none, goes_append, grows_alone, made_by, named, failed_append}
+use Rattle.bc_section.proofs.Lists.{filter_all, filter_none}
+use Rattle.bc_section.proofs.Growing.{goes_none, goes_append, grows_alone}
 use Rattle.bc_section.proofs.Carrying.{bio_answer_more}
+use Rattle.bc_base.proofs.Members.{In, in_of_map, all_at, all_append, range_push, zip_append}
+use Rattle.bc_medium.proofs.Growing.{made_by, named, failed_append}
 
 -- ---- numbers in a row
 

@@ -1,6 +1,6 @@
 -- How many events a window, an eviction and a reset make on each device, as `Bounds` says it.
-use Rattle.std.proofs.Common.{◌≡◌, ◌≢◌, ℕ, ◌+◌, ◌<◌, ◌≤◌, ◌⊎◌, Bool, true, false, cond, List, [], ◌∷◌, length, map, refl, sym, ap, subst, ◌∙◌, arith, Option, Some, None}
-use Rattle.std.specs.Prelude.{◌==◌, ◌&&◌, ◌||◌, count_by, slice_get, IsSomeAnd}
+use Rattle.std.proofs.Common.{◌≡◌, ◌≢◌, ℕ, ◌+◌, ◌<◌, ◌≤◌, ◌⊎◌, Bool, true, false, cond, List, [], ◌∷◌, length, map, refl, sym, ap, subst, ◌∙◌, arith, Option}
+use Rattle.std.specs.Prelude.{◌==◌, ◌&&◌, ◌||◌, count_by}
 use Rattle.std.specs.List.{AllByRecursion}
 use Rattle.std.specs.Option.{option_map_or}
 use Rattle.std.proofs.Math.Logic.{⊎_elim}
@@ -23,19 +23,9 @@ use Rattle.bc_report.specs.Evictions.{Eviction, is_evict, is_busy, names_busy}
 use Rattle.bc_report.specs.Holders.{is_way_on, is_unit_under}
 use Rattle.bc_report.specs.SerialRun.{DeviceUse, uses_of_turn}
 use Rattle.bc_compose.specs.SectionDone.{Bounds}
-use Rattle.bc_section.specs.Reached.{numbered, IsAcceptedBio, MayBePlugged}
+use Rattle.bc_section.specs.Reached.{IsAcceptedBio}
 use Rattle.bc_section.specs.Uses.{bios_of}
 use Rattle.bc_section.proofs.Holding.{count_cons, count_journal, count_eviction, hold_weight, other_weight, programs_at_most, idles_at_most, others_at_most, holds_by, window_holds, window_only_holds, touched_by, no_reset}
-
--- the operations of a window have accepted bios
-pub numbered_accepted : (script : Script) (section : List Op) (os : List ℕ) → AllByRecursion (MayBePlugged script section) os → AllByRecursion (λ act. IsAcceptedBio script act.1) (numbered section os)
-numbered_accepted script section [] all = tt
-numbered_accepted script section (o ∷ os) all = of_op (slice_get section o) all.0 (numbered_accepted script section os all.1)
-  where
-    of_op : (p : Option Op) → IsSomeAnd p (IsAcceptedBio script) → AllByRecursion (λ act. IsAcceptedBio script act.1) (numbered section os)
-        → AllByRecursion (λ act. IsAcceptedBio script act.1) (option_map_or (λ operation. (o, operation) ∷ numbered section os) p (numbered section os))
-    of_op None is rest = absurd is
-    of_op (Some x) is rest = (is, rest)
 
 -- what a window makes, where each device records its uses and nothing else
 pub window_bounds : (script : Script) (thread : ℕ) (acts : List (ℕ × Op)) → IsScript script → AllByRecursion (λ act. IsAcceptedBio script act.1) acts → (events : ℕ → List Event)

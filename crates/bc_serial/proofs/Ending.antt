@@ -1,10 +1,10 @@
 -- A run ends: the shards are closed, and the sections make a lawful run.
-use Rattle.std.proofs.Common.{◌≡◌, ℕ, zero, suc, ◌+◌, ◌*◌, ◌/◌, ◌<◌, ◌≤◌, ◌^◌, ◌⊎◌, inl, inr, Bool, true, false, cond, List, [], ◌∷◌, ◌++◌, length, map, take, refl, sym, ap, subst, ◌∙◌, arith, not, Option, Some}
-use Rattle.std.specs.Prelude.{◌↔◌, ◌==◌, ◌&&◌, ◌||◌, filter, flat_map, Contains, slice_get, slice_index_or, nat_lt, option_map, IsSomeAnd}
+use Rattle.std.proofs.Common.{◌≡◌, ℕ, zero, suc, ◌+◌, ◌*◌, ◌/◌, ◌<◌, ◌≤◌, ◌^◌, ◌⊎◌, Bool, true, false, cond, List, [], ◌∷◌, ◌++◌, length, map, take, refl, sym, ap, subst, ◌∙◌, arith, not, Option, Some}
+use Rattle.std.specs.Prelude.{◌==◌, ◌||◌, filter, flat_map, Contains, slice_get, slice_index_or, nat_lt, option_map, IsSomeAnd}
 use Rattle.std.specs.Option.{option_map_or}
-use Rattle.std.specs.List.{AllByRecursion, AllZip, range_with_len, enumerate_from, list_any, position_or_len}
+use Rattle.std.specs.List.{AllByRecursion, range_with_len, enumerate_from, list_any, position_or_len}
 use Rattle.std.proofs.Math.Logic.{⊎_elim}
-use Rattle.std.proofs.lemmas.Bool.{eq-eqb, ne_eqb, eqb-true, true≢false, cases_lt, and_right, ltb-true, false_from_ne_true}
+use Rattle.std.proofs.lemmas.Bool.{eq-eqb, ne_eqb, true≢false, cases_lt, and_right, ltb-true, false_from_ne_true}
 use Rattle.std.proofs.lemmas.Option.{none-some, same_Some}
 use Rattle.std.proofs.lemmas.List.{length-map}
 use Rattle.std.proofs.lemmas.List.Elements.{filter-append}
@@ -25,7 +25,7 @@ use Rattle.bc_profile.specs.OneCaller.{journal_of}
 use Rattle.bc_profile.specs.Programmings.{last_programming}
 use Rattle.bc_profile.specs.Story.{events_of}
 use Rattle.bc_medium.specs.Growth.{lies_in}
-use Rattle.bc_medium.specs.ShardOrder.{ShardData, HasKeys, IsOrder, FailAsPlanned, Leaves}
+use Rattle.bc_medium.specs.ShardOrder.{ShardData, HasKeys, IsOrder, Leaves}
 use Rattle.bc_medium.specs.Shards.{AllLeft, HaveKeys}
 use Rattle.bc_script.specs.Script.{Script, IsScript, keys_of, max_threads}
 use Rattle.bc_stack.specs.declared.target.Target.{Target}
@@ -42,70 +42,14 @@ use Rattle.bc_serial.specs.Keyslots.{KeyslotsData}
 use Rattle.bc_section.specs.Uses.{after_uses, is_for, NamesUse, MakesUses}
 use Rattle.bc_section.specs.Openings.{planned_on}
 use Rattle.bc_serial.specs.Standing.{Stands, IsCourse, CourseData, HasBegun, device_of, sectors_at, IsBegun}
-use Rattle.bc_section.proofs.Lists.{In, in_append_left, in_append_right, list_at_past, in_of_filter, in_of_flat_map, all_at, all_from_in, all_slice, all_by_place, filter_all, filter_none, at_exists, at_map, at_of_map, list_at_map, by_places, same_tests}
+use Rattle.bc_section.proofs.Lists.{list_at_past, all_slice, all_by_place, filter_all, filter_none, at_exists, at_map, at_of_map, list_at_map, by_places}
 use Rattle.bc_serial.proofs.Sectioning.{events_at, events_are, same_by_places}
 use Rattle.bc_section.proofs.Using.{holds_within}
 use Rattle.bc_serial.proofs.Turns.{callers_below}
-use Rattle.bc_serial.proofs.Beginning.{nothing_behind}
+use Rattle.bc_base.proofs.Members.{In, in_append_left, in_append_right, in_of_filter, in_of_flat_map, same_tests, all_at, all_from_in, zip_length}
+use Rattle.bc_section.proofs.Faults.{nothing_behind, fail_at, met_planned, planned_met}
 
 -- ---- planned faults
-
-fail_at : (plan : List ℕ) (first : ℕ) (es : List Entry) (place : ℕ) (e : Entry) → FailAsPlanned plan first es → At es place e → (e.failed ≡ true) ↔ Contains plan (first + place)
-fail_at plan first [] place e all at = absurd (none-some e at)
-fail_at plan first (x ∷ es) zero e all at = subst (λ n. (e.failed ≡ true) ↔ Contains plan n) (none first) (subst (λ (z : Entry). (z.failed ≡ true) ↔ Contains plan first) (same_Some x e at) all.0)
-  where
-    none : (n : ℕ) → n ≡ n + 0
-    none n = omega arith
-fail_at plan first (x ∷ es) (suc place) e all at = subst (λ n. (e.failed ≡ true) ↔ Contains plan n) (over first place) (fail_at plan (first + 1) es place e all.1 at)
-  where
-    over : (n m : ℕ) → n + 1 + m ≡ n + suc m
-    over n m = omega arith
-
-contains_next : (x n : ℕ) (xs : List ℕ) → Contains xs n → Contains (x ∷ xs) n
-contains_next x n xs c = let lt = c.1 in (suc c.0, omega arith, c.2)
-
-contains_parts : (x n : ℕ) (xs : List ℕ) → Contains (x ∷ xs) n → (x ≡ n) ⊎ Contains xs n
-contains_parts x n xs (zero, lt, e) = inl e
-contains_parts x n xs (suc k, lt, e) = inr (k, omega arith, e)
-
-planned_met : (faults : List (ℕ × ℕ)) (shard place : ℕ) → Contains (planned_on faults shard) place → meets_fault faults shard place ≡ true
-planned_met [] shard place c = let lt = c.1 in absurd (omega arith)
-planned_met (f ∷ faults) shard place c =
-    (elim (f.0 == shard) as (λ (b : Bool). (f.0 == shard) ≡ b → meets_fault (f ∷ faults) shard place ≡ true) [
-      | true ↦ λ here. ⊎_elim
-          (λ (e : f.1 ≡ place). ap (λ (b : Bool). (b && (f.1 == place)) || meets_fault faults shard place) here ∙ ap (λ (b : Bool). b || meets_fault faults shard place) (eq-eqb f.1 place e))
-          (λ (more : Contains (planned_on faults shard) place). or_right ((f.0 == shard) && (f.1 == place)) (planned_met faults shard place more))
-          (contains_parts f.1 place (planned_on faults shard) (subst (λ l. Contains (map (λ fault. fault.1) l) place) (kept here) c))
-      | false ↦ λ other. or_right ((f.0 == shard) && (f.1 == place)) (planned_met faults shard place (subst (λ l. Contains (map (λ fault. fault.1) l) place) (passed other) c))
-    ]) refl
-  where
-    or_right : (a : Bool) {b : Bool} → b ≡ true → (a || b) ≡ true
-    or_right true e = refl
-    or_right false e = e
-
-    kept : (f.0 == shard) ≡ true → filter (λ fault. fault.0 == shard) (f ∷ faults) ≡ f ∷ filter (λ fault. fault.0 == shard) faults
-    kept e = ap (λ (b : Bool). cond b (f ∷ filter (λ fault. fault.0 == shard) faults) (filter (λ fault. fault.0 == shard) faults)) e
-
-    passed : (f.0 == shard) ≡ false → filter (λ fault. fault.0 == shard) (f ∷ faults) ≡ filter (λ fault. fault.0 == shard) faults
-    passed e = ap (λ (b : Bool). cond b (f ∷ filter (λ fault. fault.0 == shard) faults) (filter (λ fault. fault.0 == shard) faults)) e
-
-met_planned : (faults : List (ℕ × ℕ)) (shard place : ℕ) → meets_fault faults shard place ≡ true → Contains (planned_on faults shard) place
-met_planned [] shard place e = absurd (true≢false (sym e))
-met_planned (f ∷ faults) shard place e =
-    let rest : meets_fault faults shard place ≡ true → Contains (planned_on faults shard) place = met_planned faults shard place in
-    (elim (f.0 == shard) as (λ (b : Bool). (f.0 == shard) ≡ b → Contains (map (λ fault. fault.1) (filter (λ fault. fault.0 == shard) (f ∷ faults))) place) [
-      | true ↦ λ here. subst (λ l. Contains (map (λ fault. fault.1) l) place) (sym (kept here)) (first rest (f.1 == place) refl here)
-      | false ↦ λ other. subst (λ l. Contains (map (λ fault. fault.1) l) place) (sym (kept other)) (rest (sym (ap (λ (b : Bool). (b && (f.1 == place)) || meets_fault faults shard place) other) ∙ e))
-    ]) refl
-  where
-    kept : {b : Bool} → (f.0 == shard) ≡ b → filter (λ fault. fault.0 == shard) (f ∷ faults) ≡ cond b (f ∷ filter (λ fault. fault.0 == shard) faults) (filter (λ fault. fault.0 == shard) faults)
-    kept e = ap (λ (b : Bool). cond b (f ∷ filter (λ fault. fault.0 == shard) faults) (filter (λ fault. fault.0 == shard) faults)) e
-
-    first : (meets_fault faults shard place ≡ true → Contains (planned_on faults shard) place) → (b : Bool) → (f.1 == place) ≡ b → (f.0 == shard) ≡ true → Contains (f.1 ∷ planned_on faults shard) place
-    first rest true is here = (0, omega arith, eqb-true f.1 place is)
-    first rest false is here =
-        contains_next f.1 place (planned_on faults shard) (rest
-        (sym (ap (λ (b : Bool). (b && (f.1 == place)) || meets_fault faults shard place) here ∙ ap (λ (b : Bool). b || meets_fault faults shard place) is) ∙ e))
 
 -- ---- entries of one caller among those of all
 
@@ -178,12 +122,6 @@ names_its_hold script e (vias.Inline device slot event) is =
     (subst (λ (o : Option Target). IsSomeAnd o (λ t. last_programming is.under.key.0 (journal_by t (uses_through script device (name_of_entry e))) ≡ Some (slot, event))) (sym target.1) last)
 
 -- ---- lists
-
-zip_length : {X Y : Type 0} (R : X → Y → Type 0) (xs : List X) (ys : List Y) → AllZip R xs ys → length ys ≡ length xs
-zip_length R [] [] all = refl
-zip_length R [] (y ∷ ys) all = absurd all
-zip_length R (x ∷ xs) [] all = absurd all
-zip_length R (x ∷ xs) (y ∷ ys) all = ap suc (zip_length R xs ys all.1)
 
 length_numbered : {X Y : Type 0} (f : ℕ × X → Y) (n : ℕ) (xs : List X) → length (map f (enumerate_from n xs)) ≡ length xs
 length_numbered f n [] = refl

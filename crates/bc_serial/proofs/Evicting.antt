@@ -27,9 +27,10 @@ use Rattle.bc_section.specs.Sections.{journal_seen}
 use Rattle.bc_serial.specs.Standing.{CourseData, HasBegun, EvictsKey, ResetsDevice, device_of}
 use Rattle.bc_section.specs.Uses.{after_uses}
 use Rattle.bc_serial.proofs.Counting.{eviction_bounds, reset_bounds}
-use Rattle.bc_section.proofs.Growing.{begins_itself, grows_none, goes_none}
+use Rattle.bc_section.proofs.Growing.{goes_none}
 use Rattle.bc_section.proofs.Lists.{at_exists, list_at_past}
 use Rattle.bc_serial.proofs.Stories.{GoOn, added_at, added_each, after_one, begun_more, by_use, goes_on_none, seen_journals, stories_note, used_at_goes_on, used_each_goes_on}
+use Rattle.bc_medium.proofs.Growing.{begins_itself, grows_none}
 
 read_within : {A : Type 0} (xs : List (List A)) (k : ℕ) → k < length xs → slice_get xs k ≡ Some (list_at xs k)
 read_within xs k within =

@@ -32,7 +32,8 @@ use Rattle.bc_compose.specs.Ordered.{slots_of}
 use Rattle.bc_serial.specs.declared.open_hold.OpenHold.{OpenHold}
 use Rattle.bc_section.specs.Uses.{after_uses}
 use Rattle.bc_serial.specs.Keyslots.{SlotCipherData, KeepsTo, IsKeyslotsOf, IsOpenHold, IsKeyslots, held_on, giving_back, journal_in, used_at, used_each, evicted, max_events, MayEvict, row_of_key}
-use Rattle.bc_section.proofs.Lists.{at_set, at_changed, at_one, at_map, at_of_map, at_exists, list_at_map, length-set, all_append, all_slice, all_by_place}
+use Rattle.bc_section.proofs.Lists.{at_changed, at_one, at_map, at_of_map, at_exists, list_at_map, all_slice, all_by_place}
+use Rattle.bc_base.proofs.Members.{all_append, at_set, length-set}
 
 -- ---- places
 

@@ -17,7 +17,7 @@ use Rattle.bc_stack.specs.Targets.{LieBetween, CoverAll}
 use Rattle.bc_script.specs.Script.{Script, IsScript, keys_of}
 use Rattle.bc_script.specs.Bios.{is_inline}
 use Rattle.bc_serial.specs.Standing.{IsPerformable}
-use Rattle.bc_serial.proofs.EqualParts.{part_within}
+use Rattle.bc_section.proofs.Numbered.{part_within}
 
 -- targets that lie one after the other have the sectors between
 covered : (sector first end : ℕ) (targets : List Target) → LieBetween first end targets → 8 * first ≤ sector → sector < 8 * end → position_or_len (has_sector sector) targets < length targets

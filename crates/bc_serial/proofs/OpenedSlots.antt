@@ -14,8 +14,9 @@ use Rattle.bc_report.specs.Report.{IsEvent, IsPart}
 use Rattle.bc_script.specs.Script.{Script, IsScript}
 use Rattle.bc_stack.specs.Targets.{StackParts}
 use Rattle.bc_serial.specs.Keyslots.{SlotCipherData, KeepsTo, IsKeyslotsOf, IsKeyslots, journal_in, rows_of, max_events}
-use Rattle.bc_section.proofs.Lists.{at_of_map, map-map}
+use Rattle.bc_section.proofs.Lists.{at_of_map}
 use Rattle.bc_serial.proofs.KeptSlots.{free_is, free_journal, device_of}
+use Rattle.bc_base.proofs.Members.{map-map}
 
 -- ---- opening
 

@@ -27,11 +27,11 @@ use Rattle.bc_serial.specs.declared.open_hold.OpenHold.{OpenHold}
 use Rattle.bc_serial.specs.Standing.{AttemptsUnit, CourseData, IsPerformable, device_of, first_units}
 use Rattle.bc_serial.specs.Keyslots.{stories_of}
 use Rattle.bc_serial.specs.InTurn.{AttemptsOn, GoesOver, InTurn, MayFollow, PerformsBio, Reaches, part_of, via_in}
-use Rattle.bc_section.proofs.Growing.{named}
 use Rattle.bc_serial.proofs.Attempting.{Made, NoneMet, OneMet, carries_bio, carries_fault, made_more, made_none, made_reached, met_fault, met_reached, units_more}
 use Rattle.bc_serial.proofs.Following.{bio_begins}
 use Rattle.bc_serial.proofs.Turning.{in_turn_same}
 use Rattle.bc_serial.proofs.TurningUnits.{unit_attempted, unit_reached}
+use Rattle.bc_medium.proofs.Growing.{named}
 
 -- in a window, the first n units of a bio come after what was gone over before it, and these entries after those before them
 abbrev pub TurnsTo : CourseData → CourseData → ℕ → Extent → ℕ → List Entry → Type 0

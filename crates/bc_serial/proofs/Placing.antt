@@ -30,7 +30,8 @@ use Rattle.bc_report.specs.Ways.{way_in}
 use Rattle.bc_compose.specs.SectionDone.{SaysItsWay}
 use Rattle.bc_section.specs.Sections.{GoOnBy}
 use Rattle.bc_serial.specs.Standing.{Stands, AllStand, sectors_at, CourseData, device_of, GoesOn, Attempted, AttemptsUnit, at_of, entry_of_write, entry_of_read, answer_of_write, answer_of_read}
-use Rattle.bc_section.proofs.Lists.{at_changed, at_set, length-set, list_at_map, all_slice}
+use Rattle.bc_section.proofs.Lists.{at_changed, list_at_map, all_slice}
+use Rattle.bc_base.proofs.Members.{at_set, length-set}
 
 -- ---- what the calls of the shards say
 

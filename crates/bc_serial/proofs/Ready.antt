@@ -23,8 +23,8 @@ use Rattle.bc_medium.specs.Shards.{HaveKeys, Own, HasSpare}
 use Rattle.bc_script.specs.declared.op.Op.{Op}
 use Rattle.bc_script.specs.declared.op.Text.{Text}
 use Rattle.bc_script.specs.declared.op.Text.TheVariants.{Fill, Bytes}
-use Rattle.bc_script.specs.Script.{Script, keys_of, sectors_in, IsText}
-use Rattle.bc_script.specs.Plan.{unit_at, text_at}
+use Rattle.bc_script.specs.Script.{Script, keys_of, sectors_in}
+use Rattle.bc_script.specs.Plan.{unit_at, text_at, HasUnit}
 use Rattle.bc_script.specs.Bios.{is_inline}
 use Rattle.bc_script.specs.Way.{inline, soft, way_of}
 use Rattle.bc_report.specs.Ways.{way_in}
@@ -33,19 +33,18 @@ use Rattle.bc_compose.specs.SectionDone.{SaysItsWay}
 use Rattle.bc_serial.specs.declared.open_hold.OpenHold.{OpenHold}
 use Rattle.bc_serial.specs.InTurn.{AttemptsOn, HasOpen, HasOpenAt, via_in}
 use Rattle.bc_serial.specs.Keyslots.{KeyslotsData, IsOpenFor, via_of}
-use Rattle.bc_serial.specs.Standing.{CourseData, AllStand, HaveRoom, IsCourse, IsPerformable, HasUnit, Attempted, at_of}
-use Rattle.bc_section.proofs.Lists.{all_by_place, length-set}
-use Rattle.bc_serial.proofs.EqualParts.{part_within, length-part}
+use Rattle.bc_serial.specs.Standing.{CourseData, AllStand, HaveRoom, IsCourse, IsPerformable, Attempted, at_of}
+use Rattle.bc_section.proofs.Lists.{all_by_place}
+use Rattle.bc_serial.proofs.EqualParts.{length-part}
 use Rattle.bc_serial.proofs.Room.{have_less}
 use Rattle.bc_serial.proofs.Placing.{stand_more, attempts_unit}
+use Rattle.bc_base.proofs.Members.{length-set}
+use Rattle.bc_compose.proofs.Placed.{sectors_after}
+use Rattle.bc_section.proofs.Numbered.{part_within}
 
 key_after : (keys : List KeyData) (context : Option Context) (i : ℕ) → HasKey keys context → HasKey keys (context_after i context)
 key_after keys None i has = tt
 key_after keys (Some context) i has = has
-
-pub sectors_after : (keys : List KeyData) (context : Option Context) (i : ℕ) → unit_sectors keys (context_after i context) ≡ unit_sectors keys context
-sectors_after keys None i = refl
-sectors_after keys (Some context) i = refl
 
 -- ---- how a unit goes
 
@@ -223,11 +222,6 @@ course_unused script keys shards keyslots left course =
 length-replicate : (n x : ℕ) → length (replicate n x) ≡ n
 length-replicate zero x = refl
 length-replicate (suc n) x = ap suc (length-replicate n x)
-
-pub has_unit : (keys : List KeyData) (context : Option Context) (units : ℕ) (text : Text) (i : ℕ) → IsText keys context units text → i < units → HasUnit text (512 * unit_sectors keys context) i
-has_unit keys context units (Fill byte) i rules within = tt
-has_unit keys context units (Bytes bytes) i rules within =
-    subst (λ (n : ℕ). 512 * unit_sectors keys context * i + 512 * unit_sectors keys context ≤ n) (sym rules.2) (part_within (512 * unit_sectors keys context) i units within)
 
 pub text_length : (text : Text) (size i : ℕ) → HasUnit text size i → length (text_at text size i) ≡ size
 text_length (Fill byte) size i has = length-replicate size byte

@@ -15,7 +15,7 @@ use Rattle.bc_compose.specs.Ordered.{slots_of}
 use Rattle.bc_serial.specs.Keyslots.{max_events, used_at, used_each}
 use Rattle.bc_serial.specs.Standing.{HaveRoom}
 use Rattle.bc_section.specs.Uses.{after_uses}
-use Rattle.bc_section.proofs.Lists.{all_of}
+use Rattle.bc_base.proofs.Members.{all_of}
 
 -- a use records two events at most
 few : (slots : Slots) (u : Use) → length (events_of_use slots u) ≤ 2

@@ -32,10 +32,12 @@ use Rattle.bc_compose.specs.SectionDone.{key_of_entry, NamesOwn, own_events, Bou
 use Rattle.bc_serial.specs.Keyslots.{story_of, stories_of}
 use Rattle.bc_serial.specs.Standing.{HasBegun}
 use Rattle.bc_section.specs.Uses.{is_for}
-use Rattle.bc_section.proofs.Lists.{all_of, all_append, all_at, filter_none}
-use Rattle.bc_section.proofs.Growing.{begins_itself, begins_trans}
+use Rattle.bc_section.proofs.Lists.{filter_none}
 use Rattle.bc_section.proofs.Using.{EachUnit, none_for, other_thread, units_of_window, units_of_evict, units_of_reset}
-use Rattle.bc_serial.proofs.Stories.{events_of_notes, own_notes, own_notes_other, own_since, seen_journals}
+use Rattle.bc_serial.proofs.Stories.{own_notes, own_notes_other, own_since, seen_journals}
+use Rattle.bc_base.proofs.Members.{all_at, all_append, all_of}
+use Rattle.bc_medium.proofs.Growing.{begins_itself, begins_trans}
+use Rattle.bc_section.proofs.Numbered.{events_of_notes}
 
 -- ---- what a section rests on in the journals
 

@@ -1,5 +1,5 @@
 -- The row of an inline key is its entry, which every device reads as the key's cipher. And the stack of a script's devices.
-use Rattle.std.proofs.Common.{◌≡◌, ℕ, zero, suc, ◌<◌, ◌≤◌, Bool, true, false, cond, List, [], ◌∷◌, ◌++◌, length, get_or, refl, sym, ap, subst, ◌∙◌, arith, Option, Some, None, Result, Ok}
+use Rattle.std.proofs.Common.{◌≡◌, ℕ, zero, suc, ◌<◌, ◌≤◌, Bool, true, false, cond, List, [], ◌∷◌, ◌++◌, length, get_or, refl, sym, ap, ◌∙◌, arith, Option, Some, None, Result, Ok}
 use Rattle.std.specs.Result.{result_ok}
 use Rattle.std.specs.Prelude.{◌==◌, nat_lt, nat_le, slice_get, position, IsSomeAnd, unwrap_or}
 use Rattle.std.specs.List.{list_all, position_or_len}
@@ -12,11 +12,9 @@ use Rattle.bc_base.specs.Lists.{At}
 use Rattle.bc_key.specs.declared.config.Mode.{Mode}
 use Rattle.bc_key.specs.declared.config.Mode.TheVariants.{Aes256Xts, Aes128CbcEssiv}
 use Rattle.bc_key.specs.declared.config.DataUnit.{DataUnit}
-use Rattle.bc_key.specs.declared.config.DataUnit.TheVariants.{Bytes512, Bytes1024, Bytes2048, Bytes4096}
 use Rattle.bc_key.specs.declared.config.Config.{Config}
 use Rattle.bc_key.specs.declared.caps.Caps.{Caps}
-use Rattle.bc_key.specs.DataUnits.{bit_of}
-use Rattle.bc_key.specs.Support.{supports, has_unit, has_bits}
+use Rattle.bc_key.specs.Support.{supports, has_unit}
 use Rattle.bc_key.specs.KeyData.{KeyData, IsValid}
 use Rattle.bc_modes.specs.declared.ufs_caps.Capability.{Capability}
 use Rattle.bc_modes.specs.Capabilities.{Capabilities, capabilities_of, present, serves, index_for}
@@ -36,6 +34,7 @@ use Rattle.bc_script.specs.Script.{Script, keys_of}
 use Rattle.bc_script.specs.Bios.{is_inline}
 use Rattle.bc_serial.specs.Keyslots.{SlotCipherData, KeepsTo, row_of_key, rows_of}
 use Rattle.bc_section.proofs.Lists.{at_map}
+use Rattle.bc_modes.proofs.Masks.{place, some_bits}
 
 -- ---- which keys a device supports
 
@@ -52,20 +51,6 @@ found p xs k x at pass none =
     below [] k x at = absurd (none-some x at)
     below (y ∷ ys) zero x at = omega arith
     below (y ∷ ys) (suc k) x at = let lt = below ys k x at in omega (arith, lt)
-
-no_bits : (unit : DataUnit) → has_bits 0 (bit_of unit) ≡ true → ⊥
-no_bits Bytes512 e = absurd (true≢false (sym e))
-no_bits Bytes1024 e = absurd (true≢false (sym e))
-no_bits Bytes2048 e = absurd (true≢false (sym e))
-no_bits Bytes4096 e = absurd (true≢false (sym e))
-
--- a mask with a data unit's bit isn't empty
-some_bits : (mask : ℕ) (unit : DataUnit) → has_bits mask (bit_of unit) ≡ true → (mask == 0) ≡ false
-some_bits mask unit has = ne_eqb mask 0 (λ none. no_bits unit (subst (λ n. has_bits n (bit_of unit) ≡ true) none has))
-
-place : (first second : List Capability) (capability : Capability) → second ≡ capability ∷ [] → (k : ℕ) × At (first ++ second) k capability
-place [] second capability is = (0, ap (λ (l : List Capability). slice_get l 0) is)
-place (c ∷ cs) second capability is = let r = place cs second capability is in (suc r.0, r.1)
 
 pub served : (caps : Caps) (mode : Mode) (unit : DataUnit) → has_unit caps mode unit ≡ true → index_for (capabilities_of caps) mode unit ≡ None → ⊥
 served caps Aes256Xts unit has none =

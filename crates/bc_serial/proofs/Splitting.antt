@@ -20,9 +20,9 @@ use Rattle.bc_script.specs.Windows as turns
 use Rattle.bc_stack.specs.Pieces.{device_of}
 use Rattle.bc_report.specs.SerialRun.{DeviceUse, inline_key, holds_for, uses_of_turn}
 use Rattle.bc_serial.specs.InTurn.{last_request, last_unit, open_after, part_of}
-use Rattle.bc_section.proofs.Lists.{range_push}
 use Rattle.bc_serial.proofs.Cutting.{last_push, joins_by_last, LastChunk, last_chunk, apart_more}
 use Rattle.bc_serial.proofs.Pieces.{holds_under}
+use Rattle.bc_base.proofs.Members.{range_push}
 
 -- ---- the key of a request
 

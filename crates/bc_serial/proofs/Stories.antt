@@ -23,16 +23,10 @@ use Rattle.bc_serial.specs.Keyslots.{story_of, stories_of, used_at, used_each}
 use Rattle.bc_section.specs.Sections.{journal_seen}
 use Rattle.bc_serial.specs.Standing.{CourseData, HasBegun, device_of}
 use Rattle.bc_section.specs.Uses.{after_uses}
-use Rattle.bc_section.proofs.Growing.{begins_trans}
+use Rattle.bc_medium.proofs.Growing.{begins_trans}
+use Rattle.bc_section.proofs.Numbered.{events_of_append, events_of_notes}
 
 -- ---- events and who made them
-
-pub events_of_notes : (caller : ℕ) (es : List Event) → events_of (notes caller es) ≡ es
-events_of_notes caller [] = refl
-events_of_notes caller (e ∷ es) = ap (λ l. e ∷ l) (events_of_notes caller es)
-
-pub events_of_append : (a b : List Noted) → events_of (a ++ b) ≡ events_of a ++ events_of b
-events_of_append a b = map-append (λ (n : Noted). n.event) a b
 
 pub own_notes : (caller : ℕ) (es : List Event) → own author_of caller (notes caller es) ≡ notes caller es
 own_notes caller [] = refl

@@ -44,10 +44,12 @@ use Rattle.bc_serial.specs.Standing.{CourseData, HasBegun, device_of}
 use Rattle.bc_section.specs.Uses.{MakesUses, NamesOwnUse, NamesUse, after_uses, bios_of}
 use Rattle.bc_section.specs.Reached.{IsAcceptedBio, Submitted}
 use Rattle.bc_serial.specs.InTurn.{InTurn}
-use Rattle.bc_section.proofs.Lists.{In, in_of_filter_map, list_at_past}
+use Rattle.bc_section.proofs.Lists.{in_of_filter_map, list_at_past}
 use Rattle.bc_serial.proofs.Counting.{window_bounds}
 use Rattle.bc_section.proofs.Reaching.{enumerated_at}
-use Rattle.bc_serial.proofs.Stories.{GoOn, begun_more, course_journals, events_of_append, events_of_notes, seen_journals, stories_more, stories_note}
+use Rattle.bc_serial.proofs.Stories.{GoOn, begun_more, course_journals, seen_journals, stories_more, stories_note}
+use Rattle.bc_base.proofs.Members.{In}
+use Rattle.bc_section.proofs.Numbered.{events_of_append, events_of_notes}
 
 -- ---- journals
 

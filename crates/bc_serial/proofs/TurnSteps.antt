@@ -28,8 +28,9 @@ use Rattle.bc_serial.specs.Keyslots.{used_at}
 use Rattle.bc_serial.specs.Standing.{CourseData}
 use Rattle.bc_section.specs.Uses.{after_uses, NamesOwnUse, NamesUse}
 use Rattle.bc_serial.specs.InTurn.{open_after, under_hold, StillHolds, NoLater, InTurn, TakesHold, LeavesHolds}
-use Rattle.bc_section.proofs.Lists.{all_append, all_of, list_at_past}
+use Rattle.bc_section.proofs.Lists.{list_at_past}
 use Rattle.bc_serial.proofs.Extending.{same_events, after_more, used_here, used_elsewhere, no_later_more, own_appended, KeepNames, all_kept}
+use Rattle.bc_base.proofs.Members.{all_append, all_of}
 
 -- the uses of these bios, by device
 abbrev pub uses_of_window : CourseData → List TaggedBio → ℕ → List DeviceUse

@@ -32,11 +32,12 @@ use Rattle.bc_section.specs.Reached.{CarriesSection}
 use Rattle.bc_serial.specs.Keyslots.{stories_of}
 use Rattle.bc_serial.specs.Standing.{CourseData, HasBegun, device_of}
 use Rattle.bc_section.specs.Uses.{MakesUses, is_for}
-use Rattle.bc_section.proofs.Lists.{In, in_of_filter, in_of_flat_map, all_at, all_from_in, all_append, from_append, filter_none, list_at_left, list_at_last, take_next, enumerate_push}
-use Rattle.bc_section.proofs.Growing.{begins_itself, begins_trans, made_by}
+use Rattle.bc_section.proofs.Lists.{from_append, filter_none, list_at_left, list_at_last, take_next, enumerate_push}
 use Rattle.bc_serial.proofs.Sectioning.{begun_itself, same_section, list_at_each, length-each, same_by_places, told_on, events_at, events_are, told_are, told_same, told_own, told_front, told_below, not_of_sections}
 use Rattle.bc_serial.proofs.Stories.{own_notes_other, story_at}
 use Rattle.bc_section.proofs.Using.{uses_append}
+use Rattle.bc_base.proofs.Members.{In, in_of_filter, in_of_flat_map, all_at, all_from_in, all_append}
+use Rattle.bc_medium.proofs.Growing.{begins_itself, begins_trans, made_by}
 
 pub sections_none : (d : CourseData) → HasBegun d.begun d.journals → ((shard : ℕ) → list_at (orders_of d.shards) shard ≡ []) → ((device : ℕ) → list_at d.journals device ≡ []) → SectionsDone (device_of d) (device_of d) [] []
 sections_none d has untouched unused = record {

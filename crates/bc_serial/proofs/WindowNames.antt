@@ -18,8 +18,8 @@ use Rattle.bc_stack.specs.Pieces.{same_device}
 use Rattle.bc_report.specs.SerialRun.{DeviceUse, inline_key, is_on, name_at, pieces_of_request, holds_for, uses_of_turn}
 use Rattle.bc_section.specs.Uses.{is_for}
 use Rattle.bc_serial.specs.InTurn.{part_of}
-use Rattle.bc_section.proofs.Lists.{In, in_append_left, in_append_right, in_append_cases, in_of_map, in_of_filter, in_of_flat_map, any_in, all_at}
 use Rattle.bc_serial.proofs.Pieces.{hold_of}
+use Rattle.bc_base.proofs.Members.{In, in_append_left, in_append_right, in_append_cases, in_of_map, in_of_filter, in_of_flat_map, any_in, all_at}
 
 in_joined : {X : Type 0} (chunks : List (List X)) (chunk : List X) (x : X) → In x chunk → In chunk chunks → In x (flat_map (λ c. c) chunks)
 in_joined [] chunk x at at' = absurd at'

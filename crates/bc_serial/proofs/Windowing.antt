@@ -27,9 +27,10 @@ use Rattle.bc_serial.specs.Standing.{CourseData, device_of}
 use Rattle.bc_section.specs.Uses.{tagged_bio, bios_of}
 use Rattle.bc_section.specs.Reached.{numbered, IsAcceptedBio, MayBePlugged, Settled}
 use Rattle.bc_serial.specs.InTurn.{InTurn, InWindow, MayFollow, Submits, last_request, part_of}
-use Rattle.bc_section.proofs.Lists.{In, all_at, all_from_in, all_append, all_read, in_is, take_next}
+use Rattle.bc_section.proofs.Lists.{all_read, in_is, take_next}
 use Rattle.bc_section.proofs.Carrying.{CarriesBy, carries_none_by, carries_append_by, reply_more}
 use Rattle.bc_section.proofs.Reaching.{numbered_push, numbered_all, get_set_same, get_set_other, length_set}
+use Rattle.bc_base.proofs.Members.{In, all_at, all_from_in, all_append}
 
 -- ---- the bio before
 

@@ -1,7 +1,7 @@
 -- What holds of the shards of a run by one caller, and what one attempt of a data unit does to
 -- them. The contracts of private functions speak of this; no public one does.
-use Rattle.std.specs.Prelude.{◌≡◌, ℕ, ◌+◌, ◌*◌, ◌<◌, ◌≤◌, ◌==◌, Bool, true, false, List, [], ◌∷◌, ◌++◌, length, map}
-use Rattle.std.specs.Prelude.{filter, slice_get, Option, None, ⊤}
+use Rattle.std.specs.Prelude.{◌≡◌, ℕ, ◌+◌, ◌*◌, ◌<◌, ◌≤◌, Bool, true, false, List, [], ◌∷◌, ◌++◌, length, map}
+use Rattle.std.specs.Prelude.{slice_get, Option, None}
 use Rattle.std.specs.List.{range_with_len}
 use Rattle.std.specs.Option.{option_map_or}
 use Rattle.bc_base.specs.declared.place.Place.{Place}
@@ -21,7 +21,7 @@ use Rattle.bc_medium.specs.declared.entry.Entry.{Entry}
 use Rattle.bc_medium.specs.declared.unit_at.UnitAt.{UnitAt}
 use Rattle.bc_medium.specs.declared.via.Via.{Via}
 use Rattle.bc_medium.specs.Places.{shard_of}
-use Rattle.bc_medium.specs.KeyedDisk.{Sectors, image_sectors, UnitAnswer, Faulted, Written, Text as Answered}
+use Rattle.bc_medium.specs.KeyedDisk.{Text as Answered, Sectors, image_sectors, UnitAnswer, Faulted, Written}
 use Rattle.bc_medium.specs.Entries.{name_of_entry, told_by, IsTold, written_entry, read_entry, failed_entry}
 use Rattle.bc_medium.specs.Growth.{IsEntryOf, Knows}
 use Rattle.bc_medium.specs.Outcome.{is_fault}
@@ -30,8 +30,6 @@ use Rattle.bc_medium.specs.Shards.{orders_of, Adds}
 use Rattle.bc_profile.specs.declared.event.Event.{Event}
 use Rattle.bc_profile.specs.declared.uses.Use.TheVariants as uses
 use Rattle.bc_script.specs.declared.op.Op.{Op}
-use Rattle.bc_script.specs.declared.op.Text.{Text}
-use Rattle.bc_script.specs.declared.op.Text.TheVariants.{Fill, Bytes}
 use Rattle.bc_script.specs.Script.{Script, IsScript, keys_of, sectors_in, max_ops, max_units, max_bio_units}
 use Rattle.bc_script.specs.Script.{max_bio_sectors}
 use Rattle.bc_script.specs.Bios.{is_inline, refusal_of}
@@ -113,11 +111,6 @@ pub record IsPerformable (script : Script) (bio : Extent) : Type 0 where
   pub few_units : bio.units ≤ max_bio_units
   pub few_sectors : bio.units * unit_sectors (keys_of script) bio.context ≤ max_bio_sectors
   pub no_wrap : (i : ℕ) → i ≤ bio.units → context_wrapped i bio.context ≡ context_after i bio.context
-
--- a text has bytes for this unit, of so many bytes each
-abbrev pub HasUnit : Text → ℕ → ℕ → Type 0
-HasUnit (Fill byte) size i = ⊤
-HasUnit (Bytes bytes) size i = size * i + size ≤ length bytes
 
 -- the first n units of a bio
 abbrev pub first_units : List KeyData → ℕ → Op → Extent → ℕ → List PlannedUnit

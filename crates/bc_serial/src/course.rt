@@ -19,14 +19,14 @@ ghost use Rattle.bc_serial.specs.InTurn.{AttemptsOn, GoesOver, HasOpen, HasOpenA
 use crate::ciphers::Ciphers;
 use crate::keyslots::Keyslots;
 use crate::runs_on::back_runs_on;
-use crate::unit_access::{read_unit, text_of_unit, write_unit};
+use crate::unit_access::{read_unit, write_unit};
 use bc_base::{BLOCK_SECTORS, RamStore};
 use bc_bio::{Context, Extent, Refusal, bio_laws};
 use bc_key::{KeyNo, Keys};
 use bc_medium::{Shards, UnitAt, Via, order_laws};
 use bc_report::Answer;
 use bc_script::{Script, Text};
-use bc_section::answer_of;
+use bc_section::{answer_of, text_of_unit};
 use std::alloc::{AllocError, Global};
 use std::marker::Model;
 

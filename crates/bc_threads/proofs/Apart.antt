@@ -13,7 +13,7 @@ use Rattle.bc_medium.specs.Medium.{EachTwoFrom}
 use Rattle.bc_report.specs.declared.answer.Answer.{Answer}
 use Rattle.bc_script.specs.declared.op.Op.{Op}
 use Rattle.bc_script.specs.Script.{Script}
-use Rattle.bc_section.proofs.Lists.{In, all_by_place, any_from, at_exists, at_map, at_of_map, at_one, list_at_map}
+use Rattle.bc_section.proofs.Lists.{all_by_place, at_exists, at_map, at_of_map, at_one, list_at_map}
 use Rattle.bc_disk.specs.Disks.{DiskData, PassData}
 use Rattle.bc_threads.specs.declared.outcome.Outcome.{Outcome}
 use Rattle.bc_threads.specs.Prepared.{SectionData}
@@ -21,6 +21,7 @@ use Rattle.bc_threads.specs.Jobs.{HasWorked, IsDone, IsReadyJob}
 use Rattle.bc_threads.specs.Quotas.{sections_of, unit_row}
 use Rattle.bc_threads.specs.Runs.{AreCarriedOut, AreJobs, IsCarriedOut, IsOpenedFor, answers_in, contents_told}
 use Rattle.bc_threads.proofs.Ready.{may_work}
+use Rattle.bc_base.proofs.Members.{In, any_from}
 
 -- ---- lists by places
 

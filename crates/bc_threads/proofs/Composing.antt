@@ -36,16 +36,18 @@ use Rattle.bc_compose.specs.SectionDone.{SectionDone}
 use Rattle.bc_compose.specs.Closed.{DevicesClosed, ShardsClosed, StoresClosed, line_of}
 use Rattle.bc_compose.specs.Composed.{SectionsMakeALawfulRun}
 use Rattle.bc_section.specs.Openings.{IsOpening, planned_on}
-use Rattle.bc_section.proofs.Lists.{all_by_place, all_slice, at_exists, at_map, at_of_map, at_one, list_at_map, list_at_past, same_tests}
+use Rattle.bc_section.proofs.Lists.{all_by_place, all_slice, at_exists, at_map, at_of_map, at_one, list_at_map, list_at_past}
 use Rattle.bc_disk.specs.Disks.{DiskData, IsPassOf, PassData}
 use Rattle.bc_disk.specs.Closings.{AreAllPasses, IsClosedDisk, passes_on}
 use Rattle.bc_threads.specs.Quotas.{sections_of, unit_row}
 use Rattle.bc_threads.specs.Runs.{AreCarriedOut, IsCarriedOut, IsOpenedFor, contents_told}
 use Rattle.bc_threads.specs.Shared.{base_on}
 use Rattle.bc_threads.proofs.Apart.{any_at, choose, few_from, list_at_is, of_some, two_at, two_long, zip_by_place, zip_length}
-use Rattle.bc_threads.proofs.Faults.{empty_behind, fail_at, met_planned, not_behind, nothing_behind, planned_met}
+use Rattle.bc_threads.proofs.Faults.{empty_behind}
 use Rattle.bc_threads.proofs.Opening.{calls_told, is_owned}
 use Rattle.bc_threads.proofs.Ready.{shards_are}
+use Rattle.bc_base.proofs.Members.{same_tests}
+use Rattle.bc_section.proofs.Faults.{not_behind, nothing_behind, fail_at, met_planned, planned_met}
 
 counted : (threads : List (List Op)) → 0 < length threads → length (sections_of threads) ≡ length threads
 counted [] some = absurd (omega arith)

@@ -8,8 +8,9 @@ use Rattle.bc_medium.specs.Places.{shard_of}
 use Rattle.bc_script.specs.declared.op.Op.{Op}
 use Rattle.bc_script.specs.declared.op.Op.TheVariants as ops
 use Rattle.bc_script.specs.Script.{Script, unit_count, unit_count_of_section}
-use Rattle.bc_section.proofs.Lists.{range_push, take_next}
+use Rattle.bc_section.proofs.Lists.{take_next}
 use Rattle.bc_threads.specs.Quotas.{unit_quota, units_from, units_on}
+use Rattle.bc_base.proofs.Members.{range_push}
 
 sum_push : {A : Type 0} (f : A → ℕ) (xs : List A) (x : A) → sum_by f (xs ++ x ∷ []) ≡ sum_by f xs + f x
 sum_push f xs x = sum_by-append f xs (x ∷ []) ∙ ap (λ (k : ℕ). sum_by f xs + k) (one (f x))

@@ -24,12 +24,14 @@ use Rattle.bc_report.specs.Programmings.{passes}
 use Rattle.bc_compose.specs.SectionDone.{Bounds}
 use Rattle.bc_compose.specs.Ordered.{IsTakenOut}
 use Rattle.bc_section.specs.Reached.{Evicted, HasReset}
-use Rattle.bc_section.proofs.Growing.{begins_itself, grows_none}
 use Rattle.bc_pieces.specs.Pieces.{DeviceFacts, at_device}
 use Rattle.bc_disk.specs.declared.eviction.Busy.{Busy}
 use Rattle.bc_disk.specs.Evictions.{AddsEvents, AsksEach, Empties, IsBefore, IsRefusedBy, Resets}
-use Rattle.bc_threads.proofs.Events.{count_cons, in_no_slot, notes_of_each}
+use Rattle.bc_threads.proofs.Events.{in_no_slot, notes_of_each}
 use Rattle.bc_threads.proofs.Showing.{IsWayFor, shown}
+use Rattle.bc_medium.proofs.Growing.{begins_itself, grows_none}
+use Rattle.bc_section.proofs.Holding.{count_cons}
+use Rattle.bc_threads.proofs.Submission.{not_alone}
 
 or_false : (b : Bool) → (b || false) ≡ b
 or_false true = refl
@@ -41,9 +43,6 @@ and_false false = refl
 
 no_more : (b : Bool) → b ≡ false → cond {A = ℕ} b 1 0 ≤ 0
 no_more b is = subst (λ (c : Bool). cond {A = ℕ} c 1 0 ≤ 0) (sym is) (omega arith)
-
-not_alone : {A : Type 0} → IsTrue false → A
-not_alone is = absurd (true≢false (sym is))
 
 -- how a report says what an eviction came to
 abbrev pub answer_by : Option Busy → Answer

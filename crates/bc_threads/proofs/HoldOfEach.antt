@@ -21,13 +21,14 @@ use Rattle.bc_script.specs.Bios.{is_inline}
 use Rattle.bc_report.specs.Programmings.{InlineEntry, Programs}
 use Rattle.bc_compose.specs.SectionDone.{NamesOwn, inline_of, key_of_entry}
 use Rattle.bc_compose.specs.Ordered.{HasHold, Held}
-use Rattle.bc_section.proofs.Lists.{all_at, all_from_in, all_of, in_of_filter_map}
+use Rattle.bc_section.proofs.Lists.{in_of_filter_map}
 use Rattle.bc_pieces.specs.Pieces.{DeviceFacts}
 use Rattle.bc_pieces.specs.Told.{HasHoldBetween, Rise}
 use Rattle.bc_disk.specs.Disks.{goes_inline}
 use Rattle.bc_disk.specs.Submissions.{GoesItsWay, HasItsHold, IsInline, IsUnderWay, IsWayOf}
 use Rattle.bc_threads.proofs.Rising.{inline_parts, rises_are}
 use Rattle.bc_threads.proofs.Showing.{IsWayFor, inline_of_script}
+use Rattle.bc_base.proofs.Members.{all_at, all_from_in, all_of}
 
 -- the parts of an inline way
 abbrev device_in : Via → ℕ

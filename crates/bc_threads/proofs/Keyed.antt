@@ -36,16 +36,16 @@ use Rattle.bc_compose.specs.SectionDone.{Bounds}
 use Rattle.bc_section.specs.Reached.{MayBePlugged, numbered}
 use Rattle.bc_section.specs.Uses.{bios_of}
 use Rattle.bc_section.proofs.Chunks.{chunks_linked}
-use Rattle.bc_section.proofs.Lists.{all_at, all_from_in, in_of_flat_map, in_of_map}
 use Rattle.bc_pieces.specs.Pieces.{at_device, is_piece_on, is_piece_under, pieces_on}
 use Rattle.bc_pieces.specs.Told.{IsHoldOf, OneHold, events_on}
 use Rattle.bc_disk.specs.Submissions.{inline_pieces, window_pieces}
 use Rattle.bc_section.proofs.Ascending.{HasKeyOf, one_key}
 use Rattle.bc_threads.proofs.Bounding.{few_of_holds, none_of_holds, of_hold, of_its_key}
-use Rattle.bc_threads.proofs.Events.{count_append}
-use Rattle.bc_section.proofs.Holding.{hold_weight, holds_of, no_reset, touched_by, window_holds}
-use Rattle.bc_threads.proofs.Piecing.{asked_is, no_events, numbered_accepted, on_le, tagged_are, window_events}
+use Rattle.bc_section.proofs.Holding.{hold_weight, holds_of, no_reset, touched_by, window_holds, count_append}
+use Rattle.bc_threads.proofs.Piecing.{asked_is, no_events, on_le, tagged_are, window_events}
 use Rattle.bc_threads.proofs.WindowBios.{IsWindowBio}
+use Rattle.bc_base.proofs.Members.{in_of_map, in_of_flat_map, all_at, all_from_in}
+use Rattle.bc_section.proofs.Numbered.{numbered_accepted}
 
 -- ---- what is in the chunks of a list
 

@@ -15,10 +15,12 @@ use Rattle.bc_bio.specs.Requests.{RequestParts, tagged_of, unmarked}
 use Rattle.bc_bio.specs.Windows.{TaggedBio}
 use Rattle.bc_queue.specs.Plugs.{AreRequests, IsOfWindow, IsPlug, PlugParts, bios_of, count_bios, no_bios}
 use Rattle.bc_compose.specs.Ordered.{Pairs}
-use Rattle.bc_section.proofs.Lists.{all_read, zip_append}
+use Rattle.bc_section.proofs.Lists.{all_read}
 use Rattle.bc_threads.specs.declared.outcome.Outcome.{Outcome}
 use Rattle.bc_threads.specs.declared.outcome.Outcome.TheVariants as outcomes
 use Rattle.bc_threads.specs.Plugging.{AreNoted, HasBioAt, IsPlugged, SameBeside}
+use Rattle.bc_base.proofs.Members.{zip_append}
+use Rattle.bc_section.proofs.Reaching.{get_set_other}
 
 -- ---- places
 
@@ -26,18 +28,6 @@ pub get_set_same : {X : Type 0} (xs : List X) (i : ℕ) (x : X) → i < length x
 get_set_same [] i x lt = absurd (omega (arith, lt))
 get_set_same (y ∷ ys) zero x lt = refl
 get_set_same (y ∷ ys) (suc i) x lt = get_set_same ys i x (omega (arith, lt))
-
-pub get_set_other : {X : Type 0} (xs : List X) (i j : ℕ) (x : X) → (i ≡ j → ⊥) → slice_get (slice_set xs i x) j ≡ slice_get xs j
-get_set_other [] i j x ne = refl
-get_set_other (y ∷ ys) zero zero x ne = absurd (ne refl)
-get_set_other (y ∷ ys) zero (suc j) x ne = refl
-get_set_other (y ∷ ys) (suc i) zero x ne = refl
-get_set_other (y ∷ ys) (suc i) (suc j) x ne = get_set_other ys i j x (λ e. ne (ap suc e))
-
-pub length_set : {X : Type 0} (xs : List X) (i : ℕ) (x : X) → length (slice_set xs i x) ≡ length xs
-length_set [] i x = refl
-length_set (y ∷ ys) zero x = refl
-length_set (y ∷ ys) (suc i) x = ap suc (length_set ys i x)
 
 pub read_within : (xs : List ℕ) (i d e : ℕ) → i < length xs → get_or xs i d ≡ get_or xs i e
 read_within [] i d e lt = absurd (omega (arith, lt))

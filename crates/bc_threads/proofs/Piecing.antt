@@ -1,6 +1,6 @@
 -- The events that a window asks for: two for each of its operations that touches the device, as its pieces there are no more.
 use Rattle.std.proofs.Common.{◌≡◌, ◌∙◌, ℕ, ◌*◌, ◌<◌, ◌≤◌, Bool, true, false, cond, List, [], ◌∷◌, length, map, refl, sym, ap, subst, arith, Option, Some, None}
-use Rattle.std.specs.Prelude.{◌==◌, ◌||◌, count_by, sum_by, filter, flat_map, slice_get, IsSomeAnd}
+use Rattle.std.specs.Prelude.{◌==◌, ◌||◌, count_by, sum_by, filter, flat_map}
 use Rattle.std.specs.List.{AllByRecursion, AllZip, cons_option, list_any}
 use Rattle.std.specs.Option.{option_map, option_map_or}
 use Rattle.std.proofs.lemmas.List.{length-append}
@@ -30,20 +30,10 @@ use Rattle.bc_section.specs.Uses.{bios_of}
 use Rattle.bc_pieces.specs.Pieces.{is_piece_on, pieces_on}
 use Rattle.bc_disk.specs.Submissions.{events_for, inline_key, inline_pieces}
 use Rattle.bc_threads.specs.Asked.{events_asked, events_of_one}
-use Rattle.bc_threads.proofs.Events.{count_cons}
-use Rattle.bc_section.proofs.Holding.{hold_weight, holds_of, touched_by, window_holds}
+use Rattle.bc_section.proofs.Holding.{hold_weight, holds_of, touched_by, window_holds, count_cons}
 use Rattle.bc_threads.proofs.Past.{none_on}
 use Rattle.bc_threads.proofs.WindowBios.{IsWindowBio}
-
--- the operations of a window have accepted bios
-pub numbered_accepted : (script : Script) (section : List Op) (os : List ℕ) → AllByRecursion (MayBePlugged script section) os → AllByRecursion (λ act. IsAcceptedBio script act.1) (numbered section os)
-numbered_accepted script section [] all = tt
-numbered_accepted script section (o ∷ os) all = of_op (slice_get section o) all.0 (numbered_accepted script section os all.1)
-  where
-    of_op : (p : Option Op) → IsSomeAnd p (IsAcceptedBio script) → AllByRecursion (λ act. IsAcceptedBio script act.1) (numbered section os)
-        → AllByRecursion (λ act. IsAcceptedBio script act.1) (option_map_or (λ operation. (o, operation) ∷ numbered section os) p (numbered section os))
-    of_op None is rest = absurd is
-    of_op (Some x) is rest = (is, rest)
+use Rattle.bc_section.proofs.Numbered.{numbered_accepted}
 
 -- the bios of a window by their tags are those of its operations
 pub tagged_are : (script : Script) (section : List Op) (window : List ℕ) (taken : List Bio) → AllZip (IsWindowBio script section) window taken → map tagged_of taken ≡ bios_of (numbered section window)

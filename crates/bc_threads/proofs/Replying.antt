@@ -29,11 +29,12 @@ use Rattle.bc_report.specs.declared.answer.Answer.{Answer}
 use Rattle.bc_report.specs.declared.answer.Answer.TheVariants as answers
 use Rattle.bc_report.specs.Answers.{answer_of_outcome, read_answer, IsOwnWord}
 use Rattle.bc_compose.specs.SectionDone.{IsBioAnswer, IsReply}
-use Rattle.bc_section.proofs.Lists.{all_of, zip_more}
+use Rattle.bc_section.proofs.Lists.{zip_more}
 use Rattle.bc_queue.specs.Carrying.{AccessFacts}
 use Rattle.bc_pieces.specs.Becoming.{Becomes, KnowsDone, KnowsFault, KnowsUnit, OpensWith, planned_in, planned_units}
 use Rattle.bc_disk.specs.Submissions.{RepliesTo}
 use Rattle.bc_threads.specs.Outcomes.{answer_of_reply, bytes_in, done_answer}
+use Rattle.bc_base.proofs.Members.{all_of}
 
 bytes_of_texts : (texts : List (List ℕ)) → flat_map bytes_in (map (λ text. Full text) texts) ≡ flat_map (λ text. text) texts
 bytes_of_texts [] = refl

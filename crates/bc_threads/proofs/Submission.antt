@@ -28,7 +28,7 @@ use Rattle.bc_threads.proofs.Telling.{settled}
 use Rattle.bc_threads.proofs.WindowBios.{IsWindowBio}
 use Rattle.bc_threads.proofs.Windowing.{planned_are, ways_are}
 
-not_alone : {A : Type 0} → IsTrue false → A
+pub not_alone : {A : Type 0} → IsTrue false → A
 not_alone is = absurd (true≢false (sym is))
 
 module _ {S : Type 0} (contents : S → Option Sectors) (script : Script) (section : List Op) (thread : ℕ) (disk : DiskData S) (old new : PassData S)

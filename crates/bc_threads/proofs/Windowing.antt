@@ -24,7 +24,6 @@ use Rattle.bc_script.specs.Script.{Script, IsScript, IsScriptOp, keys_of}
 use Rattle.bc_script.specs.Plan.{units_of}
 use Rattle.bc_compose.specs.SectionDone.{SaysItsWay}
 use Rattle.bc_section.specs.Reached.{MayBePlugged, numbered}
-use Rattle.bc_section.proofs.Lists.{all_of}
 use Rattle.bc_pieces.specs.Becoming.{OpensWith, planned_units}
 use Rattle.bc_pieces.specs.Pieces.{DeviceFacts}
 use Rattle.bc_disk.specs.Disks.{DiskData, PassData, facts_on, keys_in}
@@ -38,6 +37,7 @@ use Rattle.bc_threads.proofs.Noting.{zip_length}
 use Rattle.bc_threads.proofs.Showing.{IsWayFor}
 use Rattle.bc_threads.proofs.Ways.{says_its_way}
 use Rattle.bc_threads.proofs.WindowBios.{IsWindowBio, all_units_are, bios_there, is_placed, is_taken}
+use Rattle.bc_base.proofs.Members.{all_of}
 
 -- the bios of a window stand where they were prepared, and can be placed
 pub window_there : (script : Script) (section : List Op) (bios : List (Option Bio)) (keys : List KeyData) → keys ≡ keys_of script → IsScript script → UnrefusedIsAccepted → AllByRecursion (IsScriptOp script) section

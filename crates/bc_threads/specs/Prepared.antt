@@ -1,5 +1,5 @@
 -- Bios that were made ahead of a section's operations, with all the memory that they take.
-use Rattle.std.specs.Prelude.{◌≡◌, ℕ, ◌+◌, ◌*◌, ◌<◌, ◌≤◌, List, [], length, Option, Some, None, MatchOption, IsSomeAnd, slice_get, ⊤}
+use Rattle.std.specs.Prelude.{◌≡◌, ℕ, ◌*◌, ◌<◌, ◌≤◌, List, [], length, Option, Some, None, MatchOption, IsSomeAnd, slice_get, ⊤}
 use Rattle.std.specs.List.{enumerate_from}
 use Rattle.bc_base.specs.Lists.{At, Each, list_at}
 use Rattle.bc_bio.specs.declared.bio.Bio.{Bio}
@@ -10,8 +10,6 @@ use Rattle.bc_bio.specs.Extent.{unit_sectors}
 use Rattle.bc_queue.specs.RequestUnits.{written_bytes}
 use Rattle.bc_queue.specs.Plugs.{PlugParts, no_bios}
 use Rattle.bc_script.specs.declared.op.Op.{Op}
-use Rattle.bc_script.specs.declared.op.Text.{Text}
-use Rattle.bc_script.specs.declared.op.Text.TheVariants.{Fill, Bytes}
 use Rattle.bc_script.specs.declared.limits.TheConstants.{MAX_PLUGGED}
 use Rattle.bc_script.specs.Script.{Script, keys_of}
 use Rattle.bc_script.specs.Bios.{bio_of}
@@ -26,11 +24,6 @@ pub record IsBioOf (script : Script) (op : ℕ) (operation : Op) (bio : Bio) : T
   pub full : AreFull (keys_of script) bio
   pub bytes : (i : ℕ) → i < length bio.units → written_bytes bio.access (slice_get bio.units i)
       ≡ written_at operation (512 * unit_sectors (keys_of script) bio.context) i
-
--- a text has bytes for this unit, of so many bytes each
-abbrev pub HasUnit : Text → ℕ → ℕ → Type 0
-HasUnit (Fill byte) size i = ⊤
-HasUnit (Bytes bytes) size i = size * i + size ≤ length bytes
 
 -- this was made for operation number `op`: its bio, if it has one
 abbrev pub IsMadeFor : Script → ℕ → Op → Option Bio → Type 0

@@ -6,9 +6,10 @@ use Rattle.bc_bio.specs.Requests.{tagged_bios}
 use Rattle.bc_stack.specs.declared.target.Target.{Target}
 use Rattle.bc_stack.specs.Pieces.{device_of, pieces_of}
 use Rattle.bc_pieces.specs.Pieces.{IsOnDevice, units_in, pieces_in}
-use Rattle.bc_pieces.proofs.Walk.{carried_none, carried_more, carried_all, drop_all, is_device, length-units_of_request, next_piece, on_device, still_performable}
+use Rattle.bc_pieces.proofs.Walk.{carried_none, carried_more, carried_all, drop_all, is_device, next_piece, on_device, still_performable}
 use Rattle.bc_pieces.proofs.Whole.{carries_whole, pieces_reach}
 use Rattle.bc_pieces.proofs.request_pieces.carry_out_pieces.Goals as goal
+use Rattle.bc_stack.proofs.PieceLaws.{length-units_of_request}
 
 pub loop-first-init : goal.loop-first-init
 loop-first-init g c = record {

@@ -14,11 +14,12 @@ use Rattle.bc_compose.specs.Closed.{line_of}
 use Rattle.bc_serial.specs.Keyslots.{KeyslotsData}
 use Rattle.bc_section.specs.Sections.{SectionsDone}
 use Rattle.bc_serial.specs.Standing.{CourseData, HasBegun, device_of}
-use Rattle.bc_section.proofs.Lists.{map-map, each_of_map}
+use Rattle.bc_section.proofs.Lists.{each_of_map}
 use Rattle.bc_serial.proofs.Beginning.{no_event}
 use Rattle.bc_serial.proofs.Turns.{cost_all}
 use Rattle.bc_serial.proofs.Ending.{have_all, orders_few, made_of, are_sections, follow, uses, is_report}
 use Rattle.bc_serial.proofs.one_caller.serial.Goals as goal
+use Rattle.bc_base.proofs.Members.{map-map}
 
 pub carry_sections_out-requires-clause-unused : goal.carry_sections_out-requires-clause-unused
 carry_sections_out-requires-clause-unused c = no_event c.args.script.now c.in_ok-direct.direct.journals c.in_ok-direct.ensures.unused

@@ -3,9 +3,9 @@ use Rattle.bc_base.specs.RamStores.{HaveAllSectors}
 use Rattle.bc_medium.specs.declared.entry.Entry.{Entry}
 use Rattle.bc_profile.specs.declared.event.Event.{Event}
 use Rattle.bc_compose.specs.Closed.{line_of}
-use Rattle.bc_section.proofs.Lists.{map-map}
 use Rattle.bc_threads.proofs.Composing.{all_passes, have_all, is_lawful_as, is_report_as}
 use Rattle.bc_threads.proofs.many_callers.finish.Goals as goal
+use Rattle.bc_base.proofs.Members.{map-map}
 
 pub close-requires : goal.close-requires
 close-requires g c = record {

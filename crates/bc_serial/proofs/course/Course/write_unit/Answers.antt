@@ -8,12 +8,13 @@ use Rattle.bc_bio.specs.Conditions.{HasKey}
 use Rattle.bc_medium.specs.Shards.{HaveKeys, Own}
 use Rattle.bc_script.specs.declared.op.Op.TheVariants as ops
 use Rattle.bc_script.specs.Script.{keys_of}
-use Rattle.bc_script.specs.Plan.{text_at, unit_at}
+use Rattle.bc_script.specs.Plan.{text_at, unit_at, HasUnit}
 use Rattle.bc_serial.specs.InTurn.{AttemptsOn, HasOpenAt, via_in}
-use Rattle.bc_serial.specs.Standing.{AllStand, Attempted, CourseData, HasUnit, IsPerformable, at_of, answer_of_write, entry_of_write}
-use Rattle.bc_serial.proofs.Ready.{attempts, course_more, has_unit, have_keys, key_at, open_at, own, sectors_at, spare, text_length}
+use Rattle.bc_serial.specs.Standing.{AllStand, Attempted, CourseData, IsPerformable, at_of, answer_of_write, entry_of_write}
+use Rattle.bc_serial.proofs.Ready.{attempts, course_more, have_keys, key_at, open_at, own, sectors_at, spare, text_length}
 use Rattle.bc_serial.proofs.Placing.{write_failed, write_is_its, write_via}
 use Rattle.bc_serial.proofs.course.Course.write_unit.Goals as goal
+use Rattle.bc_section.proofs.Numbered.{has_unit}
 
 pub text_of_unit-requires : goal.text_of_unit-requires
 text_of_unit-requires c =

@@ -14,10 +14,10 @@ use Rattle.bc_serial.specs.InTurn.{InWindow}
 use Rattle.bc_serial.proofs.Affording.{front_fits, after_fits, answers_as_they_are}
 use Rattle.bc_section.proofs.Lists.{all_read}
 use Rattle.bc_serial.proofs.Turning.{window_begins}
-use Rattle.bc_serial.proofs.Counting.{numbered_accepted}
 use Rattle.bc_serial.proofs.Submitting.{TurnedBy, window_submitted}
 use Rattle.bc_serial.proofs.Windowing.{window_none, window_more, spare_in_window, read_within, plugged_within, follows_none, follows_more}
 use Rattle.bc_serial.proofs.direct.DirectDeviceUnitAnswerAllocError.window.Goals as goal
+use Rattle.bc_section.proofs.Numbered.{numbered_accepted}
 
 pub loop-op-init : goal.loop-op-init
 loop-op-init c =

@@ -17,10 +17,11 @@ use Rattle.bc_script.specs.Script.{keys_of}
 use Rattle.bc_compose.specs.Ordered.{slots_of}
 use Rattle.bc_serial.specs.declared.open_hold.OpenHold.{OpenHold}
 use Rattle.bc_serial.specs.Keyslots.{KeyslotsData, giving_back, IsKeyslots, HasRoom, KeepsTo, journal_in, used_at, max_events}
-use Rattle.bc_section.proofs.Lists.{all_read, at_set, list_at_map}
+use Rattle.bc_section.proofs.Lists.{all_read, list_at_map}
 use Rattle.bc_serial.proofs.KeptSlots.{holds_idle, slots_are, use_of_one, chosen, has_row, has_spare, held_inside, read_back, mapped_at, caps_is, hold_keeps, hold_events, hold_allowed, few_of_hold, small_slot, small_key}
 use Rattle.bc_serial.proofs.SlotRows.{row_is, row_reads, kept_means}
 use Rattle.bc_serial.proofs.keyslots.Keyslots.hold.Goals as goal
+use Rattle.bc_base.proofs.Members.{at_set}
 
 pub hold-slot-requires-clause-free : goal.hold-slot-requires-clause-free
 hold-slot-requires-clause-free c =
