@@ -36,8 +36,8 @@ module _ {S : Type 0} where
   abbrev pub passes_on : List (PassData S) → ℕ → List SlotFacts
   passes_on passes device = filter_map (λ pass. slice_get pass.slots device) passes
 
-  -- A disk was closed: each store is left as its shard's order leaves it, and each journal is that of a story; what each
-  -- pass has seen is a front of these, with all that its caller made.
+  -- A disk was closed: each store is left as its shard's order leaves it, and each journal is that of a story; what
+  -- each pass has seen is a front of these, with all that its caller made.
   pub record IsClosedDisk (owns : S → ℕ → Bool) (contents : S → Option Sectors) (told : S → Option ToldCalls)
       (faults : S → ℕ) (disk : DiskData S) (passes : List (PassData S)) (stores : List S) (orders : List (List Entry))
       (journals : List (List Event)) : Type 0 where

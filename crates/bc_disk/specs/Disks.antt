@@ -78,8 +78,8 @@ module _ {S : Type 0} where
       quota_of (base_in controller.profile) slots.caller - length (made_by slots)) (slice_get pass.slots device) 0)
       (slice_get disk.queue.controllers device) 0
 
-  -- What a disk keeps: each device has a controller, with a row of each key, that can do what its target says, all have the
-  -- medium's callers, and the sectors of its blocks have numbers of 32 bits and belong to their shards' stores.
+  -- What a disk keeps: each device has a controller, with a row of each key, that can do what its target says, all have
+  -- the medium's callers, and the sectors of its blocks have numbers of 32 bits and belong to their shards' stores.
   pub record IsDisk (owns : S → ℕ → Bool) (disk : DiskData S) : Type 0 where
     pub count : length disk.queue.controllers ≡ length disk.targets
     pub rows : AreControllers (keys_in disk) disk.queue.controllers

@@ -33,8 +33,8 @@ abbrev pub IsBefore : ℕ → Option Busy → Type 0
 IsBefore device None = ⊤
 IsBefore device (Some busy) = device < busy.device
 
--- A key was asked out of each of the first so many devices, in ascending order; `refused` is the first refusal, if there
--- was one.
+-- A key was asked out of each of the first so many devices, in ascending order; `refused` is the first refusal, if
+-- there was one.
 pub record AsksFirst (devices : ℕ) (old new : DeviceFacts) (key : ℕ) (refused : Option Busy) : Type 0 where
   pub made : ℕ → List Event
   pub adds : AddsEvents old new made

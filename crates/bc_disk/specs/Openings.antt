@@ -68,7 +68,8 @@ module _ {S : Type 0} (contents : S → Option Sectors) where
     pub pass_for_each : length passes ≡ length units
     pub are_new : (caller : ℕ) → AllAt passes caller (IsNewPass disk units events caller)
 
--- Private: the controller is that of the target's device, which has no events yet, with these quotas of events by caller.
+-- Private: the controller is that of the target's device, which has no events yet, with these quotas of events by
+-- caller.
 pub record IsNewDevice (keys : List KeyData) (events : List (List ℕ)) (device : ℕ) (target : Target)
     (controller : ControllerData) : Type 0 where
   pub is_its : IsController keys device controller

@@ -1,5 +1,6 @@
 -- What a submission of bios does, whichever way they go: inline by their devices, by software, or in the clear.
-use Rattle.std.specs.Prelude.{◌≡◌, ℕ, ◌+◌, ◌*◌, ◌≤◌, Bool, true, false, List, [], ◌∷◌, map, flat_map, Option, Some, None, MatchOption, ⊤, if◌then◌else◌}
+use Rattle.std.specs.Prelude.{◌≡◌, ℕ, ◌+◌, ◌*◌, ◌≤◌, Bool, true, false, List, [], ◌∷◌, map, flat_map, Option, Some}
+use Rattle.std.specs.Prelude.{None, MatchOption, ⊤, if◌then◌else◌}
 use Rattle.std.specs.Option.{option_map_or}
 use Rattle.std.specs.List.{AllZip}
 use Rattle.bc_base.specs.Lists.{Each, list_at}
@@ -97,8 +98,8 @@ HasItsHold slots old new e = IsInline e.via → HasHoldBetween slots old new e
 
 -- ---- what is added
 
--- The caller's entries go on by just these, each by the way of its unit; its events by those of one hold for each piece; each
--- inline entry has its hold, and none names an earlier event than one before it.
+-- The caller's entries go on by just these, each by the way of its unit; its events by those of one hold for each
+-- piece; each inline entry has its hold, and none names an earlier event than one before it.
 pub record Adds (old new : DeviceFacts) (pieces : List (List NamedUnit)) : Type 0 where
   pub same : SameDisk old new
   pub made : List Entry
@@ -123,8 +124,8 @@ abbrev pub RepliesTo : AccessFacts → List (List Entry) → Bio → Reply → T
 RepliesTo facts seen bio reply =
     (after : MarkedBio) × Becomes facts seen (unmarked bio) after × (reply ≡ reply_of after)
 
--- Bios were submitted as a window, and answered. Where no two of them have one tag, the entries are those of their units that
--- are to be attempted, each once, in their order.
+-- Bios were submitted as a window, and answered. Where no two of them have one tag, the entries are those of their
+-- units that are to be attempted, each once, in their order.
 pub record Submits (old new : DeviceFacts) (bios : List Bio) (answers : List Reply) : Type 0 where
   pub adds : Adds old new (window_pieces old.targets old.access.keys bios)
   pub attempts : TagsDiffer (map tagged_of bios)
@@ -175,7 +176,8 @@ inline_events disk request device =
     2 * pieces_on disk.targets device (inline_pieces disk.targets (keys_in disk) request)
 
 -- a bio was answered: it was refused, and nothing changed; or it was submitted alone
-abbrev pub AnswersBio : {S : Type 0} → (S → Option Sectors) → DiskData S → PassData S → PassData S → Bio → Reply → Type 0
+abbrev pub AnswersBio :
+    {S : Type 0} → (S → Option Sectors) → DiskData S → PassData S → PassData S → Bio → Reply → Type 0
 AnswersBio contents disk old new bio reply =
     MatchOption (refusal_on disk (extent_of bio))
     (Submits (facts_on contents disk old) (facts_on contents disk new) (bio ∷ []) (reply ∷ []))

@@ -22,7 +22,7 @@ use bc_key::{Key, KeyNo, Keys};
 use bc_medium::{Medium, MediumPass};
 use bc_modes::{UfsCaps, UnitCipher, entry_words};
 use bc_profile::{Profile, ROW_WORDS, Row, SlotPass};
-use bc_queue::{Queue, QueuePass};
+use bc_queue::{Queue, QueuePass, Scratch};
 use bc_stack::{Stack, Target};
 use bc_ufs::Controller;
 use std::alloc::{AllocError, Global};
@@ -234,6 +234,7 @@ fn pass_of<S: Store + Drop>(
         caller: units.number(),
         slots,
         units,
+        scratch: Scratch::new(),
     };
     Ok(Pass {
         queue,

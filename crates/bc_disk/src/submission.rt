@@ -13,7 +13,8 @@ ghost use Rattle.bc_queue.specs.Carrying.{ArePerformable, CarriesOut};
 ghost use Rattle.bc_queue.specs.Queues.{HasSpareOfUnits, facts_by};
 ghost use Rattle.bc_disk.specs.Soft.{GoesSoft};
 ghost use Rattle.bc_disk.specs.Disks.{IsPassOf, events_left, facts_on, keys_in, pass_by};
-ghost use Rattle.bc_disk.specs.Submissions.{AreTaken, AnswersBio, CarriesRequest, HasEntriesFor, LeavesEntries, Submits};
+ghost use Rattle.bc_disk.specs.Submissions.{AreTaken, AnswersBio, CarriesRequest, HasEntriesFor, LeavesEntries};
+ghost use Rattle.bc_disk.specs.Submissions.{Submits};
 ghost use Rattle.bc_disk.specs.Submissions.{IsWayFor, bare_bios, events_for, inline_events};
 
 use crate::inline_way::carry_out_inline;

@@ -1,6 +1,7 @@
 -- What carrying out a request over the devices of a disk does, whatever a caller's way to them: the pieces of the
 -- request, one after the other, each by its device under one hold of its key.
-use Rattle.std.specs.Prelude.{◌≡◌, ℕ, ◌+◌, ◌<◌, ◌≤◌, ◌==◌, Bool, false, List, [], ◌∷◌, ◌++◌, filter, length, take, drop, slice_get, sum_by, Option, Some, if◌then◌else◌}
+use Rattle.std.specs.Prelude.{◌≡◌, ℕ, ◌+◌, ◌<◌, ◌≤◌, ◌==◌, Bool, false, List, [], ◌∷◌, ◌++◌, filter, length, take, drop}
+use Rattle.std.specs.Prelude.{slice_get, sum_by, Option, Some, if◌then◌else◌}
 use Rattle.std.specs.Option.{option_map, option_map_or}
 use Rattle.bc_base.specs.Lists.{Each, list_at}
 use Rattle.bc_base.specs.Story.{own, StartsWith}

@@ -13,7 +13,8 @@ use Rattle.bc_profile.specs.Story.{Holds}
 use Rattle.bc_stack.specs.declared.target.Target.{Target}
 use Rattle.bc_stack.specs.Devices.{device_at}
 use Rattle.bc_queue.specs.Queues.{IsUnderKey}
-use Rattle.bc_pieces.specs.Pieces.{AreOfOneHold, DeviceFacts, NotesOn, SameDisk, at_device, is_piece_on, is_piece_under, named_on}
+use Rattle.bc_pieces.specs.Pieces.{AreOfOneHold, DeviceFacts, NotesOn, SameDisk, at_device, is_piece_on, is_piece_under}
+use Rattle.bc_pieces.specs.Pieces.{named_on}
 
 -- the hold of an entry, between two states of the journals: the entry names its device, slot and event, and is under
 -- its key

@@ -1,6 +1,7 @@
--- What carrying out the units of a request does, whatever the way to the disk: a caller's own lists, the request before it
--- and the request after it.
-use Rattle.std.specs.Prelude.{◌≡◌, ◌≢◌, ◌⊎◌, ℕ, ◌+◌, ◌*◌, ◌<◌, ◌≤◌, ◌==◌, Bool, true, false, List, [], ◌∷◌, ◌++◌, map, Option, Some, None, IsSomeAnd, ⊤, if◌then◌else◌}
+-- What carrying out the units of a request does, whatever the way to the disk: a caller's own lists, the request before
+-- it and the request after it.
+use Rattle.std.specs.Prelude.{◌≡◌, ◌≢◌, ◌⊎◌, ℕ, ◌+◌, ◌*◌, ◌<◌, ◌≤◌, ◌==◌, Bool, true, false, List, [], ◌∷◌, ◌++◌, map}
+use Rattle.std.specs.Prelude.{Option, Some, None, IsSomeAnd, ⊤, if◌then◌else◌}
 use Rattle.std.specs.List.{AllZip}
 use Rattle.bc_base.specs.declared.place.Place.{Place}
 use Rattle.bc_base.specs.Lists.{At, list_at}
@@ -22,11 +23,12 @@ use Rattle.bc_medium.specs.Places.{shard_of}
 use Rattle.bc_medium.specs.KeyedDisk.{Sectors, UnitAnswer, Faulted, Written, Text}
 use Rattle.bc_medium.specs.Entries.{name_of_entry, IsToldAt}
 use Rattle.bc_medium.specs.Growth.{Performs, Grows, IsEntryOf}
-use Rattle.bc_queue.specs.RequestUnits.{named_at, planned_at, planned_part, units_on, faults_of, with_fault_at, with_faults, attempted_in, failed_among}
+use Rattle.bc_queue.specs.RequestUnits.{named_at, planned_at, planned_part, units_on, faults_of, with_fault_at}
+use Rattle.bc_queue.specs.RequestUnits.{with_faults, attempted_in, failed_among}
 
--- a caller's way to the data units of a disk: the disk's keys, how many shards it has and which sectors each of them had at
--- opening, where that is told; how a unit goes; whose it is, what that caller has seen of the orders, and how many entries
--- more it may have at each shard
+-- a caller's way to the data units of a disk: the disk's keys, how many shards it has and which sectors each of them
+-- had at opening, where that is told; how a unit goes; whose it is, what that caller has seen of the orders, and how
+-- many entries more it may have at each shard
 pub record AccessFacts : Type 0 where
   pub keys : List KeyData
   pub shards : ℕ
@@ -64,9 +66,9 @@ abbrev pub content_of : Access → Bool → Place → List ℕ → Unit
 content_of Write false place bytes = Stored place
 content_of access failed place bytes = Full bytes
 
--- Unit number n of a request was attempted: this is its entry, which stands at this place and goes this way, and the keyed
--- disk answers it with what became of the unit. A read has then the bytes that it was answered with; a write that met a
--- fault has its bytes back.
+-- Unit number n of a request was attempted: this is its entry, which stands at this place and goes this way, and the
+-- keyed disk answers it with what became of the unit. A read has then the bytes that it was answered with; a write that
+-- met a fault has its bytes back.
 pub record IsCarried (facts : AccessFacts) (seen : List (List Entry)) (old new : List MarkedBio) (n : ℕ) (e : Entry)
     : Type 0 where
   pub entry : IsEntryOf facts.caller (planned_at facts.keys old n) e
@@ -86,8 +88,8 @@ abbrev pub IsLeft : List MarkedBio → ℕ → ℕ → ℕ → Type 0
 IsLeft bios first count n = (n < first) ⊎ ((first + count ≤ n) ⊎ (is_over bios n ≡ true))
 
 -- So many units of a request, from this number on, were carried out in order: those that were attempted, each once, are
--- the caller's new entries. A fault marked its own bio alone, and the later units of that bio were passed over; all other
--- units are as they were.
+-- the caller's new entries. A fault marked its own bio alone, and the later units of that bio were passed over; all
+-- other units are as they were.
 pub record CarriesOut (old new : AccessFacts) (before after : RequestParts) (first count : ℕ) : Type 0 where
   pub made : List Entry
   pub same : GoesOn old new
@@ -150,7 +152,13 @@ HasSpareFor facts bios first count =
 abbrev pub IsUnitAt : AccessFacts → List MarkedBio → ℕ → UnitAt → Type 0
 IsUnitAt facts bios n at =
     let unit = named_at facts.keys bios n in
-    at ≡ record { caller = facts.caller; tag = unit.tag; unit = unit.unit; sector = unit.sector; context = unit.context }
+    at ≡ record {
+      caller = facts.caller;
+      tag = unit.tag;
+      unit = unit.unit;
+      sector = unit.sector;
+      context = unit.context;
+    }
 
 -- Private: it is there, and has its bytes.
 abbrev pub IsSomeFull : Option Unit → Type 0

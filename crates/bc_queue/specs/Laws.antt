@@ -23,8 +23,8 @@ MarkSame keys caller met bios =
     (n : ℕ) → n < count_units (tagged_bios bios)
     → is_attempted met (name_of caller (planned_at keys bios n)) ≡ not (is_over bios n)
 
--- what was carried out of a request, by names: the entries are the attempted ones of these units, in their order, and the
--- names of those that failed are marked with the others
+-- what was carried out of a request, by names: the entries are the attempted ones of these units, in their order, and
+-- the names of those that failed are marked with the others
 pub record IsAttempted (old new : AccessFacts) (before after : RequestParts) (first count : ℕ) (made : List Entry)
     (met : List UnitName) : Type 0 where
   pub attempts : Attempts old.caller met (planned_part old.keys before.bios first count) made

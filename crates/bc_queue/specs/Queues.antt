@@ -1,6 +1,7 @@
--- What contracts see of the queue of a disk and of its callers' passes: a controller for each device over one medium, and of
--- each caller a pass of each controller's keyslots and one of the medium. And what a dispatch does.
-use Rattle.std.specs.Prelude.{◌≡◌, ◌≢◌, ℕ, ◌+◌, ◌-◌, ◌<◌, ◌≤◌, true, List, map, Option, Some, None, IsSomeAnd, option_and_then, slice_get, slice_set}
+-- What contracts see of the queue of a disk and of its callers' passes: a controller for each device over one medium,
+-- and of each caller a pass of each controller's keyslots and one of the medium. And what a dispatch does.
+use Rattle.std.specs.Prelude.{◌≡◌, ◌≢◌, ℕ, ◌+◌, ◌-◌, ◌<◌, ◌≤◌, true, List, map, Option, Some, None, IsSomeAnd}
+use Rattle.std.specs.Prelude.{option_and_then, slice_get, slice_set}
 use Rattle.std.specs.Option.{option_map_or}
 use Rattle.std.specs.List.{AllZip}
 use Rattle.bc_base.specs.Lists.{Each, EachFrom, At, AllAt, ChangesAt}
@@ -29,7 +30,8 @@ pub record QueueData (S : Type 0) : Type 0 where
   pub controllers : List ControllerData
   pub medium : MediumData S
 
--- the controller has this device, and its register row of each key is the key's entry where it supports the key, else zeros
+-- the controller has this device, and its register row of each key is the key's entry where it supports the key, else
+-- zeros
 pub record IsController (keys : List KeyData) (device : ℕ) (controller : ControllerData) : Type 0 where
   pub device_is : controller.device ≡ device
   pub rows : controller.profile.rows ≡ map (row_for controller.caps) keys
@@ -39,8 +41,8 @@ abbrev pub AreControllers : List KeyData → List ControllerData → Type 0
 AreControllers keys controllers = EachFrom (IsController keys) 0 controllers
 
 module _ {S : Type 0} where
-  -- the parts of a pass are those of this queue: one of the medium with the caller's number, and of each controller's keyslots
-  -- one at the controller's place
+  -- the parts of a pass are those of this queue: one of the medium with the caller's number, and of each controller's
+  -- keyslots one at the controller's place
   pub record IsPass (queue : QueueData S) (caller : ℕ) (slots : List SlotFacts) (units : Pass Entry (OpeningData S))
       : Type 0 where
     pub belongs : Belongs queue.medium units
@@ -86,8 +88,8 @@ abbrev pub HasEvents : {S : Type 0} → QueueData S → List SlotFacts → ℕ �
 HasEvents queue slots device events =
     AllAt queue.controllers device (λ controller. AllAt slots device (λ pass. HasSpare controller.profile pass events))
 
--- so many units of a request from this number on have their bytes, lie in sectors of their shards' stores, and have a key
--- that the device supports
+-- so many units of a request from this number on have their bytes, lie in sectors of their shards' stores, and have a
+-- key that the device supports
 abbrev pub CanGo : {S : Type 0} → (S → ℕ → Rattle.std.specs.Prelude.Bool) → QueueData S → ℕ → List MarkedBio → ℕ → ℕ
     → Type 0
 CanGo owns queue device bios first count =

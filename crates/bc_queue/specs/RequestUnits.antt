@@ -1,5 +1,6 @@
 -- The data units of a request by their numbers, as units of a plan; and what faults of units mark in it.
-use Rattle.std.specs.Prelude.{ℕ, ◌==◌, Bool, not, List, [], map, filter, fold, length, zip, Option, Some, None, slice_get, slice_set, slice_index_or}
+use Rattle.std.specs.Prelude.{ℕ, ◌==◌, Bool, not, List, [], map, filter, fold, length, zip, Option, Some, None}
+use Rattle.std.specs.Prelude.{slice_get, slice_set, slice_index_or}
 use Rattle.std.specs.List.{range_with_len}
 use Rattle.std.specs.Option.{option_map_or, unwrap_or}
 use Rattle.bc_key.specs.KeyData.{KeyData}

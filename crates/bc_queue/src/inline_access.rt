@@ -10,17 +10,16 @@ ghost use Rattle.bc_medium.specs.Medium.{Belongs, HasRoom, Accesses, AnswersSeen
 ghost use Rattle.bc_ufs.specs.Controllers.{via_of};
 ghost use Rattle.bc_queue.specs.Queues.{HasHold, TakesUnder};
 
-use crate::{QueuePass, UnitAccess};
-use bc_base::{BLOCK_BYTES, Place, Store};
+use crate::{QueuePass, Scratch, UnitAccess};
+use bc_base::{Place, Store};
 use bc_medium::{Fault, Medium, MediumPass, UnitAt};
 use bc_profile::{Hold, SlotPass};
-use bc_ufs::{Controller, LastCipher};
+use bc_ufs::Controller;
 use std::marker::Model;
 use std::snapshot::Snapshot;
 use std::sync::Wait;
 
-/// The way to a medium through a controller, under one hold of a key. The cipher that the registers mean is made once, and
-/// again only where they have other words.
+/// The way to a medium through a controller, under one hold of a key.
 #[derive(Drop)]
 pub(crate) struct InlineAccess<'a, S: Store> {
     controller: &'a Controller,
@@ -28,12 +27,9 @@ pub(crate) struct InlineAccess<'a, S: Store> {
     medium: &'a Medium<S>,
     /// The passes of the keyslots, with the hold: they stay as they are.
     slots: Snapshot<Vec<SlotPass>>,
-    scratch: [u8; BLOCK_BYTES],
-    last: Option<LastCipher>,
 }
 
 impl<'a, S: Store> Model for InlineAccess<'a, S> {
-    ghost use Rattle.bc_ufs.specs.Controllers.{KeepsTo};
     ghost use Rattle.bc_queue.specs.Queues.{InlineData};
 
     ghost Value = { InlineData S };
@@ -44,8 +40,6 @@ impl<'a, S: Store> Model for InlineAccess<'a, S> {
       medium = a.medium.now;
       slots = a.slots.value.items;
     } };
-
-    ghost invariant = { λ a. KeepsTo a.controller.now.caps a.last };
 }
 
 impl<'a, S: Store> InlineAccess<'a, S> {
@@ -68,8 +62,6 @@ impl<'a, S: Store> InlineAccess<'a, S> {
             hold,
             medium,
             slots: Snapshot::of(slots),
-            scratch: [0; BLOCK_BYTES],
-            last: None,
         }
     }
 
@@ -79,6 +71,7 @@ impl<'a, S: Store> InlineAccess<'a, S> {
         rt: &R,
         slots: &mut Vec<SlotPass>,
         units: &mut MediumPass<S>,
+        scratch: &mut Scratch,
         at: &UnitAt,
         plain: Vec<u8>,
     ) -> Result<Place, (Fault, Vec<u8>)>
@@ -113,8 +106,8 @@ impl<'a, S: Store> InlineAccess<'a, S> {
             units,
             at,
             plain,
-            &mut self.scratch,
-            &mut self.last,
+            &mut scratch.block,
+            &mut scratch.last,
         )
     }
 
@@ -124,6 +117,7 @@ impl<'a, S: Store> InlineAccess<'a, S> {
         rt: &R,
         slots: &mut Vec<SlotPass>,
         units: &mut MediumPass<S>,
+        scratch: &mut Scratch,
         at: &UnitAt,
         text: &mut [u8],
     ) -> Result<Place, Fault>
@@ -159,7 +153,7 @@ impl<'a, S: Store> InlineAccess<'a, S> {
             units,
             at,
             text,
-            &mut self.last,
+            &mut scratch.last,
         )
     }
 }
@@ -188,7 +182,14 @@ impl<'a, S: Store, R: Wait> UnitAccess<R, QueuePass<S>> for InlineAccess<'a, S> 
         at: &UnitAt,
         plain: Vec<u8>,
     ) -> Result<Place, (Fault, Vec<u8>)> {
-        self.write_under(rt, &mut pass.slots, &mut pass.units, at, plain)
+        self.write_under(
+            rt,
+            &mut pass.slots,
+            &mut pass.units,
+            &mut pass.scratch,
+            at,
+            plain,
+        )
     }
 
     fn read(
@@ -198,6 +199,13 @@ impl<'a, S: Store, R: Wait> UnitAccess<R, QueuePass<S>> for InlineAccess<'a, S> 
         at: &UnitAt,
         text: &mut [u8],
     ) -> Result<Place, Fault> {
-        self.read_under(rt, &mut pass.slots, &mut pass.units, at, text)
+        self.read_under(
+            rt,
+            &mut pass.slots,
+            &mut pass.units,
+            &mut pass.scratch,
+            at,
+            text,
+        )
     }
 }

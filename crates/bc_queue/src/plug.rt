@@ -1,5 +1,6 @@
 //! Bios that wait to be carried out together.
-ghost use Rattle.std.specs.Prelude.{◌≡◌, ◌==◌, List, ◌+◌, ◌<◌, ◌≤◌, ◌∷◌, ◌++◌, [], length, map, is_err, IfOk, OnOk, OnErr, IfErr, Some, slice_get, vec_len, vec_capacity};
+ghost use Rattle.std.specs.Prelude.{◌≡◌, ◌==◌, List, ◌+◌, ◌<◌, ◌≤◌, ◌∷◌, ◌++◌, [], length, map, is_err, IfOk, OnOk};
+ghost use Rattle.std.specs.Prelude.{OnErr, IfErr, Some, slice_get, vec_len, vec_capacity};
 ghost use Rattle.std.specs.Borrow.{Lends, sem};
 ghost use Rattle.std.specs.List.{AllByRecursion};
 ghost use Rattle.bc_bio.specs.BioUnits.{extent_of};
@@ -7,7 +8,8 @@ ghost use Rattle.bc_bio.specs.Chunks.{chunks_and};
 ghost use Rattle.bc_bio.specs.Conditions.{IsPlaced};
 ghost use Rattle.bc_bio.specs.Windows.{TaggedBio, joins};
 ghost use Rattle.bc_bio.specs.Requests.{reply_of, tagged_of, unmarked};
-ghost use Rattle.bc_queue.specs.Plugs.{Added, AreRequests, HasReady, IsOfWindow, IsPlug, IsReady, IsWaiting, StandsApart, bios_of, count_bios, no_bios, tagged_requests, with_request};
+ghost use Rattle.bc_queue.specs.Plugs.{Added, AreRequests, HasReady, IsOfWindow, IsPlug, IsReady, IsWaiting};
+ghost use Rattle.bc_queue.specs.Plugs.{StandsApart, bios_of, count_bios, no_bios, tagged_requests, with_request};
 
 use bc_bio::{Bio, Reply, Request};
 use bc_key::Keys;
@@ -55,8 +57,8 @@ impl Plug {
         })
     }
 
-    /// Plugs a bio: behind the last one's request, where it runs on at the back of the last one, and else in a request of
-    /// its own. Takes no memory.
+    /// Plugs a bio: behind the last one's request, where it runs on at the back of the last one, and else in a request
+    /// of its own. Takes no memory.
     ///
     /// # Errors
     ///
@@ -100,8 +102,8 @@ impl Plug {
         &mut self.requests[n]
     }
 
-    /// Empties the plug into replies, request after request and in order. They go behind those that `out` has, which has
-    /// room for them.
+    /// Empties the plug into replies, request after request and in order. They go behind those that `out` has, which
+    /// has room for them.
     pub fn drain(&mut self, out: &mut Vec<Reply>)
         requires plug { IsPlug self.old }
         requires spare { vec_len out.old + count_bios self.old.requests ≤ vec_capacity out.old }

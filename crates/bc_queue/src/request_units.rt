@@ -9,7 +9,8 @@ ghost use Rattle.bc_bio.specs.Windows.{IsRequest, count_units};
 ghost use Rattle.bc_bio.specs.Requests.{tagged_bios, with_unit, unit_in};
 ghost use Rattle.bc_medium.specs.Places.{shard_of};
 ghost use Rattle.bc_queue.specs.RequestUnits.{named_at, access_at};
-ghost use Rattle.bc_queue.specs.Carrying.{AttemptsOne, CarriesOne, CarriesOut, IsPerformable, ArePerformable, HasSpareFor};
+ghost use Rattle.bc_queue.specs.Carrying.{AttemptsOne, CarriesOne, CarriesOut, IsPerformable, ArePerformable};
+ghost use Rattle.bc_queue.specs.Carrying.{HasSpareFor};
 ghost use Rattle.bc_queue.specs.Carrying.{IsUnitAt, IsSomeFull, HasOther};
 
 use crate::UnitAccess;
@@ -19,11 +20,12 @@ use bc_key::Keys;
 use bc_medium::{UnitAt, order_laws};
 use std::mem;
 
-/// Carries out `count` units of a request from number `first` on, one after the other. A unit of whose bio an earlier one met
-/// a fault is passed over, and a fault marks its own bio alone. The bytes of a write move into the order, and come back where
-/// it met a fault; those of a read are put into the request.
+/// Carries out `count` units of a request from number `first` on, one after the other. A unit of whose bio an earlier
+/// one met a fault is passed over, and a fault marks its own bio alone. The bytes of a write move into the order, and
+/// come back where it met a fault; those of a read are put into the request.
 ///
-/// The units are in the request and have their bytes, the way takes each of them, and the caller has room for their entries.
+/// The units are in the request and have their bytes, the way takes each of them, and the caller has room for their
+/// entries.
 pub fn carry_out<R, P, A: UnitAccess<R, P>>(
     rt: &R,
     access: &mut A,
@@ -108,7 +110,8 @@ fn write_unit<R, P, A: UnitAccess<R, P>>(
         (shard_of (A.facts access.old pass.old).shards at.now.sector) }
     ensures same { access.new ≡ access.old }
     ensures ready { A.is_ready access.new pass.new }
-    ensures attempts { AttemptsOne (A.facts access.old pass.old) (A.facts access.new pass.new) request.old request.new n }
+    ensures attempts { AttemptsOne (A.facts access.old pass.old) (A.facts access.new pass.new) request.old
+        request.new n }
 {
     let plain = take_bytes(request, n);
     match access.write(rt, pass, at, plain) {
@@ -138,7 +141,8 @@ fn read_unit<R, P, A: UnitAccess<R, P>>(
         (shard_of (A.facts access.old pass.old).shards at.now.sector) }
     ensures same { access.new ≡ access.old }
     ensures ready { A.is_ready access.new pass.new }
-    ensures attempts { AttemptsOne (A.facts access.old pass.old) (A.facts access.new pass.new) request.old request.new n }
+    ensures attempts { AttemptsOne (A.facts access.old pass.old) (A.facts access.new pass.new) request.old
+        request.new n }
 {
     let mut text = take_bytes(request, n);
     match access.read(rt, pass, at, text.as_mut_slice()) {

@@ -10,20 +10,20 @@ ghost use Rattle.bc_medium.specs.KeyedDisk.{enciphered, deciphered, Written, Fau
 ghost use Rattle.bc_medium.specs.Entries.{written_entry, read_entry, failed_entry, unit_name};
 ghost use Rattle.bc_medium.specs.Medium.{Belongs, HasRoom, OwnsSectors, Accesses, AnswersSeen, FailedAsPlanned};
 ghost use Rattle.bc_profile.specs.Passes.{IsOf, row_at};
-ghost use Rattle.bc_ufs.specs.Controllers.{Serves, KeepsTo, via_of};
+ghost use Rattle.bc_ufs.specs.Controllers.{Serves, via_of};
 
 use crate::last_cipher::{LastCipher, is_of};
 use bc_base::{BLOCK_BYTES, Place, Store};
 use bc_bio::Context;
 use bc_key::{Key, Keys};
 use bc_medium::{Fault, Medium, MediumPass, UnitAt, Via};
-use bc_modes::{UfsCaps, cipher_of_words, entry_laws};
+use bc_modes::{UfsCaps, entry_laws};
 use bc_profile::{Hold, Profile, ROW_WORDS, Row, SlotPass};
 use std::marker::Model;
 use std::sync::Wait;
 
-/// A controller: the number of its device, the keyslots, and what its crypto engine can do. The register row of a key that it
-/// supports is the key's entry.
+/// A controller: the number of its device, the keyslots, and what its crypto engine can do. The register row of a key
+/// that it supports is the key's entry.
 #[derive(Drop)]
 pub struct Controller {
     device: u8,
@@ -76,9 +76,9 @@ impl Controller {
         self.profile
     }
 
-    /// Writes a data unit: loads the 18 registers of the hold's slot, enciphers by them what is written, in `scratch`, and
-    /// writes that to the medium. The hold is the pass's, of the context's key, which the controller supports; the row of
-    /// that key is its entry. The other conditions are those of [`Medium::write_unit`], whose promise this is.
+    /// Writes a data unit: loads the 18 registers of the hold's slot, enciphers by them what is written, in `scratch`,
+    /// and writes that to the medium. The hold is the pass's, of the context's key, which the controller supports; the
+    /// row of that key is its entry. The other conditions are those of [`Medium::write_unit`], whose promise this is.
     ///
     /// # Errors
     /// The store failed: no sector has changed. The fault has the entry's place, and comes with `plain`.
@@ -121,8 +121,8 @@ impl Controller {
         )
     }
 
-    /// Writes a data unit, as [`Controller::write`]. It keeps the cipher in `last`, and takes the one that is there where the
-    /// registers still have its words.
+    /// Writes a data unit, as [`Controller::write`]. It keeps the cipher in `last`, and takes the one that is there
+    /// where the registers still have its words.
     pub fn write_with<S: Store, R: Wait>(
         &self,
         rt: &R,
@@ -138,14 +138,13 @@ impl Controller {
         requires slots { IsOf self.now.profile slots.old }
         requires held { slots.old.hold ≡ Some hold.now }
         requires serves { Serves self.now medium.now.keys.keys at.now.context hold.now }
-        requires last { KeepsTo self.now.caps last.old }
         requires pass { Belongs medium.now units.old }
         requires caller { at.now.caller ≡ units.old.caller }
         requires length { length plain.items ≡ 512 * unit_sectors medium.now.keys.keys at.now.context }
         requires spare { HasRoom medium.now units.old at.now.sector }
-        requires sectors { OwnsSectors S.owns medium.now at.now.sector (unit_sectors medium.now.keys.keys at.now.context) }
+        requires sectors { OwnsSectors S.owns medium.now at.now.sector
+            (unit_sectors medium.now.keys.keys at.now.context) }
         ensures slots { slots.new ≡ slots.old }
-        ensures last { KeepsTo self.now.caps last.new }
         ensures pass { Belongs medium.now units.new }
         ensures caller { units.new.caller ≡ units.old.caller }
         ensures performs { IfOk result (Accesses medium.now units.old units.new
@@ -206,8 +205,8 @@ impl Controller {
         self.read_with(rt, slots, hold, medium, units, &at, text, &mut last)
     }
 
-    /// Reads a data unit, as [`Controller::read`]. It keeps the cipher in `last`, and takes the one that is there where the
-    /// registers still have its words.
+    /// Reads a data unit, as [`Controller::read`]. It keeps the cipher in `last`, and takes the one that is there where
+    /// the registers still have its words.
     pub fn read_with<S: Store, R: Wait>(
         &self,
         rt: &R,
@@ -222,14 +221,13 @@ impl Controller {
         requires slots { IsOf self.now.profile slots.old }
         requires held { slots.old.hold ≡ Some hold.now }
         requires serves { Serves self.now medium.now.keys.keys at.now.context hold.now }
-        requires last { KeepsTo self.now.caps last.old }
         requires pass { Belongs medium.now units.old }
         requires caller { at.now.caller ≡ units.old.caller }
         requires length { length text.old ≡ 512 * unit_sectors medium.now.keys.keys at.now.context }
         requires spare { HasRoom medium.now units.old at.now.sector }
-        requires sectors { OwnsSectors S.owns medium.now at.now.sector (unit_sectors medium.now.keys.keys at.now.context) }
+        requires sectors { OwnsSectors S.owns medium.now at.now.sector
+            (unit_sectors medium.now.keys.keys at.now.context) }
         ensures slots { slots.new ≡ slots.old }
-        ensures last { KeepsTo self.now.caps last.new }
         ensures pass { Belongs medium.now units.new }
         ensures caller { units.new.caller ≡ units.old.caller }
         ensures performs { IfOk result (Accesses medium.now units.old units.new
@@ -276,10 +274,8 @@ impl Controller {
         requires slots { IsOf self.now.profile slots.old }
         requires held { slots.old.hold ≡ Some hold.now }
         requires serves { Serves self.now keys.now.keys context hold.now }
-        requires last { KeepsTo self.now.caps last.old }
         requires length { length text.old ≡ 512 * unit_sectors keys.now.keys context }
         ensures slots { slots.new ≡ slots.old }
-        ensures last { KeepsTo self.now.caps last.new }
         ensures enciphers { text.new ≡ enciphered keys.now.keys context text.old }
         ensures length { length text.new ≡ length text.old }
     {
@@ -288,7 +284,7 @@ impl Controller {
         };
         self.load_cipher(slots, hold, keys.get(context.key), last);
         match last {
-            Some(last) => last.cipher.encrypt(&context.dun, text),
+            Some(last) => last.cipher().encrypt(&context.dun, text),
             None => unreachable!(),
         }
     }
@@ -306,10 +302,8 @@ impl Controller {
         requires slots { IsOf self.now.profile slots.old }
         requires held { slots.old.hold ≡ Some hold.now }
         requires serves { Serves self.now keys.now.keys context hold.now }
-        requires last { KeepsTo self.now.caps last.old }
         requires length { length text.old ≡ 512 * unit_sectors keys.now.keys context }
         ensures slots { slots.new ≡ slots.old }
-        ensures last { KeepsTo self.now.caps last.new }
         ensures deciphers { text.new ≡ deciphered keys.now.keys context text.old }
         ensures length { length text.new ≡ length text.old }
     {
@@ -318,13 +312,13 @@ impl Controller {
         };
         self.load_cipher(slots, hold, keys.get(context.key), last);
         match last {
-            Some(last) => last.cipher.decrypt(&context.dun, text),
+            Some(last) => last.cipher().decrypt(&context.dun, text),
             None => unreachable!(),
         }
     }
 
-    /// Loads the registers of the hold's slot, and has the cipher that they mean: the one that is there, where it is that of
-    /// the same words, and else a new one.
+    /// Loads the registers of the hold's slot, and has the cipher that they mean: the one that is there, where it is
+    /// that of the same words, and else a new one.
     fn load_cipher(
         &self,
         slots: &mut SlotPass,
@@ -336,21 +330,19 @@ impl Controller {
         requires held { slots.old.hold ≡ Some hold.now }
         requires valid { IsValid key.now.config key.now.raw }
         requires entry { entry_words key.now self.now.caps ≡ Some (row_at self.now.profile hold.now.key) }
-        requires last { KeepsTo self.now.caps last.old }
         ensures slots { slots.new ≡ slots.old }
-        ensures last { KeepsTo self.now.caps last.new }
-        ensures cipher { IsSomeAnd last.new (λ l. l.parts ≡ parts_of key.now) }
+        ensures cipher { IsSomeAnd last.new (λ parts. parts ≡ parts_of key.now) }
     {
         entry_laws();
         let caps = &self.caps;
         let words = self.load(slots, hold);
-        if is_of(last, &words) {
+        if is_of(last, &words, caps) {
             return;
         }
-        let Ok(cipher) = cipher_of_words(&words, caps) else {
+        let Ok(cipher) = LastCipher::of_words(words, caps) else {
             unreachable!()
         };
-        *last = Some(LastCipher { words, cipher });
+        *last = Some(cipher);
     }
 
     /// The 18 registers of the hold's slot.
