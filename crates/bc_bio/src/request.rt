@@ -48,6 +48,10 @@ impl Request {
     ghost use Rattle.bc_bio.specs.contracts.unit.Unit.{the_row as unit_row};
 
     /// No bios yet, and memory for `room` of them.
+    ///
+    /// # Errors
+    ///
+    /// `AllocError` where there is no memory for them.
     pub fn new(alloc: Global, room: usize) -> Result<Request, AllocError>
         ensures { IfOk result (λ request. request ≡ record { bios = []; spare = room }) }
     {

@@ -14,9 +14,11 @@ use crate::{BookBase, Event, Noted, SlotState, SlotWord, Words};
 use bc_turn::Story;
 use std::alloc::{AllocError, Global};
 use std::marker::Model;
+use thiserror::Error;
 
 /// Why a key isn't taken out: its slot was found with so many references.
-#[derive(Clone, Copy, Debug, PartialEq, Eq)]
+#[derive(Clone, Copy, Debug, PartialEq, Eq, Error)]
+#[error("the key's slot {slot} has {refs} references")]
 pub struct Busy {
     pub slot: u16,
     pub refs: u16,

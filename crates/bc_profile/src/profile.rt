@@ -16,9 +16,11 @@ use std::alloc::{AllocError, Global};
 use std::marker::Model;
 use std::sync::Wait;
 use std::thread;
+use thiserror::Error;
 
 /// Why no hold was taken: no slot has the key, and each was found held.
-#[derive(Debug, Drop)]
+#[derive(Debug, Drop, Error)]
+#[error("no slot has the key, and each is held")]
 pub struct AllHeld {
     /// What each slot was found to be.
     pub words: Words,

@@ -209,7 +209,14 @@ fn put_program(text: &mut Vec<u8>, slot: u32, key: u32, skipped: &[Skip]) -> Res
 }
 
 /// The fields of the slots that were passed over, each with a space before it.
-#[tactic(auto, using(crate::proofs::Printed::spaced_more, crate::proofs::Printed::some_skips, crate::proofs::Printed::no_skips))]
+#[tactic(
+    auto,
+    using(
+        crate::proofs::Printed::spaced_more,
+        crate::proofs::Printed::some_skips,
+        crate::proofs::Printed::no_skips
+    )
+)]
 fn put_skips(text: &mut Vec<u8>, skipped: &[Skip]) -> Result<(), AllocError>
     ensures { OnOk result (text.new.items ≡ text.old.items ++ spaced (skip_fields skipped.now)) }
 {

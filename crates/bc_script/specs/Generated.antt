@@ -18,10 +18,11 @@ use Rattle.bc_script.specs.Script.{Script}
 
 -- ---- the disk, its device and its keys
 
--- how many blocks of 4096 bytes the disk has, and how many threads there are
+-- how many blocks of 4096 bytes the disk has
 abbrev pub generated_blocks : ℕ
 generated_blocks = 1024
 
+-- how many threads it has, each with a section of its own
 abbrev pub generated_threads : ℕ
 generated_threads = 16
 

@@ -224,10 +224,11 @@ pub record AreSections (devices : ℕ) (keys : List KeyData) (threads : List (Li
 abbrev pub device_count : Script → ℕ
 device_count script = length script.targets
 
--- an operation, and a section, of a script
+-- an operation of a script: its device and its key are there, its bio and what it writes valid
 abbrev pub IsScriptOp : Script → Op → Type 0
 IsScriptOp script op = IsOp (device_count script) (keys_of script) op
 
+-- a section of a script: its operations are within the ranges of the script's devices and keys
 abbrev pub IsScriptSection : Script → List Op → Type 0
 IsScriptSection script section = IsSection (device_count script) (keys_of script) section
 

@@ -122,7 +122,8 @@ fn counted_bytes(first: u8) -> [u8; 64]
 #[tactic(auto, using(crate::proofs::GeneratedLoops::section_more))]
 fn sections(alloc: Global, n: u32) -> Result<Vec<Items<Op>>, AllocError>
     requires { n ≤ max_generated }
-    ensures { IfOk result (λ sections. sections.items ≡ map (generated_section n) (range_with_len 0 generated_threads)) }
+    ensures { IfOk result (λ sections.
+        sections.items ≡ map (generated_section n) (range_with_len 0 generated_threads)) }
 {
     let mut sections = Vec::new(alloc);
     for thread in 0..MAX_THREADS as u32 {

@@ -10,7 +10,12 @@ use bc_medium::{Entry, UnitAt, Via};
 use bc_report::Line;
 use std::alloc::{AllocError, Global};
 
-/// The lines of the entries of each shard.
+/// The lines of the entries of each shard, by shard and in the order of its entries. A report has them
+/// as the parts of its shards.
+///
+/// # Errors
+///
+/// `AllocError` where there is no memory for the lines.
 pub fn lines_of_shards(
     alloc: Global,
     orders: &[Vec<Entry>],

@@ -18,7 +18,8 @@ abbrev pub HasBioAt : List KeyData → List (Option Bio) → ℕ → Type 0
 HasBioAt keys bios o = (bio : Bio) × At bios o (Some bio) × IsPlaced keys (extent_of bio)
 
 -- the bios that stood at these places are plugged, and nothing else
-pub record IsPlugged (keys : List KeyData) (bios : List (Option Bio)) (window : List ℕ) (plug : PlugParts) : Type 0 where
+pub record IsPlugged (keys : List KeyData) (bios : List (Option Bio)) (window : List ℕ)
+    (plug : PlugParts) : Type 0 where
   pub taken : List Bio
   pub each : AllZip (λ o bio. At bios o (Some bio)) window taken
   pub plugged : bios_of plug.requests ≡ map unmarked taken

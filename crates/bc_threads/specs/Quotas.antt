@@ -38,9 +38,10 @@ sections_of (section ∷ sections) = section ∷ sections
 abbrev pub unit_rows : Script → ℕ → List (List ℕ)
 unit_rows script shards = map (unit_row script shards) (sections_of script.threads)
 
--- by caller, how many events it may make on each device: two for each operation
+-- how many events a caller of this section may make on each device: two for each operation
 abbrev pub event_row : Script → List Op → List ℕ
 event_row script section = replicate (length script.targets) (2 * length section)
 
+-- the same by caller
 abbrev pub event_rows : Script → List (List ℕ)
 event_rows script = map (event_row script) (sections_of script.threads)

@@ -207,6 +207,10 @@ impl<V: Story> Cell<V> {
 
 impl<V: Story + Drop> Cell<V> {
     /// A cell, and the seat that stands for all its callers.
+    ///
+    /// # Errors
+    ///
+    /// `AllocError` where there is no memory for the cell, its word or its seats. The value is dropped.
     pub fn open(
         alloc: Global,
         value: V,

@@ -54,7 +54,8 @@ pub record DigitsOf (digits : List ℕ) (holds : List ℕ → Type 0) : Type 0 w
 abbrev pub IsNoKeyFor : List ℕ → ℕ → Refusal → Type 0
 IsNoKeyFor raw size (refusals.KeySize got) = (length raw ≡ got) × (mode_of_size got ≡ None)
 IsNoKeyFor raw size (refusals.TextSize got) = (size ≡ got) × (4096 < got)
-IsNoKeyFor raw size (refusals.Key error) = MatchOption (mode_of_size (length raw)) ⊥ (λ mode. key_refusal mode raw size 16 ≡ Some error)
+IsNoKeyFor raw size (refusals.Key error) =
+    MatchOption (mode_of_size (length raw)) ⊥ (λ mode. key_refusal mode raw size 16 ≡ Some error)
 IsNoKeyFor raw size _ = ⊥
 
 -- why nothing becomes of KEY, NUMBER and a text of so many bytes

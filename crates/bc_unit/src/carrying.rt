@@ -8,6 +8,7 @@ ghost use Rattle.bc_unit.specs.Printed.{digits_line, HasReasonInDigits, PrintsDi
 
 use crate::direction::Direction;
 use crate::refusal::Refusal;
+use bc_base::BLOCK_BYTES;
 use bc_key::{Dun, Key, Mode};
 use bc_modes::UnitCipher;
 use hex::FromHexError;
@@ -92,7 +93,7 @@ fn key_for(raw: &[u8], size: usize) -> Result<Key, Refusal>
     let Some(mode) = mode_of_size(raw.len()) else {
         return Err(Refusal::KeySize { got: raw.len() });
     };
-    if size > 4096 {
+    if size > BLOCK_BYTES {
         return Err(Refusal::TextSize { got: size });
     }
     match Key::new(mode, raw, size as u32, 16) {

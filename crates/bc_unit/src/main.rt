@@ -17,6 +17,7 @@ mod carrying;
 mod direction;
 mod refusal;
 
+use bc_base::BLOCK_BYTES;
 use direction::Direction;
 use refusal::Refusal;
 use std::alloc::Global;
@@ -32,7 +33,7 @@ const USAGE: &str =
 A data unit has 512, 1024, 2048 or 4096 bytes.";
 
 /// No data unit has more bytes, so of standard input at most one more is read.
-const MOST_BYTES: u64 = 4096;
+const MOST_BYTES: u64 = BLOCK_BYTES as u64;
 
 /// How the process ends where a stream fails.
 const READING_FAILED: u8 = 3;
