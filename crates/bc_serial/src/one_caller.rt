@@ -70,7 +70,7 @@ pub fn serial(
     } = course;
     let devices = keyslots.close(alloc)?;
     let (stores, orders) = shards.close();
-    let image = RamStore::join(alloc, &stores, script.blocks())?;
+    let image = RamStore::into_image(alloc, stores, script.blocks())?;
     let lines = lines_of_shards(alloc, orders.as_slice())?;
     sections_make_a_lawful_run();
     sections_in_turn_make_a_serial_run();
@@ -92,7 +92,7 @@ fn begin<'s>(
     requires shards { (1 ≤ shards) × (shards ≤ 64) }
     ensures { IfOk result (IsBegun script.now image.items shards) }
 {
-    let stores = stores_of(alloc, script, image.as_slice(), shards)?;
+    let stores = stores_of(alloc, script, image, shards)?;
     let quotas = vec![in alloc; MAX_ACTIONS; usize::from(shards)]?;
     let course = Course {
         script,

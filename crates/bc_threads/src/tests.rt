@@ -147,7 +147,7 @@ fn by_sections<G: Gate + Sync, R: Threads + Wait + Sync>(
     requires shards { (1 ≤ shards) × (shards ≤ 64) }
     requires some { 1 ≤ length script.now.threads }
 {
-    let Opened { disk, passes } = open_disk(alloc, script, image.as_slice(), shards)?;
+    let Opened { disk, passes } = open_disk(alloc, script, image, shards)?;
     let (passes, answers) = carry_out_some(rt, alloc, script, &disk, passes, gate)?;
     finish(rt, alloc, script, disk, passes, answers)
 }

@@ -31,8 +31,8 @@ carry_sections_out-requires-clause-spare c =
     let ops : sum_by length c.threads.result.now ≤ max_ops = subst (λ l. sum_by length l ≤ max_ops) (sym c.threads.ensures.value) c.threads.ensures.rules.threads.few_ops in
     omega (arith, c.in_ok-direct.ensures.left)
 
-pub join-requires : goal.join-requires
-join-requires c =
+pub into_image-requires : goal.into_image-requires
+into_image-requires c =
     let script = c.args.script.now in
     let rules : IsScript script = c.blocks-2.ensures.rules in
     let v0 = c.in_ok-direct.direct in
@@ -52,7 +52,7 @@ join-requires c =
     (subst (λ l. SectionsDone (device_of v0) (device_of c.carry_sections_out.new.direct) l c.in_ok-answers.answers) c.threads.ensures.value c.in_ok-answers.ensures.done) in
     let has : HasBegun v1.begun v1.journals = subst (λ (v : CourseData). HasBegun v.begun v.journals) (sym is) c.in_ok-answers.ensures.begun in
     let orders : List (List Entry) = map (λ o. o.items) c.close-stores.result.1.items in
-    subst (λ b. HaveAllSectors b c.deref.result.now) (sym c.blocks-2.ensures.value) (subst (HaveAllSectors script.blocks) (sym c.deref.ensures.value) (have_all script rules c.args.image.items c.args.shards c.requires.shards.0 c.requires.shards.1 c.requires.length v0 v1 c.in_ok-direct.ensures c.in_ok-answers.answers done has c.course.inside.ciphers keyslots c.course.invariant c.close-stores.result.0.items orders c.close-stores.ensures.stores c.close-stores.ensures.entries c.close-stores.ensures.orders c.close-stores.ensures.left))
+    subst (λ b. HaveAllSectors b c.close-stores.result.0.items) (sym c.blocks-2.ensures.value) (have_all script rules c.args.image.items c.args.shards c.requires.shards.0 c.requires.shards.1 c.requires.length v0 v1 c.in_ok-direct.ensures c.in_ok-answers.answers done has c.course.inside.ciphers keyslots c.course.invariant c.close-stores.result.0.items orders c.close-stores.ensures.stores c.close-stores.ensures.entries c.close-stores.ensures.orders c.close-stores.ensures.left)
 
 pub lines_of_shards-requires : goal.lines_of_shards-requires
 lines_of_shards-requires c =
@@ -105,7 +105,7 @@ new-requires c =
     let long : length left ≡ 4096 * script.blocks = c.in_ok-image.ensures.length ∙ ap (λ n. 4096 * n) c.blocks-2.ensures.value in
     let sectors : (s : ℕ) → s < 8 * script.blocks → AllAt c.close-stores.result.0.items (shard_of (length c.close-stores.result.0.items) s) (λ store. image_sectors left s ≡ contents store s) =
     subst (λ b. (s : ℕ) → s < 8 * b → AllAt c.close-stores.result.0.items (shard_of (length c.close-stores.result.0.items) s) (λ store. image_sectors left s ≡ contents store s)) c.blocks-2.ensures.value
-    (subst (λ l. (s : ℕ) → s < 8 * c.blocks-2.result → AllAt l (shard_of (length l) s) (λ store. image_sectors left s ≡ contents store s)) c.deref.ensures.value c.in_ok-image.ensures.sectors) in
+    c.in_ok-image.ensures.sectors in
     let lines : c.in_ok-lines.lines ≡ map (map line_of) orders =
     c.in_ok-lines.ensures.lines ∙ ap (map (λ (o : Vec Entry Global). map line_of o.items)) c.as_slice.ensures.value ∙ sym (map-map (λ (o : Vec Entry Global). o.items) (map line_of) c.close-stores.result.1.items) in
     let devices : c.in_ok-devices.devices ≡ v1.journals = c.in_ok-devices.ensures.journals in
@@ -137,7 +137,7 @@ returns-clause-lawful c =
     let long : length left ≡ 4096 * script.blocks = c.in_ok-image.ensures.length ∙ ap (λ n. 4096 * n) c.blocks-2.ensures.value in
     let sectors : (s : ℕ) → s < 8 * script.blocks → AllAt c.close-stores.result.0.items (shard_of (length c.close-stores.result.0.items) s) (λ store. image_sectors left s ≡ contents store s) =
     subst (λ b. (s : ℕ) → s < 8 * b → AllAt c.close-stores.result.0.items (shard_of (length c.close-stores.result.0.items) s) (λ store. image_sectors left s ≡ contents store s)) c.blocks-2.ensures.value
-    (subst (λ l. (s : ℕ) → s < 8 * c.blocks-2.result → AllAt l (shard_of (length l) s) (λ store. image_sectors left s ≡ contents store s)) c.deref.ensures.value c.in_ok-image.ensures.sectors) in
+    c.in_ok-image.ensures.sectors in
     let lines : c.in_ok-lines.lines ≡ map (map line_of) orders =
     c.in_ok-lines.ensures.lines ∙ ap (map (λ (o : Vec Entry Global). map line_of o.items)) c.as_slice.ensures.value ∙ sym (map-map (λ (o : Vec Entry Global). o.items) (map line_of) c.close-stores.result.1.items) in
     let devices : c.in_ok-devices.devices ≡ v1.journals = c.in_ok-devices.ensures.journals in
@@ -176,7 +176,7 @@ returns-clause-serial c =
     let long : length left ≡ 4096 * script.blocks = c.in_ok-image.ensures.length ∙ ap (λ n. 4096 * n) c.blocks-2.ensures.value in
     let sectors : (s : ℕ) → s < 8 * script.blocks → AllAt c.close-stores.result.0.items (shard_of (length c.close-stores.result.0.items) s) (λ store. image_sectors left s ≡ contents store s) =
     subst (λ b. (s : ℕ) → s < 8 * b → AllAt c.close-stores.result.0.items (shard_of (length c.close-stores.result.0.items) s) (λ store. image_sectors left s ≡ contents store s)) c.blocks-2.ensures.value
-    (subst (λ l. (s : ℕ) → s < 8 * c.blocks-2.result → AllAt l (shard_of (length l) s) (λ store. image_sectors left s ≡ contents store s)) c.deref.ensures.value c.in_ok-image.ensures.sectors) in
+    c.in_ok-image.ensures.sectors in
     let lines : c.in_ok-lines.lines ≡ map (map line_of) orders =
     c.in_ok-lines.ensures.lines ∙ ap (map (λ (o : Vec Entry Global). map line_of o.items)) c.as_slice.ensures.value ∙ sym (map-map (λ (o : Vec Entry Global). o.items) (map line_of) c.close-stores.result.1.items) in
     let devices : c.in_ok-devices.devices ≡ v1.journals = c.in_ok-devices.ensures.journals in

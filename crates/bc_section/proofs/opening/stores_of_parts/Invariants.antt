@@ -1,7 +1,7 @@
 use Rattle.std.proofs.Common.{◌≡◌, ℕ, length}
 use Rattle.bc_base.specs.Lists.{AllAt}
 use Rattle.bc_section.specs.Openings.{IsOpening}
-use Rattle.bc_section.proofs.opening.stores_of.Given as goal
+use Rattle.bc_section.proofs.opening.stores_of_parts.Given as goal
 
 abbrev pub invariant-loop-shard : goal.invariant-loop-shard
 invariant-loop-shard l = record {

@@ -1,7 +1,7 @@
 use Rattle.std.proofs.Common.{ap, arith, rules, length}
 use Rattle.bc_section.specs.Openings.{IsOpening}
 use Rattle.bc_section.proofs.Openings.{places_none, places_more}
-use Rattle.bc_section.proofs.opening.stores_of.Goals as goal
+use Rattle.bc_section.proofs.opening.stores_of_parts.Goals as goal
 
 pub loop-shard-init : goal.loop-shard-init
 loop-shard-init c = record {
