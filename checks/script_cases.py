@@ -605,6 +605,15 @@ DEVICES_REPORTED = [
     ("a reset of a device without a programmed slot", 1, one_device(2, [H512], "reset 0", *writes("a")),
         ["report 1", "thread 0", "reset", "done", "shard 0 1", "0 1 0 inline 0 0 1", "device 0 3", "reset", "program 0 0", "idle 0",
          "end"]),
+    # of the section under small0 the eleventh data unit, at the place 10, meets the fault; without the fallback none is tried
+    *((f"a line of each form, fallback {fallback}", 1, with_devices(
+        36, fallback, "device 0 35 31 11 1 1", "device 35 1 32 12 2 2", H512,
+        f"key small0 aes-128-cbc-essiv 4096 16 {E1}", "fault 0 10", "fault 63 65535", "thread",
+        "write - 4294967295 1 - fill 00", "read small0 8 32 ff", "evict a", "thread", "plug", "write a 299 1 13 fill 5a", "reset 1",
+        "unplug"),
+        ["report 1", "thread 0", "refused outside", answer, "evicted", "thread 1", "plug", "refused outside", "reset", "unplug",
+         f"shard 0 {units}", *(f"0 1 {unit} soft" for unit in range(units)), "device 0 0", "device 1 1", "reset", "end"])
+      for fallback, answer, units in [("off", "refused unsupported", 0), ("on", "fault 10", 11)]),
     ("sections one after the other over the same slots", 1,
         one_device(1, [H512, B512], *writes("a"), "thread", *writes("a", "b"), "thread", *writes("a")),
         ["report 1", "thread 0", "done", "thread 1", "done", "done", "thread 2", "done", "shard 0 4", "0 0 0 inline 0 0 0",

@@ -216,6 +216,3 @@ fn sector(n: u32, thread: u32, j: u32) -> u32
 {
     BLOCK_SECTORS * (THREAD_BLOCKS * thread + (7 * j + n) % THREAD_BLOCKS)
 }
-
-#[cfg(test)]
-mod tests;

@@ -46,6 +46,3 @@ pub use parser::parse;
 pub use printing::print;
 pub use script::Script;
 pub use script_error::{ParseError, ScriptError, ScriptWhy};
-
-#[cfg(test)]
-mod tests;

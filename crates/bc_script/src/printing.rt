@@ -352,6 +352,3 @@ fn put_name(text: &mut Vec<u8>, keys: &[NamedKey], number: KeyNo) -> Result<(), 
         Some(named) => text.extend_from_slice(named.name.as_bytes()),
     }
 }
-
-#[cfg(test)]
-mod tests;
