@@ -1,5 +1,6 @@
--- Key expansion of AES: FIPS 197, section 5.2. A key of nk words of 4 bytes (4 for AES-128, 8 for AES-256) becomes
--- a schedule of 4 (nr + 1) words, one round key of four words for each of the rounds 0 to nr.
+-- Key expansion of AES: FIPS 197, section 5.2. A key of nk words of 4 bytes (4 for AES-128, 8 for
+-- AES-256) becomes a schedule of 4 (nr + 1) words, one round key of four words for each of the
+-- rounds 0 to nr.
 use Rattle.std.specs.Prelude.{ℕ, zero, suc, ◌+◌, ◌-◌, ◌*◌, ◌/◌, ◌%◌, ◌==◌, ◌&&◌, if◌then◌else◌, List, [], ◌∷◌, ◌++◌, map, slice_index, slice_range, bit_xor}
 use Rattle.bc_aes.specs.Field.{times_x}
 use Rattle.bc_aes.specs.State.{sub_byte}

@@ -1,5 +1,6 @@
-//! Eight blocks in bit slices, row after row: bit k of byte 4r + c of slice j is bit j of row r, column c of block k. So one
-//! operation on a slice is that operation on one bit of each of 128 bytes, and rows move as words of 32 bits.
+//! Eight blocks in bit slices, row after row: bit k of byte 4r + c of slice j is bit j of row r,
+//! column c of block k. So one operation on a slice is that operation on one bit of each of 128
+//! bytes, and rows move as words of 32 bits.
 
 ghost use Rattle.std.specs.Prelude.{◌≡◌, ℕ, ◌*◌, ◌<◌, [], take, slice_index_or};
 ghost use Rattle.bc_aes.specs.Blocks.{block};
@@ -42,7 +43,8 @@ fn exchanged_2(a: u8x16, b: u8x16) -> (u8x16, u8x16)
     (a ^ (moved << 2), b ^ moved)
 }
 
-/// The slices with the upper half of each byte of the first and the lower half of each of the second exchanged.
+/// The slices with the upper half of each byte of the first and the lower half of each of the
+/// second exchanged.
 #[inline(always)]
 fn exchanged_4(a: u8x16, b: u8x16) -> (u8x16, u8x16)
     ensures exchanges { Exchanged 4 a b result.0 result.1 }
@@ -53,8 +55,8 @@ fn exchanged_4(a: u8x16, b: u8x16) -> (u8x16, u8x16)
     (a ^ (moved << 4), b ^ moved)
 }
 
-/// Eight blocks in slices from the blocks, and the blocks from the slices: the bits of each byte change places with the
-/// eight vectors.
+/// Eight blocks in slices from the blocks, and the blocks from the slices: the bits of each byte
+/// change places with the eight vectors.
 #[inline(always)]
 fn transposed(q: Slices) -> Slices
     ensures into_slices { (k : ℕ) → k < 8 → vector_of (slices_of result) k ≡ slice_index_or (slices_of q) k [] }

@@ -1,5 +1,5 @@
--- The laws of the unit cipher: deciphering undoes enciphering, and enciphering makes a text as long. And of entries: a key's
--- entry means the key's cipher.
+-- The laws of the unit cipher: deciphering undoes enciphering, and enciphering makes a text as
+-- long. And of entries: a key's entry means the key's cipher.
 use Rattle.std.specs.Prelude.{◌≡◌, ℕ, ◌%◌, ◌<◌, ◌≤◌, List, length, All, Some, Ok}
 use Rattle.bc_key.specs.KeyData.{KeyData, IsValid}
 use Rattle.bc_modes.specs.Capabilities.{Capabilities}
@@ -33,7 +33,8 @@ abbrev pub DecipheringKeepsLength : Type 0
 DecipheringKeepsLength =
     (key : KeyData) (number : ℕ) (text : List ℕ) → length text % 16 ≡ 0 → length (dec key number text) ≡ length text
 
--- what the words of a valid key's entry are: 18 of them, which are read as the parts of the key's cipher
+-- what the words of a valid key's entry are: 18 of them, which are read as the parts of the key's
+-- cipher
 pub record IsEntryOfKey (key : KeyData) (caps : Capabilities) (words : List ℕ) : Type 0 where
   pub count : length words ≡ 18
   pub read : read_words words caps ≡ Ok (parts_of key)

@@ -1,5 +1,5 @@
--- Private: the contracts of private functions alone speak of these. What a unit cipher's expanded key was made of, and which way
--- XTS takes its blocks.
+-- Private: the contracts of private functions alone speak of these. What a unit cipher's expanded
+-- key was made of, and which way XTS takes its blocks.
 use Rattle.std.specs.Prelude.{ℕ, List}
 use Rattle.bc_key.specs.declared.config.Mode.{Mode}
 use Rattle.bc_key.specs.declared.config.Mode.TheVariants.{Aes256Xts, Aes128CbcEssiv}

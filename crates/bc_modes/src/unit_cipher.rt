@@ -9,7 +9,8 @@ use crate::xts::Xts;
 use bc_key::{DataUnit, Dun, Key, Mode};
 use std::marker::Model;
 
-/// What enciphers and deciphers the data units of one key. Its round keys are expanded once, when it is made.
+/// What enciphers and deciphers the data units of one key. Its round keys are expanded once, when
+/// it is made.
 ///
 /// A contract sees the mode, the data unit's size and the key's bytes.
 #[derive(Drop)]
@@ -53,8 +54,8 @@ impl UnitCipher {
         UnitCipher::of_parts(config.mode, config.unit, &raw)
     }
 
-    /// The cipher of a mode, a data unit's size and a key's bytes, of which the mode takes as many as its keys have: all
-    /// 64, or the first 16.
+    /// The cipher of a mode, a data unit's size and a key's bytes, of which the mode takes as many
+    /// as its keys have: all 64, or the first 16.
     pub fn of_parts(mode: Mode, unit: DataUnit, raw: &[u8; 64]) -> UnitCipher
         ensures mode { result.mode ≡ mode }
         ensures unit { result.unit ≡ unit }
