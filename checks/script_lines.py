@@ -75,7 +75,7 @@ REFUSED = [
         "device 0 2 1 1 0 8\ndevice 0 1 1 1 0 8\n", "device 0 3 1 1 0 8\ndevice 0 3 1 1 0 8\n"]),
     (5, "device", HEAD, ["device 0 2 1 1 0 8\nend\n"]),
     (5, "number", WHOLE_DEVICE, ["device 4294967295 7 65535 0 255 16\n"]),
-    # devices of fewer blocks than the disk, or of more, are found at the first line after them, behind its other tests
+    # devices of fewer blocks than the disk, or of more, are found at the first line after them, after its other tests
     *(of_line for blocks in [2, 4, 16384] for device in [f"{THREE_BLOCKS}device 0 {blocks} 1 1 0 8\n"] for of_line in [
         (5, "device", device, ["end\n", "thread\nplug\nend\n", "fault 0 0\n", KEY, KEY + KEY]),
         (5, "end", device, ["", "end", "thread"]),

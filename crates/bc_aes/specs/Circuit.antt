@@ -26,15 +26,15 @@ pub record Logic (A : Type 0) : Type 0 where
   pub ones : A
 
 -- the value of a gate
-abbrev pub value_of : {A : Type 0} → Logic A → List A → Gate → A
-value_of logic values g =
+abbrev pub gate_value : {A : Type 0} → Logic A → List A → Gate → A
+gate_value logic values g =
     if g.is_and then logic.and (slice_index_or values g.left logic.zeros) (slice_index_or values g.right logic.zeros)
     else logic.xor (slice_index_or values g.left logic.zeros) (slice_index_or values g.right logic.zeros)
 
 -- the values after these gates: each gate's value becomes the newest
 abbrev pub values_after : {A : Type 0} → Logic A → List Gate → List A → List A
 values_after logic [] values = values
-values_after logic (g ∷ gates) values = values_after logic gates (value_of logic values g ∷ values)
+values_after logic (g ∷ gates) values = values_after logic gates (gate_value logic values g ∷ values)
 
 -- gates, and where their results stand in the end
 pub record Circuit : Type 0 where

@@ -43,7 +43,7 @@ added_word nk i w =
     then xor_word (sub_word (rot_word w)) (rcon (i / nk))
     else (if nk == 8 && i % 8 == 4 then sub_word w else w)
 
--- a schedule's first i words, with word i behind them
+-- a schedule's first i words, with word i after them
 unfoldable pub with_word : ℕ → ℕ → List ℕ → List ℕ
 with_word nk i schedule = schedule ++ xor_word (word schedule (i - nk)) (added_word nk i (word schedule (i - 1)))
 

@@ -6,7 +6,7 @@ use Rattle.bc_aes.specs.State.{at, state_of, sub_byte, inv_sub_byte, add_round_k
 use Rattle.bc_aes.specs.Cipher.{round, last_round, inv_round, inv_last_round, encipher_by, decipher_by}
 use Rattle.bc_aes.specs.KeyExpansion.{key_expansion, round_key}
 use Rattle.bc_aes.specs.Columns.{schedule_bytes, IsUnmixed}
-use Rattle.bc_aes.specs.Slices.{slices_of, block_of}
+use Rattle.bc_aes.specs.Slices.{slices_of, sliced_block}
 use Rattle.bc_aes.specs.declared.slices.Slices.{Slices}
 
 -- each column moves up by n rows, round about
@@ -57,13 +57,13 @@ key_in_slices (suc n) key = raised key
 
 -- each block of the new slices is `f` of that block of the old ones and that block of the key
 pub record EachSlicedByKey (f : List ℕ → List ℕ → List ℕ) (old key new : List (List ℕ)) : Type 0 where
-  pub each : (k : ℕ) → k < 8 → block_of new k ≡ f (block_of old k) (block_of key k)
+  pub each : (k : ℕ) → k < 8 → sliced_block new k ≡ f (sliced_block old k) (sliced_block key k)
 
 -- the round keys of a schedule, each of them in all eight blocks, with the constant but for the
 -- first
 pub record AreRoundKeys (schedule : List ℕ) (keys : List Slices) : Type 0 where
   pub each : (round k : ℕ) (d : Slices) → round < length keys → k < 8
-      → block_of (slices_of (slice_index_or keys round d)) k ≡ key_in_slices round (round_key schedule round)
+      → sliced_block (slices_of (slice_index_or keys round d)) k ≡ key_in_slices round (round_key schedule round)
 
 -- encipherment under a schedule of as many rounds as these round keys have
 abbrev pub encipher_by_keys : List Slices → List ℕ → List ℕ → List ℕ

@@ -23,12 +23,12 @@ abbrev pub by_rows : List ℕ → List ℕ
 by_rows bytes = state_of (λ r c. slice_index bytes (4 * r + c))
 
 -- block k
-abbrev pub block_of : List (List ℕ) → ℕ → List ℕ
-block_of slices k = state_of (λ r c. byte_of slices k (4 * r + c))
+abbrev pub sliced_block : List (List ℕ) → ℕ → List ℕ
+sliced_block slices k = state_of (λ r c. byte_of slices k (4 * r + c))
 
 -- each block of the new slices is `f` of that block of the old ones
 pub record EachSlicedBlock (f : List ℕ → List ℕ) (old new : List (List ℕ)) : Type 0 where
-  pub each : (k : ℕ) → k < 8 → block_of new k ≡ f (block_of old k)
+  pub each : (k : ℕ) → k < 8 → sliced_block new k ≡ f (sliced_block old k)
 
 -- the 16 numbers of a slice are bytes
 abbrev pub AreBytes : List ℕ → Type 0

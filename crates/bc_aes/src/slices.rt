@@ -4,7 +4,7 @@
 
 ghost use Rattle.std.specs.Prelude.{◌≡◌, ℕ, ◌*◌, ◌<◌, [], take, slice_index_or};
 ghost use Rattle.bc_aes.specs.Blocks.{block};
-ghost use Rattle.bc_aes.specs.Slices.{slices_of, vector_of, by_rows, block_of, AreBytes, Exchanged};
+ghost use Rattle.bc_aes.specs.Slices.{slices_of, vector_of, by_rows, sliced_block, AreBytes, Exchanged};
 
 use std::simd::prelude::*;
 
@@ -126,7 +126,7 @@ fn put_vector(piece: &mut [u8; 128], i: usize, vector: u8x16)
 /// Eight blocks, taken into slices.
 #[inline(always)]
 pub(crate) fn from_blocks(piece: &[u8; 128]) -> Slices
-    ensures takes { (k : ℕ) → k < 8 → block_of (slices_of result) k ≡ block piece.now k }
+    ensures takes { (k : ℕ) → k < 8 → sliced_block (slices_of result) k ≡ block piece.now k }
 {
     transposed(Slices {
         s0: vector_at(piece, 0),
@@ -143,7 +143,7 @@ pub(crate) fn from_blocks(piece: &[u8; 128]) -> Slices
 /// Writes the eight blocks that are in slices.
 #[inline(always)]
 pub(crate) fn to_blocks(q: Slices, piece: &mut [u8; 128])
-    ensures gives { (k : ℕ) → k < 8 → block piece.new k ≡ block_of (slices_of q) k }
+    ensures gives { (k : ℕ) → k < 8 → block piece.new k ≡ sliced_block (slices_of q) k }
 {
     let blocks = transposed(q);
     put_vector(piece, 0, by_rows(blocks.s0));

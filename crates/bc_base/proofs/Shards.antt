@@ -7,12 +7,12 @@ use Rattle.std.proofs.lemmas.Bool.{cases_lt, eqb-true, ltb-true}
 use Rattle.std.proofs.lemmas.Bool.Decides.{nat_tests}
 use Rattle.std.proofs.Math.Seq.{drop-append-add}
 use Rattle.std.proofs.lemmas.List.{drop-drop, drop-take, take-take, drop-append-le, take-append-le, take_all}
-use Rattle.bc_base.specs.Places.{block_of, shard_of}
+use Rattle.bc_base.specs.Layout.{block_of, shard_of}
 use Rattle.bc_base.specs.Sectors.{Sectors, image_sectors, bytes_at, with_bytes}
 use Rattle.bc_base.specs.Memory.{Calls}
 use Rattle.bc_base.specs.Stores.{IsPiece}
 use Rattle.bc_base.specs.Lists.{At, AllAt}
-use Rattle.bc_base.specs.RamStores.{RamData, owns, contents, sector_within, block_at, IsWhole, HasBlocksOf, IsShardOf, HaveAllSectors, IsOneImage}
+use Rattle.bc_base.specs.RamStores.{RamData, owns, contents, sector_within, block_at, HasAllBlocks, HasBlocksOf, IsShardOf, HaveAllSectors, IsOneImage}
 use Rattle.bc_base.proofs.Lists.{at_one}
 use Rattle.bc_base.proofs.Image.{image_of-image_sectors}
 
@@ -151,7 +151,7 @@ holds_shard image store some count has s mine =
     ∙ same_sectors store.bytes image (sector_within store.shards s) s place (ap (block_at store.bytes) here ∙ has.same i (omega arith) ∙ ap (block_at image) (sym block))
 
 -- a piece of the shard lies within the bytes
-pub piece_within : (store : RamData) (first count : ℕ) → IsWhole store.bytes store.shard store.shards store.blocks → IsPiece (owns store) first count
+pub piece_within : (store : RamData) (first count : ℕ) → HasAllBlocks store.bytes store.shard store.shards store.blocks → IsPiece (owns store) first count
     → 512 * sector_within store.shards first + 512 * count ≤ length store.bytes
 piece_within store first count whole piece =
     let some : 0 < store.shards = let b = whole.below in omega arith in

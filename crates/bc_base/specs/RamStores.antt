@@ -2,7 +2,7 @@
 use Rattle.std.specs.Prelude.{◌≡◌, ℕ, ◌+◌, ◌*◌, ◌/◌, ◌%◌, ◌<◌, ◌≤◌, Bool, true, ◌&&◌, ◌==◌, nat_lt, List, [], ◌∷◌, length, slice_range, Option, Some, None, Contains, if◌then◌else◌}
 use Rattle.bc_base.specs.Memory.{Calls}
 use Rattle.bc_base.specs.Lists.{AllAt}
-use Rattle.bc_base.specs.Places.{block_of, shard_of}
+use Rattle.bc_base.specs.Layout.{block_of, shard_of}
 use Rattle.bc_base.specs.Sectors.{Sectors, image_sectors}
 
 -- the bytes of the blocks of a shard, one after the other; which shard of how many it is; how many blocks all shards
@@ -15,9 +15,9 @@ pub record RamData : Type 0 where
   pub calls : Calls
 
 -- the least number of the plan that is so much or more, if it has one
-abbrev pub IsNext : List ℕ → ℕ → Option ℕ → Type 0
-IsNext plan from None = (n : ℕ) → Contains plan n → n < from
-IsNext plan from (Some next) = Contains plan next × (from ≤ next) × ((n : ℕ) → Contains plan n → from ≤ n → next ≤ n)
+abbrev pub PlansNext : List ℕ → ℕ → Option ℕ → Type 0
+PlansNext plan from None = (n : ℕ) → Contains plan n → n < from
+PlansNext plan from (Some next) = Contains plan next × (from ≤ next) × ((n : ℕ) → Contains plan n → from ≤ n → next ≤ n)
 
 -- the sectors of the blocks that lie in the shard
 abbrev pub owns : RamData → ℕ → Bool
@@ -36,7 +36,7 @@ abbrev pub block_at : List ℕ → ℕ → List ℕ
 block_at image block = slice_range image (4096 * block) (4096 * block + 4096)
 
 -- the bytes have room for all blocks of the shard: every one of so many, from the shard's own number on
-pub record IsWhole (bytes : List ℕ) (shard shards blocks : ℕ) : Type 0 where
+pub record HasAllBlocks (bytes : List ℕ) (shard shards blocks : ℕ) : Type 0 where
   pub below : shard < shards
   pub long : (i : ℕ) → shard + shards * i < blocks → 4096 * i + 4096 ≤ length bytes
 

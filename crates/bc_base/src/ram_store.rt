@@ -2,7 +2,7 @@
 
 ghost use Rattle.std.specs.Prelude.{◌≡◌, ℕ, ◌+◌, ◌*◌, ◌/◌, ◌%◌, ◌<◌, ◌≤◌, true, List, length, IfOk, IsTrue};
 ghost use Rattle.bc_base.specs.Lists.{AllAt};
-ghost use Rattle.bc_base.specs.Places.{shard_of};
+ghost use Rattle.bc_base.specs.Layout.{shard_of};
 ghost use Rattle.bc_base.specs.Sectors.{image_sectors, bytes_at, with_bytes};
 ghost use Rattle.bc_base.specs.Stores.{IsPieceOf};
 ghost use Rattle.bc_base.specs.RamStores.{IsShardOf, HaveAllSectors, HasBlocksOf, IsOneImage};
@@ -26,14 +26,14 @@ pub struct RamStore {
 }
 
 impl Model for RamStore {
-    ghost use Rattle.bc_base.specs.RamStores.{RamData, IsWhole};
+    ghost use Rattle.bc_base.specs.RamStores.{RamData, HasAllBlocks};
 
     ghost Value = { RamData };
 
     ghost view = { λ s. record
         { bytes = s.bytes.items; shard = s.shard; shards = s.shards; blocks = s.blocks; calls = s.calls } };
 
-    ghost invariant = { λ s. IsWhole s.bytes.items s.shard s.shards s.blocks };
+    ghost invariant = { λ s. HasAllBlocks s.bytes.items s.shard s.shards s.blocks };
 }
 
 impl RamStore {
@@ -155,7 +155,7 @@ impl Store for RamStore {
 
     ghost contents = { λ s. Some (ram.contents s) };
 
-    ghost told = { λ s. Some record { plan = s.calls.fails; calls = s.calls.calls } };
+    ghost calls = { λ s. Some record { plan = s.calls.fails; calls = s.calls.calls } };
 
     ghost faults = { λ s. s.calls.faults };
 

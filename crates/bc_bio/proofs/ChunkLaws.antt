@@ -23,7 +23,7 @@ one_chunk together x z zs y true false is joined = rw (joined, is, joined) refl
 one_chunk together x z zs y false true is joined = rw (joined, is, joined) refl
 one_chunk together x z zs y false false is joined = rw (joined, is, joined) refl
 
--- an element in front and one at the end, in either order
+-- an element at the beginning and one at the end, in either order
 with_first : {X : Type 0} (together : X → X → Bool) (x : X) (chunks : List (List X)) (y : X)
     → chunks_with together x (chunks_and together chunks y) ≡ chunks_and together (chunks_with together x chunks) y
 with_first together x [] y =

@@ -7,7 +7,7 @@ ghost use Rattle.bc_bio.specs.BioUnits.{extent_of};
 ghost use Rattle.bc_bio.specs.Chunks.{joins_last};
 ghost use Rattle.bc_bio.specs.Conditions.{IsPlaced};
 ghost use Rattle.bc_bio.specs.Windows.{IsRequest, count_units, joins, units_of_request};
-ghost use Rattle.bc_bio.specs.Ends.{IsFound, Parts, begin_of};
+ghost use Rattle.bc_bio.specs.Ends.{IsFound, IsPartition, begin_of};
 ghost use Rattle.bc_bio.specs.Requests.{CanBePlaced, is_over, place_in, reply_of, tagged_bios, tagged_of, unit_in, with_bio, with_fault, with_unit};
 
 use crate::context::{context_wrapped, unit_sectors};
@@ -71,7 +71,7 @@ impl Request {
         self.append(bio);
     }
 
-    /// Puts a bio behind the last one, where it runs on at its back. Takes no memory.
+    /// Puts a bio after the last one, where it runs on at its back. Takes no memory.
     ///
     /// # Errors
     ///
@@ -95,7 +95,7 @@ impl Request {
         Ok(())
     }
 
-    /// Puts a bio behind the last one.
+    /// Puts a bio after the last one.
     fn append(&mut self, bio: Bio)
         requires spare { 1 ≤ self.old.spare }
         requires fits { count_units (tagged_bios self.old.bios) + length bio.units < 2 ^ 32 }
@@ -174,7 +174,7 @@ impl Request {
         &self.bios[place.bio].bio
     }
 
-    /// Empties the request into replies, in order. They go behind those that `out` has, which has
+    /// Empties the request into replies, in order. They go after those that `out` has, which has
     /// room for them.
     pub fn finish(&mut self, out: &mut Vec<Reply>)
         requires { vec_len out.old + length self.old.bios ≤ vec_capacity out.old }
@@ -200,7 +200,7 @@ impl Request {
 /// The bio that has unit number `n`, by the number of units up to the end of each.
 fn bio_with(ends: &[u32], n: u32) -> usize
     ensures within { result ≤ length ends.now }
-    ensures parts { IsPartitionedBy (λ end. nat_le end n) ends.now → Parts ends.now n result }
+    ensures parts { IsPartitionedBy (λ end. nat_le end n) ends.now → IsPartition ends.now n result }
 {
     ends.partition_point(|end| *end <= n)
 }

@@ -19,7 +19,7 @@ use Rattle.bc_script.specs.Script.{Script}
 use Rattle.bc_report.specs.Holders.{HasHolders, HaveHolders}
 use Rattle.bc_report.specs.LawfulRun.{EndIdle}
 use Rattle.bc_report.specs.SerialRun.{serial_journal, uses_of}
-use Rattle.bc_compose.specs.Composed.{SerialRunsHaveKnownHolders, FindsNone}
+use Rattle.bc_compose.specs.ComposedRun.{SerialRunsHaveKnownHolders, FindsNone}
 use Rattle.bc_profile.proofs.SoloLemmas.{all_true}
 
 -- ---- events one after the other

@@ -28,7 +28,7 @@ use Rattle.bc_report.specs.declared.answer.Answer.TheVariants as answers
 use Rattle.bc_report.specs.Answers.{answer_of_outcome, IsOwnWord}
 use Rattle.bc_report.specs.Counts.{is_reset_of, touches_under, touches_any, is_reset, is_programming_of, is_idle}
 use Rattle.bc_report.specs.Evictions.{Eviction, evictions_in, is_evict, is_busy, is_busy_with, names_busy, names_device, names_before, count_answered, IsEvictionAnswer}
-use Rattle.bc_report.specs.Programmings.{Programs, InlineEntry, entry_by, InOrder}
+use Rattle.bc_report.specs.Programmings.{IsProgramming, InlineEntry, entry_by, InOrder}
 use Rattle.bc_report.specs.Ways.{way_in}
 
 -- the number of the key that an entry's unit went under, if it went under one
@@ -46,7 +46,7 @@ SaysItsWay script e = way_in e.via ≡ way_of script e.at.context e.at.sector
 -- where the way is inline, the device's journal has there a programming of the slot with this key
 abbrev pub NamesOwn : List (List Noted) → Option ℕ → Via → Type 0
 NamesOwn noted key (vias.Inline device slot event) =
-    IsSomeAnd key (λ k. IsSomeAnd (slice_get (events_of (list_at noted device)) event) (Programs slot k))
+    IsSomeAnd key (λ k. IsSomeAnd (slice_get (events_of (list_at noted device)) event) (IsProgramming slot k))
 NamesOwn noted key _ = ⊤
 
 -- a thread's events on a device

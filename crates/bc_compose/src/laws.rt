@@ -1,6 +1,6 @@
 //! The laws of runs and their sections.
 
-ghost use Rattle.bc_compose.specs.Composed.{SectionsMakeALawfulRun, SectionsInTurnMakeASerialRun, SerialRunsHaveKnownHolders, SerialRunsAgree, OneSectionFindsNone};
+ghost use Rattle.bc_compose.specs.ComposedRun.{SectionsMakeALawfulRun, SectionsInTurnMakeASerialRun, SerialRunsHaveKnownHolders, SerialRunsAgree, OneSectionFindsNone};
 
 use bc_bio::bio_laws;
 

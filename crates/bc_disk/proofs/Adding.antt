@@ -18,7 +18,7 @@ use Rattle.bc_profile.specs.Story.{author_of}
 use Rattle.bc_profile.specs.Laws.{HoldsNameProgrammings, LaterHoldsNameLater}
 use Rattle.bc_stack.specs.declared.target.Target.{Target}
 use Rattle.bc_pieces.specs.Pieces.{DeviceFacts, NotesOn, SameDisk, at_device, pieces_on, is_piece_on}
-use Rattle.bc_pieces.specs.Told.{IsHoldOf, NamesNoEarlier, OneHold, events_on}
+use Rattle.bc_pieces.specs.PieceEffects.{IsHoldOf, NamesNoEarlier, OneHold, events_on}
 use Rattle.bc_pieces.proofs.Telling.{across_holds, each_append, each_more, held_more, notes_append, rise_append}
 use Rattle.bc_disk.specs.Submissions.{Adds, GoesItsWay, HasItsHold, IsInline}
 use Rattle.bc_base.proofs.Members.{zip_append}

@@ -14,7 +14,7 @@ use Rattle.bc_bio.specs.Requests.{tagged_bios, tagged_of}
 use Rattle.bc_bio.specs.Windows.{TaggedBio}
 use Rattle.bc_medium.specs.declared.entry.Entry.{Entry}
 use Rattle.bc_medium.specs.declared.unit_name.UnitName.{UnitName}
-use Rattle.bc_medium.specs.LawfulOrders.{name_of, is_earlier}
+use Rattle.bc_medium.specs.LawfulOrders.{unit_name_of, is_earlier}
 use Rattle.bc_medium.specs.Growth.{failed_names, Attempts}
 use Rattle.bc_queue.specs.Laws.{TagsDiffer}
 use Rattle.bc_queue.proofs.Lists.{at_append}
@@ -86,11 +86,11 @@ module _ (caller : ℕ) (keys : List KeyData) (xs ys : List MarkedBio) (differ :
       let w = unit_tag keys ys v at' in
       tags_apart (tagged_bios xs) (tagged_bios ys) split t.0 w.0 t.1 w.1 (sym t.2 ∙ same ∙ w.2)
 
-  -- the entries of the first bios, and of the others behind them
+  -- the entries of the first bios, and of the others after them
   pub attempts_on : (es fs : List Entry) → Attempts caller [] (units_planned keys xs) es → Attempts caller [] (units_planned keys ys) fs → Attempts caller [] (units_planned keys (xs ++ ys)) (es ++ fs)
   attempts_on es fs p q =
       subst (λ (us : List PlannedUnit). Attempts caller [] us (es ++ fs)) (sym (planned_append keys xs ys))
       (attempts_append caller [] (units_planned keys xs) (units_planned keys ys) es fs
-      (λ u v at at'. other_op (name_of caller v) (name_of caller u) (λ same. units_apart u v at at' (sym same))) p
+      (λ u v at at'. other_op (unit_name_of caller v) (unit_name_of caller u) (λ same. units_apart u v at at' (sym same))) p
       (attempts_fresh caller (failed_names es) (units_planned keys ys) fs
-      (λ f v at at'. let r = failed_are caller [] (units_planned keys xs) es p f at in other_op f (name_of caller v) (λ same. units_apart r.0 v r.1 at' (sym (ap (λ (n : UnitName). n.op) r.2) ∙ same))) q))
+      (λ f v at at'. let r = failed_are caller [] (units_planned keys xs) es p f at in other_op f (unit_name_of caller v) (λ same. units_apart r.0 v r.1 at' (sym (ap (λ (n : UnitName). n.op) r.2) ∙ same))) q))

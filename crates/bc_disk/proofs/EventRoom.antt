@@ -7,7 +7,7 @@ use Rattle.std.proofs.lemmas.Option.{none-some}
 use Rattle.bc_base.specs.Lists.{At, list_at}
 use Rattle.bc_base.specs.Story.{own}
 use Rattle.bc_base.proofs.Lists.{each_at}
-use Rattle.bc_turn.specs.Parts.{Pass}
+use Rattle.bc_turn.specs.PassParts.{Pass}
 use Rattle.bc_medium.specs.declared.entry.Entry.{Entry}
 use Rattle.bc_medium.specs.Medium.{OpeningData}
 use Rattle.bc_profile.specs.declared.event.Event.{Event}

@@ -1,7 +1,7 @@
 -- Private: the way of pieces that go inline by the devices of a disk.
 use Rattle.std.specs.Prelude.{ℕ, ◌*◌, ◌≤◌, List, sum_by}
 use Rattle.bc_bio.specs.Windows.{NamedUnit}
-use Rattle.bc_turn.specs.Parts.{Pass}
+use Rattle.bc_turn.specs.PassParts.{Pass}
 use Rattle.bc_medium.specs.declared.entry.Entry.{Entry}
 use Rattle.bc_medium.specs.Medium.{OpeningData, shards_of}
 use Rattle.bc_profile.specs.Passes.{SlotFacts}

@@ -24,15 +24,15 @@ use Rattle.bc_profile.specs.declared.noted.Noted.{Noted}
 use Rattle.bc_stack.specs.declared.target.Target.{Target}
 use Rattle.bc_stack.specs.Devices.{device_at}
 use Rattle.bc_stack.specs.Pieces.{pieces_of}
-use Rattle.bc_queue.specs.RequestUnits.{units_on}
+use Rattle.bc_queue.specs.RequestUnits.{count_units_on}
 use Rattle.bc_queue.specs.declared.plug.TheConstants.{MAX_PLUGGED}
 use Rattle.bc_queue.specs.Plugs.{PlugParts, count_bios}
 use Rattle.bc_queue.specs.Carrying.{AccessFacts}
 use Rattle.bc_queue.specs.Laws.{TagsDiffer}
 use Rattle.bc_pieces.specs.Pieces.{DeviceFacts, NotesOn, SameDisk, pieces_on}
-use Rattle.bc_pieces.specs.Told.{HasHoldBetween, IsHoldOf, OneHold, Rise, events_on}
+use Rattle.bc_pieces.specs.PieceEffects.{HasHoldBetween, IsHoldOf, OneHold, Rise, events_on}
 use Rattle.bc_pieces.specs.Becoming.{Becomes, planned_units}
-use Rattle.bc_pieces.specs.Attempted.{HasNoFault, IsWhole}
+use Rattle.bc_pieces.specs.AttemptedRequest.{HasNoFault, IsWholeRequest}
 use Rattle.bc_disk.specs.declared.disk.PlugBack.{PlugBack}
 use Rattle.bc_disk.specs.declared.disk.PlugBack.TheVariants as backs
 use Rattle.bc_disk.specs.declared.submission.Way.{Way}
@@ -115,7 +115,7 @@ pub record Adds (old new : DeviceFacts) (pieces : List (List NamedUnit)) : Type 
 -- a request was carried out as a whole
 pub record CarriesRequest (old new : DeviceFacts) (before after : RequestParts) : Type 0 where
   pub adds : Adds old new (inline_pieces old.targets old.access.keys (tagged_bios before.bios))
-  pub whole : HasNoFault before.bios → IsWhole old.access new.access before after adds.made
+  pub whole : HasNoFault before.bios → IsWholeRequest old.access new.access before after adds.made
   pub bios : tagged_bios after.bios ≡ tagged_bios before.bios
   pub room : after.spare ≡ before.spare
 
@@ -157,14 +157,14 @@ IsPlugBack disk plug bio (backs.Full back) =
 -- the caller may have an entry more for each unit of these bios on its shard
 abbrev pub HasEntriesFor : DeviceFacts → List Bio → Type 0
 HasEntriesFor facts bios =
-    (shard : ℕ) → units_on facts.access.shards shard (flat_map (planned_units facts.access.keys) bios)
+    (shard : ℕ) → count_units_on facts.access.shards shard (flat_map (planned_units facts.access.keys) bios)
     ≤ facts.access.spare shard
 
 -- the caller's room has become less by those entries at most
 abbrev pub LeavesEntries : DeviceFacts → DeviceFacts → List Bio → Type 0
 LeavesEntries old new bios =
     (shard : ℕ) → old.access.spare shard
-    ≤ new.access.spare shard + units_on old.access.shards shard (flat_map (planned_units old.access.keys) bios)
+    ≤ new.access.spare shard + count_units_on old.access.shards shard (flat_map (planned_units old.access.keys) bios)
 
 -- two events for each piece of the bios on a device
 abbrev pub events_for : List Target → List KeyData → List Bio → ℕ → ℕ

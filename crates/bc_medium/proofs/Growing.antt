@@ -13,7 +13,7 @@ use Rattle.bc_bio.specs.PlannedUnit.{PlannedUnit}
 use Rattle.bc_medium.specs.declared.entry.Entry.{Entry}
 use Rattle.bc_medium.specs.declared.unit_name.UnitName.{UnitName}
 use Rattle.bc_medium.specs.Entries.{caller_of, name_of_entry}
-use Rattle.bc_medium.specs.LawfulOrders.{name_of, is_attempted, is_earlier}
+use Rattle.bc_medium.specs.LawfulOrders.{unit_name_of, is_attempted, is_earlier}
 use Rattle.bc_medium.specs.Growth.{lies_in, Grows, failed_names, attempted_by, IsEntryOf, Attempts}
 
 pub begins_itself : {E : Type 0} (xs : List E) → StartsWith xs xs
@@ -64,7 +64,7 @@ failed_append es fs =
 
 module _ (caller : ℕ) where
   -- an entry has its unit's name and its thread's number
-  pub named : (u : PlannedUnit) (e : Entry) → IsEntryOf caller u e → name_of_entry e ≡ name_of caller u
+  pub named : (u : PlannedUnit) (e : Entry) → IsEntryOf caller u e → name_of_entry e ≡ unit_name_of caller u
   named u e is = ap (λ at. record { thread = at.caller; op = at.tag; unit = at.unit }) is.unit
 
   pub by_thread : (u : PlannedUnit) (e : Entry) → IsEntryOf caller u e → caller_of e ≡ caller
@@ -76,7 +76,7 @@ module _ (caller : ℕ) where
 
   -- no unit here is an earlier one of a bio there
   abbrev pub After : List PlannedUnit → List PlannedUnit → Type 0
-  After us vs = (u v : PlannedUnit) → In u us → In v vs → is_earlier (name_of caller v) (name_of caller u) ≡ false
+  After us vs = (u v : PlannedUnit) → In u us → In v vs → is_earlier (unit_name_of caller v) (unit_name_of caller u) ≡ false
 
   -- one part after the other
   pub attempts_append : (met : List UnitName) (us vs : List PlannedUnit) (es fs : List Entry) → After us vs
@@ -84,34 +84,34 @@ module _ (caller : ℕ) where
   attempts_append met us vs es fs after p q =
       let all = met ++ failed_names (es ++ fs) in
       let are : all ≡ (met ++ failed_names es) ++ failed_names fs = ap (λ l. met ++ l) (failed_append es fs) ∙ sym (append_assoc met (failed_names es) (failed_names fs)) in
-      let later : (n : UnitName) → In n (failed_names fs) → (v : PlannedUnit) × In v vs × (n ≡ name_of caller v) =
+      let later : (n : UnitName) → In n (failed_names fs) → (v : PlannedUnit) × In v vs × (n ≡ unit_name_of caller v) =
       λ n at'.
       let r = in_of_map name_of_entry (filter (λ x. x.failed) fs) n at' in
       let b = in_of_filter (λ x. x.failed) fs r.0 r.1 in
       let w = beside (IsEntryOf caller) (attempted_by caller ((met ++ failed_names es) ++ failed_names fs) vs) fs r.0 q b.0 in
-      (w.0, (in_of_filter (λ v. is_attempted ((met ++ failed_names es) ++ failed_names fs) (name_of caller v)) vs w.0 w.1).0, sym r.2 ∙ named w.0 r.0 w.2) in
+      (w.0, (in_of_filter (λ v. is_attempted ((met ++ failed_names es) ++ failed_names fs) (unit_name_of caller v)) vs w.0 w.1).0, sym r.2 ∙ named w.0 r.0 w.2) in
       let first : attempted_by caller all us ≡ attempted_by caller (met ++ failed_names es) us =
       ap (λ l. attempted_by caller l us) are
-      ∙ filter_same_in (λ u. is_attempted ((met ++ failed_names es) ++ failed_names fs) (name_of caller u)) (λ u. is_attempted (met ++ failed_names es) (name_of caller u)) us
-      (λ u at'. ap not (any_append (λ f. is_earlier f (name_of caller u)) (met ++ failed_names es) (failed_names fs)
-      (λ n at''. let r = later n at'' in ap (λ m. is_earlier m (name_of caller u)) r.2 ∙ after u r.0 at' r.1))) in
-      subst (λ l. AllZip (IsEntryOf caller) l (es ++ fs)) (sym (filter-append (λ u. is_attempted all (name_of caller u)) us vs))
+      ∙ filter_same_in (λ u. is_attempted ((met ++ failed_names es) ++ failed_names fs) (unit_name_of caller u)) (λ u. is_attempted (met ++ failed_names es) (unit_name_of caller u)) us
+      (λ u at'. ap not (any_append (λ f. is_earlier f (unit_name_of caller u)) (met ++ failed_names es) (failed_names fs)
+      (λ n at''. let r = later n at'' in ap (λ m. is_earlier m (unit_name_of caller u)) r.2 ∙ after u r.0 at' r.1))) in
+      subst (λ l. AllZip (IsEntryOf caller) l (es ++ fs)) (sym (filter-append (λ u. is_attempted all (unit_name_of caller u)) us vs))
       (zip_append (IsEntryOf caller) (attempted_by caller all us) (attempted_by caller all vs) es fs
       (subst (λ l. AllZip (IsEntryOf caller) l es) (sym first) p)
       (subst (λ l. AllZip (IsEntryOf caller) (attempted_by caller l vs) fs) (sym are) q))
 
   -- what met a fault before, in other bios, plays no part
-  pub attempts_fresh : (met : List UnitName) (us : List PlannedUnit) (es : List Entry) → ((f : UnitName) (u : PlannedUnit) → In f met → In u us → is_earlier f (name_of caller u) ≡ false)
+  pub attempts_fresh : (met : List UnitName) (us : List PlannedUnit) (es : List Entry) → ((f : UnitName) (u : PlannedUnit) → In f met → In u us → is_earlier f (unit_name_of caller u) ≡ false)
       → Attempts caller [] us es → Attempts caller met us es
   attempts_fresh met us es fresh p =
       subst (λ l. AllZip (IsEntryOf caller) l es)
-      (filter_same_in (λ u. is_attempted (failed_names es) (name_of caller u)) (λ u. is_attempted (met ++ failed_names es) (name_of caller u)) us
-      (λ u at'. sym (ap not (any_append_left (λ f. is_earlier f (name_of caller u)) met (failed_names es) (λ f at''. fresh f u at'' at'))))) p
+      (filter_same_in (λ u. is_attempted (failed_names es) (unit_name_of caller u)) (λ u. is_attempted (met ++ failed_names es) (unit_name_of caller u)) us
+      (λ u at'. sym (ap not (any_append_left (λ f. is_earlier f (unit_name_of caller u)) met (failed_names es) (λ f at''. fresh f u at'' at'))))) p
 
   -- the failed names are names of the units
-  pub failed_are : (met : List UnitName) (us : List PlannedUnit) (es : List Entry) → Attempts caller met us es → (f : UnitName) → In f (failed_names es) → (u : PlannedUnit) × In u us × (f ≡ name_of caller u)
+  pub failed_are : (met : List UnitName) (us : List PlannedUnit) (es : List Entry) → Attempts caller met us es → (f : UnitName) → In f (failed_names es) → (u : PlannedUnit) × In u us × (f ≡ unit_name_of caller u)
   failed_are met us es attempts f at' =
       let r = in_of_map name_of_entry (filter (λ x. x.failed) es) f at' in
       let b = in_of_filter (λ x. x.failed) es r.0 r.1 in
       let w = beside (IsEntryOf caller) (attempted_by caller (met ++ failed_names es) us) es r.0 attempts b.0 in
-      (w.0, (in_of_filter (λ v. is_attempted (met ++ failed_names es) (name_of caller v)) us w.0 w.1).0, sym r.2 ∙ named w.0 r.0 w.2)
+      (w.0, (in_of_filter (λ v. is_attempted (met ++ failed_names es) (unit_name_of caller v)) us w.0 w.1).0, sym r.2 ∙ named w.0 r.0 w.2)

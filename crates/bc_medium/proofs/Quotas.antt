@@ -5,7 +5,7 @@ use Rattle.std.proofs.lemmas.List.{get_or_past, get_or-set_same, get_or-set_othe
 use mathlib.Core.Logic.{dite}
 use native.Mathlib.Decide.{dec_lt, ℕ_discrete}
 use Rattle.bc_base.specs.Sectors.{Sectors}
-use Rattle.bc_base.specs.Stores.{ToldCalls}
+use Rattle.bc_base.specs.Stores.{StoreCalls}
 use Rattle.bc_base.specs.Story.{own}
 use Rattle.bc_base.proofs.Stories.{own-append}
 use Rattle.bc_medium.specs.declared.entry.Entry.{Entry}
@@ -43,7 +43,7 @@ module _ {E : Type 0} (by : E → ℕ) where
       let s = sum-set q c n inside in
       let rest = fits es (set q c n) (within_less es q c n inside (omega arith) (λ d ne. w d) (omega arith)) in omega arith
 
-module _ {S : Type 0} (owns : S → ℕ → Bool) (contents : S → Option Sectors) (told : S → Option ToldCalls) (faults : S → ℕ) where
+module _ {S : Type 0} (owns : S → ℕ → Bool) (contents : S → Option Sectors) (told : S → Option StoreCalls) (faults : S → ℕ) where
   -- a shard keeps to its opening when a caller below its quota adds an entry
   pub keeps_more : (b : OpeningData S) (old new : StoreOrder S) (e : Entry) → Keeps owns contents told faults b old → length (own caller_of (caller_of e) old.entries) < quota_of b.quotas (caller_of e)
       → IsOrder owns contents told faults b.store (Some b.keys) new.store new.entries → new.entries ≡ old.entries ++ e ∷ [] → new.spare + 1 ≡ old.spare → Keeps owns contents told faults b new

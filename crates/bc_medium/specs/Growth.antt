@@ -11,10 +11,10 @@ use Rattle.bc_bio.specs.declared.access.Access.TheVariants.{Write}
 use Rattle.bc_bio.specs.PlannedUnit.{PlannedUnit}
 use Rattle.bc_medium.specs.declared.entry.Entry.{Entry}
 use Rattle.bc_medium.specs.declared.unit_name.UnitName.{UnitName}
-use Rattle.bc_medium.specs.Places.{shard_of}
+use Rattle.bc_medium.specs.Layout.{shard_of}
 use Rattle.bc_medium.specs.KeyedDisk.{Sectors, UnitAnswer}
-use Rattle.bc_medium.specs.LawfulOrders.{name_of, is_attempted}
-use Rattle.bc_medium.specs.Entries.{caller_of, name_of_entry, told_by, IsTold}
+use Rattle.bc_medium.specs.LawfulOrders.{unit_name_of, is_attempted}
+use Rattle.bc_medium.specs.Entries.{caller_of, name_of_entry, told_by, HasAnswer}
 
 -- one entry is appended to a shard's order: it stands after `before`, which begins with what was
 -- seen and has no more of this caller
@@ -49,7 +49,7 @@ failed_names es = map name_of_entry (filter (λ e. e.failed) es)
 
 -- the units that a thread attempts, where these have met a fault
 abbrev pub attempted_by : ℕ → List UnitName → List PlannedUnit → List PlannedUnit
-attempted_by thread met units = filter (λ u. is_attempted met (name_of thread u)) units
+attempted_by thread met units = filter (λ u. is_attempted met (unit_name_of thread u)) units
 
 -- the entry of a thread's unit; of a write that didn't fail it has the bytes
 pub record IsEntryOf (thread : ℕ) (u : PlannedUnit) (e : Entry) : Type 0 where
@@ -67,4 +67,4 @@ abbrev pub Knows :
     List KeyData → ℕ → (ℕ → Sectors) → ℕ → List (List Entry) → PlannedUnit → UnitAnswer → Type 0
 Knows keys shards base thread seen u answer =
     let shard = shard_of shards u.sector in
-    IsTold (told_by keys (base shard) (list_at seen shard)) (name_of thread u) answer
+    HasAnswer (told_by keys (base shard) (list_at seen shard)) (unit_name_of thread u) answer

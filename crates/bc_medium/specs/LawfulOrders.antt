@@ -4,11 +4,11 @@ use Rattle.std.specs.Prelude.{◌≡◌, ℕ, ◌<◌, Bool, not, ◌&&◌, ◌=
 use Rattle.std.specs.List.{list_any}
 use Rattle.bc_bio.specs.PlannedUnit.{PlannedUnit}
 use Rattle.bc_medium.specs.declared.unit_name.UnitName.{UnitName}
-use Rattle.bc_medium.specs.Places.{shard_of}
+use Rattle.bc_medium.specs.Layout.{shard_of}
 
 -- a unit of a thread's plan, by name
-abbrev pub name_of : ℕ → PlannedUnit → UnitName
-name_of thread u = record { thread = thread; op = u.tag; unit = u.unit }
+abbrev pub unit_name_of : ℕ → PlannedUnit → UnitName
+unit_name_of thread u = record { thread = thread; op = u.tag; unit = u.unit }
 
 -- two names of one unit
 abbrev pub is_same : UnitName → UnitName → Bool
@@ -38,7 +38,7 @@ abbrev pub attempted_on :
 attempted_on shards issued faults orders shard thread =
     let on_shard =
     filter (λ u. shard_of shards u.sector == shard) (slice_index_or issued thread []) in
-    filter (is_attempted (faulted faults orders)) (map (name_of thread) on_shard)
+    filter (is_attempted (faulted faults orders)) (map (unit_name_of thread) on_shard)
 
 -- the entries of a thread in an order
 abbrev pub entries_of : ℕ → List UnitName → List UnitName

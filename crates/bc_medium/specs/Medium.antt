@@ -5,13 +5,13 @@ use lib.ListN.{take}
 use Rattle.bc_base.specs.declared.place.Place.{Place}
 use Rattle.bc_base.specs.Lists.{Each, AllAt, list_at}
 use Rattle.bc_base.specs.Story.{own, IsFront}
-use Rattle.bc_base.specs.Stores.{ToldCalls, IsPiece}
+use Rattle.bc_base.specs.Stores.{StoreCalls, IsPiece}
 use Rattle.bc_key.specs.KeyData.{KeyData}
 use Rattle.bc_key.specs.KeyList.{KeyList}
-use Rattle.bc_turn.specs.Parts.{Part, Pass, TurnsData, IsOf}
+use Rattle.bc_turn.specs.PassParts.{Part, Pass, TurnsData, IsOf}
 use Rattle.bc_medium.specs.declared.entry.Entry.{Entry}
 use Rattle.bc_medium.specs.declared.unit_name.UnitName.{UnitName}
-use Rattle.bc_medium.specs.Places.{shard_of}
+use Rattle.bc_medium.specs.Layout.{shard_of}
 use Rattle.bc_medium.specs.KeyedDisk.{Sectors, UnitAnswer}
 use Rattle.bc_medium.specs.Entries.{caller_of, IsToldAt, Stand}
 use Rattle.bc_medium.specs.Growth.{Performs}
@@ -33,10 +33,10 @@ abbrev pub quota_of : List ℕ → ℕ → ℕ
 quota_of quotas caller = slice_index_or quotas caller 0
 
 -- the quotas of a shard by caller, of quotas by caller and shard
-abbrev pub column : ℕ → List (List ℕ) → List ℕ
-column shard rows = map (λ row. slice_index_or row shard 0) rows
+abbrev pub quotas_of_shard : ℕ → List (List ℕ) → List ℕ
+quotas_of_shard shard rows = map (λ row. slice_index_or row shard 0) rows
 
-module _ {S : Type 0} (owns : S → ℕ → Bool) (contents : S → Option Sectors) (told : S → Option ToldCalls)
+module _ {S : Type 0} (owns : S → ℕ → Bool) (contents : S → Option Sectors) (told : S → Option StoreCalls)
     (faults : S → ℕ) where
   -- a shard keeps to its opening: its entries are what was done to the store since, each caller
   -- keeps within its quota, and there is room for all quotas
@@ -107,7 +107,7 @@ module _ {S : Type 0} where
 
   -- where the store of this shard tells its plan, the access failed exactly where the plan has its
   -- place
-  abbrev pub FailedAsPlanned : (S → Option ToldCalls) → MediumData S → Type 0 → Place → Type 0
+  abbrev pub FailedAsPlanned : (S → Option StoreCalls) → MediumData S → Type 0 → Place → Type 0
   FailedAsPlanned told m Fails place =
       AllAt m.turns.cells place.shard (λ cell. IfSome (told cell.base.store)
       (λ t. Fails ↔ Contains t.plan place.index))
@@ -122,7 +122,7 @@ pub record IsMedium {S : Type 0} (keys : List KeyData) (shards : ℕ) (rows : Li
   pub a_row_each : length rows ≡ turns.callers
   pub long_rows : Each (λ row. length row ≡ length turns.cells) rows
   pub columns : (shard : ℕ) → AllAt turns.cells shard
-      (λ cell. (cell.base.quotas ≡ column shard rows) × (sum cell.base.quotas < 2 ^ 32))
+      (λ cell. (cell.base.quotas ≡ quotas_of_shard shard rows) × (sum cell.base.quotas < 2 ^ 32))
 
 -- the elements of two lists are such at their common places, counted from this place on
 abbrev pub EachTwoFrom : {A C : Type 0} → (ℕ → A → C → Type 0) → ℕ → List A → List C → Type 0
@@ -131,10 +131,10 @@ EachTwoFrom P place [] (y ∷ ys) = ⊥
 EachTwoFrom P place (x ∷ xs) [] = ⊥
 EachTwoFrom P place (x ∷ xs) (y ∷ ys) = P place x y × EachTwoFrom P (place + 1) xs ys
 
-module _ {S : Type 0} (owns : S → ℕ → Bool) (contents : S → Option Sectors) (told : S → Option ToldCalls)
+module _ {S : Type 0} (owns : S → ℕ → Bool) (contents : S → Option Sectors) (told : S → Option StoreCalls)
     (faults : S → ℕ) where
   -- a shard at the end: its entries are what was done to its store since opening, with the medium's
-  -- keys; what each pass has seen is a front of them that has all of its caller's; and no other
+  -- keys; what each pass has seen is a prefix of them that has all of its caller's; and no other
   -- caller has any
   pub record IsEnd (m : MediumData S) (passes : List (Pass Entry (OpeningData S))) (shard : ℕ) (store : S)
       (entries : List Entry) : Type 0 where
@@ -147,4 +147,4 @@ module _ {S : Type 0} (owns : S → ℕ → Bool) (contents : S → Option Secto
 abbrev pub openings : {S : Type 0} → List KeyData → List (List ℕ) → ℕ → List S → List (OpeningData S)
 openings keys rows shard [] = []
 openings keys rows shard (s ∷ ss) =
-    record { store = s; keys = keys; quotas = column shard rows } ∷ openings keys rows (shard + 1) ss
+    record { store = s; keys = keys; quotas = quotas_of_shard shard rows } ∷ openings keys rows (shard + 1) ss

@@ -3,17 +3,17 @@
 use Rattle.std.specs.Prelude.{◌≡◌, ℕ, ◌*◌, ◌≤◌, Bool, List, [], ◌∷◌, length, map, Option}
 use Rattle.bc_base.specs.declared.place.Place.{Place}
 use Rattle.bc_base.specs.Lists.{Each, AllAt, ChangesAt, list_at}
-use Rattle.bc_base.specs.Stores.{ToldCalls, IsPiece}
+use Rattle.bc_base.specs.Stores.{StoreCalls, IsPiece}
 use Rattle.bc_key.specs.KeyData.{KeyData}
 use Rattle.bc_bio.specs.Extent.{unit_sectors}
 use Rattle.bc_medium.specs.declared.entry.Entry.{Entry}
 use Rattle.bc_medium.specs.declared.unit_at.UnitAt.{UnitAt}
 use Rattle.bc_medium.specs.declared.unit_name.UnitName.{UnitName}
-use Rattle.bc_medium.specs.Places.{shard_of}
+use Rattle.bc_medium.specs.Layout.{shard_of}
 use Rattle.bc_medium.specs.KeyedDisk.{Sectors, UnitAnswer, Faulted, Text, deciphered}
 use Rattle.bc_medium.specs.Entries.{IsToldAt, unit_name}
 use Rattle.bc_medium.specs.Growth.{Performs}
-use Rattle.bc_medium.specs.ShardOrder.{ShardData, Appends, AppendsNext, HasKeys, StandsNow, FailsByPlan, Leaves, opened}
+use Rattle.bc_medium.specs.ShardOrder.{ShardData, Appends, AppendsNext, HasKeys, StandsNow, FailsByPlan, Leaves, opened_shard}
 
 module _ {S : Type 0} where
   -- the orders, by shard
@@ -74,7 +74,7 @@ module _ {S : Type 0} where
 
   -- where the store of this sector's shard tells its plan, the access fails exactly where the plan
   -- has its place
-  abbrev pub FailsAsPlanned : (S → Option ToldCalls) → List (ShardData S) → ℕ → Type 0 → Type 0
+  abbrev pub FailsAsPlanned : (S → Option StoreCalls) → List (ShardData S) → ℕ → Type 0 → Type 0
   FailsAsPlanned told shards sector Fails =
       AllAt shards (shard_of (length shards) sector) (λ s. FailsByPlan told s Fails)
 
@@ -89,4 +89,4 @@ module _ {S : Type 0} where
   abbrev pub opened_with : List S → List ℕ → List (ShardData S)
   opened_with [] quotas = []
   opened_with (s ∷ ss) [] = []
-  opened_with (s ∷ ss) (q ∷ qs) = opened s q ∷ opened_with ss qs
+  opened_with (s ∷ ss) (q ∷ qs) = opened_shard s q ∷ opened_with ss qs

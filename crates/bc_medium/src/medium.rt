@@ -7,12 +7,12 @@ ghost use Rattle.bc_bio.specs.Extent.{unit_sectors};
 ghost use Rattle.bc_bio.specs.Conditions.{HasKey};
 ghost use Rattle.bc_bio.specs.declared.access.Access.{Access};
 ghost use Rattle.bc_turn.specs.Turning.{sum_of};
-ghost use Rattle.bc_turn.specs.Parts.{is_caller, new_pass};
-ghost use Rattle.bc_medium.specs.Places.{shard_of};
+ghost use Rattle.bc_turn.specs.PassParts.{is_caller, new_pass};
+ghost use Rattle.bc_medium.specs.Layout.{shard_of};
 ghost use Rattle.bc_medium.specs.KeyedDisk.{enciphered, deciphered, Written, Faulted, Text};
 ghost use Rattle.bc_medium.specs.Entries.{written_entry, read_entry, failed_entry, unit_name};
 ghost use Rattle.bc_medium.specs.Medium.{Belongs, shards_of, HasSpareOf, HasRoom, OwnsSectors, Accesses, AnswersSeen};
-ghost use Rattle.bc_medium.specs.Medium.{StoodAt, FailedAsPlanned, EachTwoFrom, IsEnd, column, openings};
+ghost use Rattle.bc_medium.specs.Medium.{StoodAt, FailedAsPlanned, EachTwoFrom, IsEnd, quotas_of_shard, openings};
 
 use crate::entry::Entry;
 use crate::fault::Fault;
@@ -114,8 +114,8 @@ impl<S: Store> Medium<S> {
         ensures answer { IfOk result (AnswersSeen S.contents self.now pass.new (unit_name at) Written) }
         ensures answer_fault { IfErr result (λ fault.
             AnswersSeen S.contents self.now pass.new (unit_name at) Faulted fault.0.place) }
-        ensures planned { IfOk result (FailedAsPlanned S.told self.now (IsErr result)) }
-        ensures planned_fault { IfErr result (λ fault. FailedAsPlanned S.told self.now (IsErr result) fault.0.place) }
+        ensures planned { IfOk result (FailedAsPlanned S.calls self.now (IsErr result)) }
+        ensures planned_fault { IfErr result (λ fault. FailedAsPlanned S.calls self.now (IsErr result) fault.0.place) }
     {
         let shard = self.shard_of(at.sector);
         let mut value = self.turns.take(rt, pass, shard);
@@ -162,8 +162,8 @@ impl<S: Store> Medium<S> {
             (Text (deciphered self.now.keys.keys at.context raw.new))) }
         ensures answer_fault { IfErr result (λ fault.
             AnswersSeen S.contents self.now pass.new (unit_name at) Faulted fault.place) }
-        ensures planned { IfOk result (FailedAsPlanned S.told self.now (IsErr result)) }
-        ensures planned_fault { IfErr result (λ fault. FailedAsPlanned S.told self.now (IsErr result) fault.place) }
+        ensures planned { IfOk result (FailedAsPlanned S.calls self.now (IsErr result)) }
+        ensures planned_fault { IfErr result (λ fault. FailedAsPlanned S.calls self.now (IsErr result) fault.place) }
     {
         let shard = self.shard_of(at.sector);
         let mut value = self.turns.take(rt, pass, shard);
@@ -181,7 +181,7 @@ impl<S: Store> Medium<S> {
     /// The stores at the end and the orders, by shard, where the passes of all callers are here.
     /// Each store has what the keyed disk leaves along its shard's order from the contents at
     /// opening; each entry failed exactly where the store's plan has its place. What each pass has
-    /// seen of an order is a front of it, and its caller's entries there are those that it made,
+    /// seen of an order is a prefix of it, and its caller's entries there are those that it made,
     /// each once, in its order.
     ///
     /// # Errors
@@ -194,7 +194,7 @@ impl<S: Store> Medium<S> {
         requires all { (caller : ℕ) → caller < self.turns.callers → 0 < sum_of (is_caller caller) passes.items }
         ensures length { IfOk result (λ end. length end.0.items ≡ shards_of self) }
         ensures ends { IfOk result (λ end. EachTwoFrom (λ shard store order.
-            IsEnd S.owns S.contents S.told S.faults self passes.items shard store order.items)
+            IsEnd S.owns S.contents S.calls S.faults self passes.items shard store order.items)
             0 end.0.items end.1.items) }
         ensures back { IfErr result (λ back. (back.0 ≡ self) × (back.1.items ≡ passes.items)) }
     {
@@ -263,8 +263,8 @@ impl<S: Store + Drop> Medium<S> {
         requires callers { (1 ≤ length quotas.items) × (length quotas.items ≤ 65535) }
         requires rows { Each (λ row. length row.items ≡ length stores.items) quotas.items }
         requires fits { (shard : ℕ) → shard < length stores.items
-            → sum (column shard (map (λ row. row.items) quotas.items)) < 2 ^ 32 }
-        requires calls { Each (λ s. IfSome (S.told s) (λ told. told.calls ≡ 0)) stores.items }
+            → sum (quotas_of_shard shard (map (λ row. row.items) quotas.items)) < 2 ^ 32 }
+        requires calls { Each (λ s. IfSome (S.calls s) (λ told. told.calls ≡ 0)) stores.items }
         ensures keys { IfOk result (λ r. r.0.keys ≡ keys) }
         ensures callers { IfOk result (λ r. r.0.turns.callers ≡ length quotas.items) }
         ensures openings { IfOk result (λ r. map (λ cell. cell.base) r.0.turns.cells
@@ -302,9 +302,9 @@ fn shard_quotas(
     shard: usize,
 ) -> Result<(Vec<u32>, u32), AllocError>
     requires rows { Each (λ row. shard < length row.items) quotas.now.items }
-    requires fits { sum (column shard (map (λ row. row.items) quotas.now.items)) < 2 ^ 32 }
-    ensures column { IfOk result (λ c. c.0.items ≡ column shard (map (λ row. row.items) quotas.now.items)) }
-    ensures room { IfOk result (λ c. c.1 ≡ sum (column shard (map (λ row. row.items) quotas.now.items))) }
+    requires fits { sum (quotas_of_shard shard (map (λ row. row.items) quotas.now.items)) < 2 ^ 32 }
+    ensures column { IfOk result (λ c. c.0.items ≡ quotas_of_shard shard (map (λ row. row.items) quotas.now.items)) }
+    ensures room { IfOk result (λ c. c.1 ≡ sum (quotas_of_shard shard (map (λ row. row.items) quotas.now.items))) }
 {
     let mut column = Vec::new(alloc);
     let mut room = 0;

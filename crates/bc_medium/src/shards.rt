@@ -2,7 +2,7 @@
 
 ghost use Rattle.std.specs.Prelude.{◌≡◌, ◌*◌, ◌/◌, ◌≤◌, length, map, reverse, IfSome, IfOk, IfErr, IsErr, Some, vec_len};
 ghost use Rattle.bc_base.specs.Lists.{Each, ChangesAt};
-ghost use Rattle.bc_medium.specs.Places.{shard_of};
+ghost use Rattle.bc_medium.specs.Layout.{shard_of};
 ghost use Rattle.bc_bio.specs.Extent.{unit_sectors};
 ghost use Rattle.bc_bio.specs.Conditions.{HasKey};
 ghost use Rattle.bc_bio.specs.declared.access.Access.{Access};
@@ -83,7 +83,7 @@ impl<S: Store> Shards<S> {
             Adds self.old self.new (failed_entry Access.Write at via) fault.0.place) }
         ensures answer { IfOk result (λ place. Answers S.contents keys.now.keys self.new place (unit_name at) Written) }
         ensures answer_fault { IfErr result (λ fault. AnswersFault S.contents self.new (unit_name at) fault.0.place) }
-        ensures planned { FailsAsPlanned S.told self.old at.sector (IsErr result) }
+        ensures planned { FailsAsPlanned S.calls self.old at.sector (IsErr result) }
     {
         let shard = (at.sector / BLOCK_SECTORS % self.shards.len() as u32) as u16;
         let outcome = self.shards[usize::from(shard)].write(keys, at, via, plain, cipher);
@@ -117,7 +117,7 @@ impl<S: Store> Shards<S> {
             Adds self.old self.new (failed_entry Access.Read at via) fault.place) }
         ensures answer { IfOk result (AnswersText S.contents self.old self.new at raw.new) }
         ensures answer_fault { IfErr result (λ fault. AnswersFault S.contents self.new (unit_name at) fault.place) }
-        ensures planned { FailsAsPlanned S.told self.old at.sector (IsErr result) }
+        ensures planned { FailsAsPlanned S.calls self.old at.sector (IsErr result) }
     {
         let shard = (at.sector / BLOCK_SECTORS % self.shards.len() as u32) as u16;
         let outcome = self.shards[usize::from(shard)].read(at, via, raw);
@@ -136,7 +136,7 @@ impl<S: Store> Shards<S> {
     pub fn close(self) -> (Vec<S>, Vec<Vec<Entry>>)
         ensures stores { result.0.items ≡ map (λ s. s.store) self }
         ensures entries { map (λ order. order.items) result.1.items ≡ map (λ s. s.entries) self }
-        ensures orders { Each (λ s. IsOrder S.owns S.contents S.told S.faults s.start s.keys s.store s.entries) self }
+        ensures orders { Each (λ s. IsOrder S.owns S.contents S.calls S.faults s.start s.keys s.store s.entries) self }
         ensures left { AllLeft S.contents self }
     {
         let Shards {
@@ -168,7 +168,7 @@ impl<S: Store + Drop> Shards<S> {
     ) -> Result<Shards<S>, AllocError>
         requires shards { (1 ≤ length stores.items) × (length stores.items ≤ 65535) }
         requires quotas { length quotas.items ≡ length stores.items }
-        requires calls { Each (λ s. IfSome (S.told s) (λ told. told.calls ≡ 0)) stores.items }
+        requires calls { Each (λ s. IfSome (S.calls s) (λ told. told.calls ≡ 0)) stores.items }
         ensures { IfOk result (λ m. m ≡ opened_with stores.items quotas.items) }
     {
         let mut shards = Vec::with_capacity(alloc, stores.len())?;

@@ -24,8 +24,8 @@ abbrev pub bytes_of_words : List ℕ → List ℕ
 bytes_of_words words = flat_map (to_le_bytes w32) words
 
 -- bytes 0 to 63: the key (for XTS its halves at 0 and 32), and zeros after a short one
-abbrev pub key_field : List ℕ → List ℕ
-key_field raw = raw ++ replicate (64 - length raw) 0
+abbrev pub key_bytes : List ℕ → List ℕ
+key_bytes raw = raw ++ replicate (64 - length raw) 0
 
 -- bytes 64 to 71: the data unit's size in sectors, the capability index, a reserved byte, 0x80 for
 -- an entry that is enabled, and dword 17
@@ -34,7 +34,7 @@ settings unit index = sectors_of unit ∷ index ∷ 0 ∷ 0x80 ∷ 0 ∷ 0 ∷ 0
 
 -- the bytes of a key's entry, under a capability index
 abbrev pub entry_bytes : KeyData → ℕ → List ℕ
-entry_bytes key index = key_field key.raw ++ settings key.config.unit index
+entry_bytes key index = key_bytes key.raw ++ settings key.config.unit index
 
 -- the dwords of a key's entry, if a capability serves its mode and data unit
 unfoldable pub entry_words : KeyData → Capabilities → Option (List ℕ)

@@ -7,21 +7,21 @@ use Rattle.bc_modes.specs.Entries.{entry_words, read_words}
 use Rattle.bc_modes.specs.UnitCipher.{enc, dec, parts_of}
 
 -- whole blocks of bytes
-pub record IsText (text : List ℕ) : Type 0 where
+pub record IsWholeBlocks (text : List ℕ) : Type 0 where
   pub whole_blocks : length text % 16 ≡ 0
   pub bytes : All (λ b. b < 256) text
 
 -- under each valid key and each number, deciphering an enciphered text gives the text back
 abbrev pub DecipheringUndoes : Type 0
 DecipheringUndoes =
-    (key : KeyData) (number : ℕ) (text : List ℕ) → IsValid key.config key.raw → IsText text
+    (key : KeyData) (number : ℕ) (text : List ℕ) → IsValid key.config key.raw → IsWholeBlocks text
     → dec key number (enc key number text) ≡ text
 
 -- an enciphered text has whole blocks of bytes too
 abbrev pub EncipheringMakesTexts : Type 0
 EncipheringMakesTexts =
-    (key : KeyData) (number : ℕ) (text : List ℕ) → IsValid key.config key.raw → IsText text
-    → IsText (enc key number text)
+    (key : KeyData) (number : ℕ) (text : List ℕ) → IsValid key.config key.raw → IsWholeBlocks text
+    → IsWholeBlocks (enc key number text)
 
 -- it is as long as it was, whatever the key and the numbers that stand in it
 abbrev pub EncipheringKeepsLength : Type 0

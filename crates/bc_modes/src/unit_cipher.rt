@@ -31,15 +31,15 @@ impl Model for UnitCipher {
 
     ghost Value = { CipherParts };
 
-    ghost use Rattle.bc_modes.specs.Schedules.{mode_of, raw_of};
+    ghost use Rattle.bc_modes.specs.Schedules.{mode_of_schedules, raw_of};
 
     ghost view = { λ cipher.
-        record { mode = mode_of cipher.schedules; unit = cipher.unit; raw = raw_of cipher.schedules } };
+        record { mode = mode_of_schedules cipher.schedules; unit = cipher.unit; raw = raw_of cipher.schedules } };
 
     ghost use Rattle.std.specs.Prelude.{◌≡◌, length};
     ghost use Rattle.bc_key.specs.KeyData.{key_size};
 
-    ghost invariant = { λ cipher. length (raw_of cipher.schedules) ≡ key_size (mode_of cipher.schedules) };
+    ghost invariant = { λ cipher. length (raw_of cipher.schedules) ≡ key_size (mode_of_schedules cipher.schedules) };
 }
 
 impl UnitCipher {

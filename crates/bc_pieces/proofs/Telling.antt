@@ -25,8 +25,8 @@ use Rattle.bc_queue.specs.Carrying.{IsCarried}
 use Rattle.bc_queue.specs.Queues.{IsUnderKey}
 use Rattle.bc_queue.proofs.Lists.{each_filter, each_range}
 use Rattle.bc_queue.proofs.Queues.{zip_right}
-use Rattle.bc_pieces.specs.Pieces.{DeviceFacts, CarriesPiece, CarriesFirst, NotesOn, access_by, at_device, is_piece_on, is_piece_under, named_on, part_of}
-use Rattle.bc_pieces.specs.Told.{GoesByDevice, HasHoldBetween, IsHoldOf, NamesNoEarlier, Rise, Tells, events_on}
+use Rattle.bc_pieces.specs.Pieces.{DeviceFacts, CarriesPiece, CarriesFirst, NotesOn, access_by, at_device, is_piece_on, is_piece_under, named_on, piece_part}
+use Rattle.bc_pieces.specs.PieceEffects.{GoesByDevice, HasHoldBetween, IsHoldOf, NamesNoEarlier, Rise, AddsByDevice, events_on}
 use Rattle.bc_pieces.proofs.Units.{part_on, piece_on, piece_under, sector_on}
 use Rattle.bc_medium.proofs.Growing.{begins_itself, begins_trans, grows_none, grows_append}
 
@@ -157,7 +157,7 @@ module _ (name : HoldsNameProgrammings) (name_later : LaterHoldsNameLater) where
 
 -- ---- what pieces tell
 
-unfoldable pub tells_none : (facts : DeviceFacts) → Tells facts facts []
+unfoldable pub tells_none : (facts : DeviceFacts) → AddsByDevice facts facts []
 tells_none facts = record {
   same = record { keys = refl; shards = refl; caller = refl; targets = refl; slots = refl };
   made = [];
@@ -172,7 +172,7 @@ tells_none facts = record {
 }
 
 module _ (name : HoldsNameProgrammings) (name_later : LaterHoldsNameLater) (Exact : DeviceFacts → DeviceFacts → ℕ → List NamedUnit → Type 0) (old mid new : DeviceFacts) (before after : RequestParts) (first : ℕ) (piece : List NamedUnit) (pieces : List (List NamedUnit)) where
-  unfoldable pub tells_more : CarriesFirst Exact old.access.keys old.targets old mid before after first piece → first + length piece ≤ count_units (tagged_bios before.bios) → Tells mid new pieces → Tells old new (piece ∷ pieces)
+  unfoldable pub tells_more : CarriesFirst Exact old.access.keys old.targets old mid before after first piece → first + length piece ≤ count_units (tagged_bios before.bios) → AddsByDevice mid new pieces → AddsByDevice old new (piece ∷ pieces)
   tells_more f within q =
       let p : CarriesPiece old mid before after first f.device (length piece) = f.carries in
       let device : ℕ = f.device in
@@ -210,7 +210,7 @@ module _ (name : HoldsNameProgrammings) (name_later : LaterHoldsNameLater) (Exac
         spare = λ shard.
             let spent = p.carries.spare shard in
             let part = part_on old.access.keys before old.access.shards shard first (length piece) within in
-            let same : named_on old.access.shards shard piece ≡ named_on old.access.shards shard (part_of old.access.keys before first (length piece)) = ap (named_on old.access.shards shard) f.piece_is in
+            let same : named_on old.access.shards shard piece ≡ named_on old.access.shards shard (piece_part old.access.keys before first (length piece)) = ap (named_on old.access.shards shard) f.piece_is in
             let rest : mid.access.spare shard ≤ new.access.spare shard + sum_by (named_on old.access.shards shard) pieces = subst (λ (k : ℕ). mid.access.spare shard ≤ new.access.spare shard + sum_by (named_on k shard) pieces) p.same.shards (q.spare shard) in
             let sum = sum_by-cons (named_on old.access.shards shard) piece pieces in
             omega (arith, spent, part, same, rest, sum);

@@ -1,4 +1,4 @@
--- Entries of callers, quotas, and fronts of a story.
+-- Entries of callers, quotas, and prefixes of a story.
 use Rattle.std.proofs.Common.{◌≡◌, ◌≢◌, ℕ, ◌+◌, ◌-◌, ◌<◌, ◌≤◌, List, [], ◌∷◌, ◌++◌, length, set, get_or, refl, sym, ap, ◌∙◌, subst, arith, eq-eqb, ne_eqb, append-nil}
 use Rattle.std.specs.Prelude.{sum, ◌==◌}
 use Rattle.std.proofs.lemmas.List.{append_assoc, get_or_past, get_or-set_same, get_or-set_other}

@@ -10,12 +10,12 @@ use Rattle.bc_profile.specs.declared.uses.Use.TheVariants as uses
 use Rattle.bc_profile.specs.SlotJournal.{Slots, idle_order, after_events}
 
 -- this is the key
-abbrev pub is_key : ℕ → Option ℕ → Bool
-is_key key has = option_map_or (λ other. other == key) has false
+abbrev pub has_key : ℕ → Option ℕ → Bool
+has_key key has = option_map_or (λ other. other == key) has false
 
 -- the slot that has the key
 abbrev pub slot_with : Slots → ℕ → Option ℕ
-slot_with slots key = position (is_key key) slots.keys
+slot_with slots key = position (has_key key) slots.keys
 
 -- the least recently idle slot
 abbrev pub first_idle : Slots → ℕ

@@ -5,7 +5,7 @@ use Rattle.atomic_table.specs.Seated.{TableId}
 use Rattle.std.specs.List.{list_any}
 use Rattle.bc_base.specs.Lists.{Each, EachFrom}
 use Rattle.bc_base.specs.Story.{own, StartsWith, IsFront}
-use Rattle.bc_turn.specs.Parts.{Part, Pass, TurnsData, CellData, part_key, cell_key}
+use Rattle.bc_turn.specs.PassParts.{Part, Pass, TurnsData, CellData, part_key, cell_key}
 use Rattle.bc_profile.specs.declared.event.Event.{Event}
 use Rattle.bc_profile.specs.declared.event.Event.TheVariants as events
 use Rattle.bc_profile.specs.declared.limits.TheConstants.{MAX_EVENTS}
@@ -145,7 +145,7 @@ pub record Evicts (slots : ℕ) (old new : SlotFacts) (key : ℕ) : Type 0 where
   pub gone : IsGone slots new.seen key
 
 -- what an eviction adds that is refused: that the key's slot was found with so many references
-pub record Refuses (slots : ℕ) (old new : SlotFacts) (key slot refs : ℕ) : Type 0 where
+pub record RefusesEviction (slots : ℕ) (old new : SlotFacts) (key slot refs : ℕ) : Type 0 where
   pub noticed : Noticed old new (events.Busy slot key refs ∷ [])
   pub has_key : key_of (slots_told slots noticed.front) slot ≡ Some key
   pub referenced : 1 ≤ refs
@@ -187,9 +187,9 @@ abbrev pub AreAllHere : ProfileData → List SlotFacts → Type 0
 AreAllHere profile passes =
     (caller : ℕ) → caller < profile.turns.callers → list_any (λ pass. pass.caller == caller) passes ≡ true
 
--- what a closed story is: its events are a lawful journal; each pass's front begins it and has all
+-- what a closed story is: its events are a lawful journal; each pass's seen front begins it and has all
 -- entries of its caller; and nobody else made one
-pub record IsClosed (profile : ProfileData) (passes : List SlotFacts) (story : List Noted) : Type 0 where
+pub record IsClosedStory (profile : ProfileData) (passes : List SlotFacts) (story : List Noted) : Type 0 where
   pub lawful : IsLawful (slots_in profile) (events_of story)
   pub fronts : Each (λ pass. IsFront author_of pass.caller pass.seen story) passes
   pub strangers : (caller : ℕ) → profile.turns.callers ≤ caller → own author_of caller story ≡ []

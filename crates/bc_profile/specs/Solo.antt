@@ -17,12 +17,12 @@ pub record SoloData : Type 0 where
   pub quota : ℕ
 
 -- nothing is recorded, and no slot is held
-abbrev pub opened : ℕ → List (List ℕ) → ℕ → SoloData
-opened count rows quota = record { count = count; rows = rows; journal = []; held = None; quota = quota }
+abbrev pub opened_solo : ℕ → List (List ℕ) → ℕ → SoloData
+opened_solo count rows quota = record { count = count; rows = rows; journal = []; held = None; quota = quota }
 
 -- these events are recorded, and then this slot is held, or none
-abbrev pub recorded : SoloData → List Event → Option ℕ → SoloData
-recorded solo events held = record solo { journal = solo.journal ++ events; held = held }
+abbrev pub solo_with_events : SoloData → List Event → Option ℕ → SoloData
+solo_with_events solo events held = record solo { journal = solo.journal ++ events; held = held }
 
 -- the slots as the journal leaves them
 abbrev pub slots_of : SoloData → Slots

@@ -6,7 +6,7 @@ ghost use Rattle.bc_profile.specs.declared.event.Event.TheVariants as events;
 ghost use Rattle.bc_profile.specs.declared.limits.TheConstants.{MAX_SLOTS, MAX_EVENTS};
 ghost use Rattle.bc_profile.specs.SlotJournal.{IsLawful};
 ghost use Rattle.bc_profile.specs.Story.{Holds, IsGone, events_of};
-ghost use Rattle.bc_profile.specs.Book.{HasRoom, TakesHold, NoneFree, AllHeld, IsHeldBy, Empties, IsBusy, given_back, recorded};
+ghost use Rattle.bc_profile.specs.Book.{HasRoom, TakesHold, NoneFree, AllHeld, IsHeldBy, Empties, IsBusy, given_back, book_with_events};
 
 use crate::lists::copies;
 use crate::table::{Emptied, SlotTable, Took};
@@ -189,7 +189,7 @@ impl Book {
         requires room { HasRoom self.old }
         ensures idle { result ≡ list_all (λ refs. refs == 0) self.old.refs }
         ensures made { self.new ≡
-            if result then recorded self.old caller (events.Reset ∷ []) self.old.refs else self.old }
+            if result then book_with_events self.old caller (events.Reset ∷ []) self.old.refs else self.old }
     {
         let idle = self.table.is_idle();
         if idle {

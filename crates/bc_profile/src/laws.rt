@@ -1,5 +1,5 @@
 //! The laws of holds.
-ghost use Rattle.bc_profile.specs.Laws.{HoldsNameProgrammings, ProgrammingsStay, LaterHoldsNameLater, HoldsBehindEvictions};
+ghost use Rattle.bc_profile.specs.Laws.{HoldsNameProgrammings, ProgrammingsStay, LaterHoldsNameLater, HoldsAfterEvictions};
 
 /// Does nothing, and states what the epochs of holds tell whatever other callers do: a hold names
 /// the event that programmed its slot with its key, and goes on to do so; a later hold of the key
@@ -11,5 +11,5 @@ pub fn hold_laws()
     ensures names { HoldsNameProgrammings }
     ensures stays { ProgrammingsStay }
     ensures later { LaterHoldsNameLater }
-    ensures behind { HoldsBehindEvictions }
+    ensures behind { HoldsAfterEvictions }
 {}

@@ -6,7 +6,7 @@ ghost use Rattle.bc_profile.specs.declared.noted.Noted.{Noted};
 ghost use Rattle.bc_profile.specs.declared.event.Event.TheVariants.{Reset};
 ghost use Rattle.bc_profile.specs.declared.limits.TheConstants.{ROW_WORDS, MAX_SLOTS, MAX_EVENTS};
 ghost use Rattle.bc_profile.specs.Story.{Holds, events_of};
-ghost use Rattle.bc_profile.specs.Passes.{IsOf, HasSpare, Noticed, Gets, AllFoundHeld, Puts, Evicts, Refuses, slots_in, row_at, base_in, quota_of, made_by, new_pass, AreAllHere, IsClosed, IsFree};
+ghost use Rattle.bc_profile.specs.Passes.{IsOf, HasSpare, Noticed, Gets, AllFoundHeld, Puts, Evicts, RefusesEviction, slots_in, row_at, base_in, quota_of, made_by, new_pass, AreAllHere, IsClosedStory, IsFree};
 
 use crate::seats::{seat, take_events, unseat};
 use crate::{Book, BookBase, Busy, Event, Hold, Row, SlotPass, Words};
@@ -112,7 +112,7 @@ impl Profile {
         requires free { Each (λ pass. pass.hold ≡ None) passes.items }
         requires here { AreAllHere self passes.items }
         ensures closed { IfOk result (λ journal. (story : List Noted) × (journal.items ≡ events_of story)
-            × IsClosed self passes.items story) }
+            × IsClosedStory self passes.items story) }
         ensures back { IfErr result (λ back. (back.0 ≡ self) × (back.1.items ≡ passes.items)) }
     {
         let limit = total(self.quotas.as_slice()) as usize;
@@ -240,7 +240,7 @@ impl Profile {
         ensures free { pass.new.hold ≡ None }
         ensures evicted { MatchResult result
             (λ _. Evicts (slots_in self.now) pass.old pass.new key.0)
-            (λ busy. Refuses (slots_in self.now) pass.old pass.new key.0 busy.slot busy.refs) }
+            (λ busy. RefusesEviction (slots_in self.now) pass.old pass.new key.0 busy.slot busy.refs) }
     {
         let mut book = self.turns.take(rt, &mut pass.turn, 0);
         let evicted = book.evict(pass.turn.number(), key.0);

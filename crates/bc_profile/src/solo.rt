@@ -9,7 +9,7 @@ ghost use Rattle.bc_profile.specs.declared.event.Event.TheVariants as events;
 ghost use Rattle.bc_profile.specs.SlotJournal.{InNoSlot, IsLawful, AllIdle};
 ghost use Rattle.bc_profile.specs.Programmings.{Holds};
 ghost use Rattle.bc_profile.specs.OneCaller.{slot_with, slot_for, first_idle, events_of_hold, events_of_eviction};
-ghost use Rattle.bc_profile.specs.Solo.{HasSpare, opened, recorded, slots_of, row_in};
+ghost use Rattle.bc_profile.specs.Solo.{HasSpare, opened_solo, solo_with_events, slots_of, row_in};
 
 use crate::lists::{copies, numbers};
 use crate::registers::{CLEARED, Row, program_again};
@@ -68,7 +68,7 @@ impl Solo {
         requires some { 1 ≤ slots }
         requires few { slots ≤ MAX_SLOTS }
         requires events { events < MAX_EVENTS }
-        ensures { IfOk result (λ solo. solo ≡ opened slots rows.items events) }
+        ensures { IfOk result (λ solo. solo ≡ opened_solo slots rows.items events) }
     {
         let count = usize::from(slots);
         Ok(Solo {
@@ -101,7 +101,7 @@ impl Solo {
         requires key { key.0 < length self.old.rows }
         requires spare { HasSpare self.old 2 }
         ensures records { self.new ≡
-            recorded self.old (events_of_hold (slots_of self.old) key.0) (Some result.0) }
+            solo_with_events self.old (events_of_hold (slots_of self.old) key.0) (Some result.0) }
         ensures slot { result.0 ≡ slot_for (slots_of self.old) key.0 }
         ensures holds { Holds self.new.count self.new.journal key.0 result.0 result.1 }
     {
@@ -119,7 +119,7 @@ impl Solo {
         requires nowhere { slot_with (slots_of self.old) key.0 ≡ None }
         requires spare { HasSpare self.old 2 }
         ensures records { self.new ≡
-            recorded self.old (events.Program result.0 key.0 [] ∷ []) (Some result.0) }
+            solo_with_events self.old (events.Program result.0 key.0 [] ∷ []) (Some result.0) }
         ensures slot { result.0 ≡ first_idle (slots_of self.old) }
         ensures holds { Holds self.new.count self.new.journal key.0 result.0 result.1 }
     {
@@ -148,7 +148,7 @@ impl Solo {
     /// Gives back the hold of the slot, which is idle from now on and keeps its key.
     pub fn put(&mut self, slot: u16)
         requires { self.old.held ≡ Some slot }
-        ensures { self.new ≡ recorded self.old (events.Idle slot ∷ []) None }
+        ensures { self.new ≡ solo_with_events self.old (events.Idle slot ∷ []) None }
     {
         let stamp = (self.keys.len() + self.journal.len()) as u32;
         self.stamps[usize::from(slot)] = stamp;
@@ -163,7 +163,7 @@ impl Solo {
         requires key { key.0 < length self.old.rows }
         requires spare { HasSpare self.old 1 }
         ensures records { self.new ≡
-            recorded self.old (events_of_eviction (slots_of self.old) key.0) None }
+            solo_with_events self.old (events_of_eviction (slots_of self.old) key.0) None }
         ensures gone { InNoSlot (slots_of self.new) key.0 }
     {
         if let Some(slot) = slot_with(self.keys.as_slice(), key.0) {
@@ -182,7 +182,7 @@ impl Solo {
     pub fn reset(&mut self)
         requires free { self.old.held ≡ None }
         requires spare { HasSpare self.old 1 }
-        ensures { self.new ≡ recorded self.old (events.Reset ∷ []) None }
+        ensures { self.new ≡ solo_with_events self.old (events.Reset ∷ []) None }
     {
         program_again(
             self.registers.as_mut_slice(),

@@ -10,7 +10,7 @@ use Rattle.bc_key.specs.KeyData.{KeyData}
 use Rattle.bc_medium.specs.declared.entry.Entry.{Entry}
 use Rattle.bc_medium.specs.declared.unit_name.UnitName.{UnitName}
 use Rattle.bc_medium.specs.KeyedDisk.{Sectors, UnitAnswer}
-use Rattle.bc_medium.specs.Places.{shard_of}
+use Rattle.bc_medium.specs.Layout.{shard_of}
 use Rattle.bc_medium.specs.Entries.{caller_of, IsToldAt}
 use Rattle.bc_medium.specs.Growth.{Appended, lies_in, Grows}
 use Rattle.bc_medium.specs.Laws.{AnswersStay}
@@ -39,7 +39,7 @@ module _ (shards caller : ℕ) where
         (cases_eq other shard);
   }
 
--- what was told at a place is told there along each longer order
+-- what was answered at a place is answered there along each longer order
 pub told_more : AnswersStay → (keys : List KeyData) (contents : Option Sectors) (order longer : List Entry) (place : ℕ) (name : UnitName) (answer : UnitAnswer) → StartsWith longer order → IsToldAt keys contents order place name answer → IsToldAt keys contents longer place name answer
 told_more stay keys contents order longer place name answer begins told =
     subst (λ l. IsToldAt keys contents l place name answer) (sym begins.1) (stay keys contents order begins.0 place name answer told)

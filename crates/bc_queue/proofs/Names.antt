@@ -18,7 +18,7 @@ use Rattle.bc_bio.proofs.RequestLaws.{unit_found}
 use Rattle.bc_medium.specs.declared.entry.Entry.{Entry}
 use Rattle.bc_medium.specs.declared.unit_name.UnitName.{UnitName}
 use Rattle.bc_medium.specs.Entries.{name_of_entry, unit_name}
-use Rattle.bc_medium.specs.LawfulOrders.{name_of, is_attempted, is_earlier}
+use Rattle.bc_medium.specs.LawfulOrders.{unit_name_of, is_attempted, is_earlier}
 use Rattle.bc_medium.specs.Growth.{failed_names, IsEntryOf}
 use Rattle.bc_queue.specs.RequestUnits.{no_unit, planned_at, faults_of, with_fault_at, with_faults, attempted_in, failed_among}
 use Rattle.bc_queue.specs.Carrying.{AccessFacts, IsCarried, CarriesOut}
@@ -162,7 +162,7 @@ module _ (keys : List KeyData) (caller : ℕ) (tagged : List TaggedBio) (differ 
 
 module _ (old : AccessFacts) (seen : List (List Entry)) (before after : List MarkedBio) where
   abbrev unit_names : ℕ → UnitName
-  unit_names n = name_of old.caller (planned_at old.keys before n)
+  unit_names n = unit_name_of old.caller (planned_at old.keys before n)
 
   failed_are : (ns : List ℕ) (es : List Entry) → AllZip (IsCarried old seen before after) ns es → failed_names es ≡ map unit_names (failed_among ns es)
   failed_are [] [] all = refl
@@ -220,7 +220,7 @@ by_names old new before after first count met carries within differ same =
     (each_range (λ n. is_attempted (met ++ failed_names carries.made) (name old.keys old.caller tagged differ n) ≡ not (is_over after.bios n)) first count (λ k from below. agree k (omega (arith, below, within)))) in record {
       attempts =
           subst (λ us. AllZip (IsEntryOf old.caller) us carries.made)
-          (sym (filter_map' (planned_at old.keys before.bios) (λ u. is_attempted (met ++ failed_names carries.made) (name_of old.caller u)) (range_with_len first count) ∙ ap (map (planned_at old.keys before.bios)) numbers))
+          (sym (filter_map' (planned_at old.keys before.bios) (λ u. is_attempted (met ++ failed_names carries.made) (unit_name_of old.caller u)) (range_with_len first count) ∙ ap (map (planned_at old.keys before.bios)) numbers))
           (entries_of old new.seen before.bios after.bios ns carries.made carries.carried);
       marks = λ n in_n.
           let in_before : n < count_units tagged = subst (λ t. n < count_units t) carries.bios in_n in

@@ -31,7 +31,7 @@ use Rattle.bc_ufs.specs.Controllers.{ControllerData, row_for, Serves}
 use Rattle.bc_medium.specs.declared.entry.Entry.{Entry}
 use Rattle.bc_queue.specs.RequestUnits.{named_at, no_unit, attempted_in}
 use Rattle.bc_queue.specs.Carrying.{AccessFacts, IsCarried, ArePerformable}
-use Rattle.bc_queue.specs.Queues.{QueueData, HasEvents, CanGo, IsHolding, HasHold, HasGot, HasPut, HoldsOnce, IsController, TakesInline, TakesUnder, InlineData, IsUnderKey}
+use Rattle.bc_queue.specs.Queues.{QueueData, HasEvents, CanGo, IsHolding, PassHasHold, HasGot, HasPut, HoldsOnce, IsController, TakesInline, TakesUnder, InlineData, IsUnderKey}
 use Rattle.bc_queue.proofs.Lists.{each_range, each_filter}
 use Rattle.bc_base.proofs.Members.{at_set}
 
@@ -255,7 +255,7 @@ module _ {S : Type 0} (queue : QueueData S) (slots : List SlotFacts) (device : �
   abbrev pub way_of : InlineData S
   way_of = record { controller = controller; hold = hold; medium = queue.medium; slots = slots }
 
-  pub has_hold : IsHolding queue slots device hold → At queue.controllers device controller → IsController queue.medium.keys.keys device controller → HasHold way_of slots
+  pub has_hold : IsHolding queue slots device hold → At queue.controllers device controller → IsController queue.medium.keys.keys device controller → PassHasHold way_of slots
   has_hold h at is =
       let same : h.controller ≡ controller = at_one queue.controllers device h.controller controller h.controller_at at in record {
         same = refl;

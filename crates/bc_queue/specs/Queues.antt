@@ -14,15 +14,15 @@ use Rattle.bc_bio.specs.declared.marked_bio.MarkedBio.{MarkedBio}
 use Rattle.bc_bio.specs.Extent.{unit_sectors}
 use Rattle.bc_bio.specs.Windows.{count_units}
 use Rattle.bc_bio.specs.Requests.{RequestParts, tagged_bios}
-use Rattle.bc_turn.specs.Parts.{Pass}
+use Rattle.bc_turn.specs.PassParts.{Pass}
 use Rattle.bc_medium.specs.declared.entry.Entry.{Entry}
 use Rattle.bc_medium.specs.declared.via.Via.{Via}
 use Rattle.bc_medium.specs.declared.via.Via.TheVariants as ways
 use Rattle.bc_medium.specs.Medium.{MediumData, OpeningData, shards_of, seen_by, own_at, quota_of, Belongs, OwnsSectors}
 use Rattle.bc_profile.specs.Story.{Holds}
 use Rattle.bc_profile.specs.Passes.{SlotFacts, HoldFacts, ProfileData, slots_in, IsOf, HasSpare, Gets, Puts}
-use Rattle.bc_ufs.specs.Controllers.{ControllerData, row_for, Serves, via_of}
-use Rattle.bc_queue.specs.RequestUnits.{named_at, planned_part, units_on}
+use Rattle.bc_ufs.specs.Controllers.{ControllerData, row_for, Serves, via_by_device}
+use Rattle.bc_queue.specs.RequestUnits.{named_at, planned_part, count_units_on}
 use Rattle.bc_queue.specs.Carrying.{AccessFacts, CarriesOut, ArePerformable}
 
 -- a queue: its controllers by device, and its medium
@@ -104,7 +104,7 @@ CanGoPlain owns queue bios =
 -- the pass has a spare of an entry for each of so many units of a request from this number on, on the unit's shard
 abbrev pub HasSpareOfUnits : {S : Type 0} → QueueData S → Pass Entry (OpeningData S) → List MarkedBio → ℕ → ℕ → Type 0
 HasSpareOfUnits queue units bios first count =
-    (shard : ℕ) → units_on (shards_of queue.medium) shard (planned_part queue.medium.keys.keys bios first count)
+    (shard : ℕ) → count_units_on (shards_of queue.medium) shard (planned_part queue.medium.keys.keys bios first count)
     ≤ spare_of queue.medium units shard
 
 -- Private: the pass of this device's keyslots has the hold.
@@ -153,7 +153,7 @@ pub record InlineData (S : Type 0) : Type 0 where
   pub slots : List SlotFacts
 
 -- Private: the passes of the keyslots are still those, and that of the controller's device has the hold.
-pub record HasHold {S : Type 0} (way : InlineData S) (slots : List SlotFacts) : Type 0 where
+pub record PassHasHold {S : Type 0} (way : InlineData S) (slots : List SlotFacts) : Type 0 where
   pub same : slots ≡ way.slots
   pub pass : SlotFacts
   pub pass_at : At slots way.controller.device pass

@@ -162,7 +162,7 @@ fn request_of(alloc: Global, access: Access, units: u32) -> Result<Request, Allo
     Ok(request)
 }
 
-/// Puts a bio behind the others of a request, at this sector.
+/// Puts a bio after the others of a request, at this sector.
 fn join(
     alloc: Global,
     keys: &Keys,

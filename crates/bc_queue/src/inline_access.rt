@@ -7,8 +7,8 @@ ghost use Rattle.bc_bio.specs.Extent.{unit_sectors};
 ghost use Rattle.bc_medium.specs.KeyedDisk.{Written, Faulted, Text};
 ghost use Rattle.bc_medium.specs.Entries.{written_entry, read_entry, failed_entry, unit_name};
 ghost use Rattle.bc_medium.specs.Medium.{Belongs, HasRoom, Accesses, AnswersSeen};
-ghost use Rattle.bc_ufs.specs.Controllers.{via_of};
-ghost use Rattle.bc_queue.specs.Queues.{HasHold, TakesUnder};
+ghost use Rattle.bc_ufs.specs.Controllers.{via_by_device};
+ghost use Rattle.bc_queue.specs.Queues.{PassHasHold, TakesUnder};
 
 use crate::{QueuePass, Scratch, UnitAccess};
 use bc_base::{Place, Store};
@@ -75,7 +75,7 @@ impl<'a, S: Store> InlineAccess<'a, S> {
         at: &UnitAt,
         plain: Vec<u8>,
     ) -> Result<Place, (Fault, Vec<u8>)>
-        requires hold { HasHold self.old slots.old.items }
+        requires hold { PassHasHold self.old slots.old.items }
         requires takes { TakesUnder S.owns self.old at.now.sector at.now.context }
         requires pass { Belongs self.old.medium units.old }
         requires caller { at.now.caller ≡ units.old.caller }
@@ -86,9 +86,9 @@ impl<'a, S: Store> InlineAccess<'a, S> {
         ensures pass { Belongs self.old.medium units.new }
         ensures caller { units.new.caller ≡ units.old.caller }
         ensures performs { IfOk result (Accesses self.old.medium units.old units.new
-            (written_entry at.now (via_of self.old.controller self.old.hold) plain.items)) }
+            (written_entry at.now (via_by_device self.old.controller self.old.hold) plain.items)) }
         ensures performs_fault { IfErr result (λ fault. Accesses self.old.medium units.old units.new
-            (failed_entry accesses.Write at.now (via_of self.old.controller self.old.hold)) fault.0.place) }
+            (failed_entry accesses.Write at.now (via_by_device self.old.controller self.old.hold)) fault.0.place) }
         ensures back { IfErr result (λ fault. fault.1.items ≡ plain.items) }
         ensures answer { IfOk result (AnswersSeen S.contents self.old.medium units.new (unit_name at.now) Written) }
         ensures answer_fault { IfErr result (λ fault.
@@ -121,7 +121,7 @@ impl<'a, S: Store> InlineAccess<'a, S> {
         at: &UnitAt,
         text: &mut [u8],
     ) -> Result<Place, Fault>
-        requires hold { HasHold self.old slots.old.items }
+        requires hold { PassHasHold self.old slots.old.items }
         requires takes { TakesUnder S.owns self.old at.now.sector at.now.context }
         requires pass { Belongs self.old.medium units.old }
         requires caller { at.now.caller ≡ units.old.caller }
@@ -132,9 +132,9 @@ impl<'a, S: Store> InlineAccess<'a, S> {
         ensures pass { Belongs self.old.medium units.new }
         ensures caller { units.new.caller ≡ units.old.caller }
         ensures performs { IfOk result (Accesses self.old.medium units.old units.new
-            (read_entry at.now (via_of self.old.controller self.old.hold))) }
+            (read_entry at.now (via_by_device self.old.controller self.old.hold))) }
         ensures performs_fault { IfErr result (λ fault. Accesses self.old.medium units.old units.new
-            (failed_entry accesses.Read at.now (via_of self.old.controller self.old.hold)) fault.place) }
+            (failed_entry accesses.Read at.now (via_by_device self.old.controller self.old.hold)) fault.place) }
         ensures length { length text.new ≡ length text.old }
         ensures answer { IfOk result (AnswersSeen S.contents self.old.medium units.new (unit_name at.now)
             (Text text.new)) }
@@ -161,13 +161,13 @@ impl<'a, S: Store> InlineAccess<'a, S> {
 impl<'a, S: Store, R: Wait> UnitAccess<R, QueuePass<S>> for InlineAccess<'a, S> {
     ghost use Rattle.std.specs.Prelude.{◌≡◌};
     ghost use Rattle.bc_medium.specs.Medium.{Belongs};
-    ghost use Rattle.bc_ufs.specs.Controllers.{via_of};
-    ghost use Rattle.bc_queue.specs.Queues.{facts_by, HasHold, TakesUnder};
+    ghost use Rattle.bc_ufs.specs.Controllers.{via_by_device};
+    ghost use Rattle.bc_queue.specs.Queues.{facts_by, PassHasHold, TakesUnder};
 
-    ghost facts = { λ a pass. facts_by S.contents a.medium (via_of a.controller a.hold) pass.units };
+    ghost facts = { λ a pass. facts_by S.contents a.medium (via_by_device a.controller a.hold) pass.units };
 
     ghost is_ready = { λ a pass. Belongs a.medium pass.units × (pass.units.caller ≡ pass.caller)
-        × HasHold a pass.slots.items };
+        × PassHasHold a pass.slots.items };
 
     ghost takes = { λ a sector context. TakesUnder S.owns a sector context };
 

@@ -7,9 +7,9 @@ ghost use Rattle.bc_bio.specs.declared.unit.Unit.TheVariants as units;
 ghost use Rattle.bc_bio.specs.Extent.{unit_sectors};
 ghost use Rattle.bc_bio.specs.Windows.{IsRequest, count_units};
 ghost use Rattle.bc_bio.specs.Requests.{tagged_bios, with_unit, unit_in};
-ghost use Rattle.bc_medium.specs.Places.{shard_of};
+ghost use Rattle.bc_medium.specs.Layout.{shard_of};
 ghost use Rattle.bc_queue.specs.RequestUnits.{named_at, access_at};
-ghost use Rattle.bc_queue.specs.Carrying.{AttemptsOne, CarriesOne, CarriesOut, IsPerformable, ArePerformable};
+ghost use Rattle.bc_queue.specs.Carrying.{AttemptsOne, TriesUnit, CarriesOut, IsPerformableUnit, ArePerformable};
 ghost use Rattle.bc_queue.specs.Carrying.{HasSpareFor};
 ghost use Rattle.bc_queue.specs.Carrying.{IsUnitAt, IsSomeFull, HasOther};
 
@@ -67,12 +67,12 @@ fn carry_out_one<R, P, A: UnitAccess<R, P>>(
     requires keys { (A.facts access.old pass.old).keys ≡ keys.now.keys }
     requires request { IsRequest keys.now.keys (tagged_bios request.old.bios) }
     requires within { n < count_units (tagged_bios request.old.bios) }
-    requires unit { IsPerformable keys.now.keys (A.takes access.old) request.old.bios n }
+    requires unit { IsPerformableUnit keys.now.keys (A.takes access.old) request.old.bios n }
     requires spare { 1 ≤ (A.facts access.old pass.old).spare
         (shard_of (A.facts access.old pass.old).shards (named_at keys.now.keys request.old.bios n).sector) }
     ensures same { access.new ≡ access.old }
     ensures ready { A.is_ready access.new pass.new }
-    ensures carries { CarriesOne (A.facts access.old pass.old) (A.facts access.new pass.new) request.old request.new n }
+    ensures carries { TriesUnit (A.facts access.old pass.old) (A.facts access.new pass.new) request.old request.new n }
 {
     if request.is_over(n) {
         return;
@@ -105,7 +105,7 @@ fn write_unit<R, P, A: UnitAccess<R, P>>(
     requires at { IsUnitAt (A.facts access.old pass.old) request.old.bios n at.now }
     requires writes { access_at request.old.bios n ≡ accesses.Write }
     requires within { n < count_units (tagged_bios request.old.bios) }
-    requires unit { IsPerformable (A.facts access.old pass.old).keys (A.takes access.old) request.old.bios n }
+    requires unit { IsPerformableUnit (A.facts access.old pass.old).keys (A.takes access.old) request.old.bios n }
     requires spare { 1 ≤ (A.facts access.old pass.old).spare
         (shard_of (A.facts access.old pass.old).shards at.now.sector) }
     ensures same { access.new ≡ access.old }
@@ -136,7 +136,7 @@ fn read_unit<R, P, A: UnitAccess<R, P>>(
     requires at { IsUnitAt (A.facts access.old pass.old) request.old.bios n at.now }
     requires reads { access_at request.old.bios n ≡ accesses.Read }
     requires within { n < count_units (tagged_bios request.old.bios) }
-    requires unit { IsPerformable (A.facts access.old pass.old).keys (A.takes access.old) request.old.bios n }
+    requires unit { IsPerformableUnit (A.facts access.old pass.old).keys (A.takes access.old) request.old.bios n }
     requires spare { 1 ≤ (A.facts access.old pass.old).spare
         (shard_of (A.facts access.old pass.old).shards at.now.sector) }
     ensures same { access.new ≡ access.old }

@@ -4,7 +4,7 @@ ghost use Rattle.std.specs.Prelude.{◌≡◌, ℕ, ◌*◌, ◌≤◌, Option, 
 ghost use Rattle.bc_bio.specs.declared.access.Access.TheVariants as accesses;
 ghost use Rattle.bc_bio.specs.declared.context.Context.{Context};
 ghost use Rattle.bc_bio.specs.Extent.{unit_sectors};
-ghost use Rattle.bc_medium.specs.Places.{shard_of};
+ghost use Rattle.bc_medium.specs.Layout.{shard_of};
 ghost use Rattle.bc_medium.specs.KeyedDisk.{Written, Faulted, Text};
 ghost use Rattle.bc_medium.specs.Entries.{written_entry, read_entry, failed_entry};
 ghost use Rattle.bc_queue.specs.Carrying.{AccessFacts, AccessesOne};

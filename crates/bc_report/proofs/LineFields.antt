@@ -16,7 +16,7 @@ use Rattle.bc_medium.specs.declared.via.Via.{Via}
 use Rattle.bc_medium.specs.declared.via.Via.TheVariants.{Plain, Soft, Inline}
 use Rattle.bc_report.specs.declared.answer.Answer.{Answer}
 use Rattle.bc_report.specs.declared.answer.Answer.TheVariants as answers
-use Rattle.bc_report.specs.declared.line.Line.{Line as Entry}
+use Rattle.bc_report.specs.declared.line.Line.{Line}
 use Rattle.bc_report.specs.Report.{Report, IsReport, IsAnswer, IsVia, IsEntry, IsSkip, IsEvent, IsPart}
 use Rattle.bc_report.specs.ReportText.{refusal_word, answer_line, via_fields, entry_line, skip_field, skip_fields, event_line, thread_lines, shard_lines, device_lines, all_threads, all_shards, all_devices, report_lines}
 use Rattle.bc_script.proofs.Fields.{one_byte}
@@ -64,7 +64,7 @@ via_are Plain is = (IsField-from_test (codes "plain") refl, tt)
 via_are Soft is = (IsField-from_test (codes "soft") refl, tt)
 via_are (Inline device slot event) is = (IsField-from_test (codes "inline") refl, (number device (omega (arith, is.0)), (number slot (omega (arith, is.1)), (number event is.2, tt))))
 
-entry_fields : (e : Entry) → IsEntry e → IsLine (entry_line e)
+entry_fields : (e : Line) → IsEntry e → IsLine (entry_line e)
 entry_fields e is = (omega arith, (number e.thread (omega (arith, is.thread)), (number e.op is.op, (number e.unit is.unit, via_are e.via is.via))))
 
 skip_is : (skip : Skip) → IsSkip skip → IsField (skip_field skip)
@@ -106,7 +106,7 @@ thread_are n (t ∷ ts) few h =
     ((omega arith, (IsField-from_test (codes "thread") refl, (number n (omega arith), tt))), each_line IsAnswer answer_line answer_fields t h.0)
     (thread_are (n + 1) ts (omega arith) h.1)
 
-shard_are : (n : ℕ) (ss : List (List Entry)) → n + length ss ≤ 64 → AllByRecursion (IsPart IsEntry) ss → AllByRecursion IsLine (flat_map shard_lines (enumerate_from n ss))
+shard_are : (n : ℕ) (ss : List (List Line)) → n + length ss ≤ 64 → AllByRecursion (IsPart IsEntry) ss → AllByRecursion IsLine (flat_map shard_lines (enumerate_from n ss))
 shard_are n [] few h = tt
 shard_are n (s ∷ ss) few h =
     all_append (shard_lines (n, s)) (flat_map shard_lines (enumerate_from (n + 1) ss))

@@ -7,7 +7,7 @@ use Rattle.bc_bio.specs.PlannedUnit.{PlannedUnit}
 use Rattle.bc_medium.specs.declared.unit_name.UnitName.{UnitName}
 use Rattle.bc_medium.specs.declared.via.Via.{Via}
 use Rattle.bc_medium.specs.declared.via.Via.TheVariants as vias
-use Rattle.bc_medium.specs.LawfulOrders.{name_of, is_same}
+use Rattle.bc_medium.specs.LawfulOrders.{unit_name_of, is_same}
 use Rattle.bc_medium.specs.Outcome.{Run}
 use Rattle.bc_profile.specs.declared.event.Event.{Event}
 use Rattle.bc_profile.specs.declared.event.Event.TheVariants as events
@@ -18,15 +18,15 @@ use Rattle.bc_report.specs.Report.{Report}
 use Rattle.bc_report.specs.RunOf.{name_in, own_key}
 
 -- the event programs the slot with the key
-abbrev pub Programs : ℕ → ℕ → Event → Type 0
-Programs slot key (events.Program s k skipped) = (s ≡ slot) × (k ≡ key)
-Programs slot key _ = ⊥
+abbrev pub IsProgramming : ℕ → ℕ → Event → Type 0
+IsProgramming slot key (events.Program s k skipped) = (s ≡ slot) × (k ≡ key)
+IsProgramming slot key _ = ⊥
 
 -- an inline entry's event is a programming of its slot with its own key
 abbrev pub NamesProgramming : Run → List (List Event) → UnitName → Via → Type 0
 NamesProgramming run devices name (vias.Inline device slot event) =
     IsSomeAnd (own_key run name)
-    (λ key. IsSomeAnd (slice_get (slice_index_or devices device []) event) (Programs slot key))
+    (λ key. IsSomeAnd (slice_get (slice_index_or devices device []) event) (IsProgramming slot key))
 NamesProgramming run devices name _ = ⊤
 
 -- the way that the report says of a unit
@@ -52,7 +52,7 @@ entry_by op context _ = None
 abbrev pub entry_of : Report → ℕ → PlannedUnit → Option InlineEntry
 entry_of report thread u =
     option_and_then (λ via. option_and_then (λ context. entry_by u.tag context via) u.context)
-    (via_of report (name_of thread u))
+    (via_of report (unit_name_of thread u))
 
 -- a thread's inline entries, in the order in which it issued them
 abbrev pub entries_in_order : Report → ℕ → List PlannedUnit → List InlineEntry

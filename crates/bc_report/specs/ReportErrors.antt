@@ -12,7 +12,7 @@ abbrev pub NoReportHas : List ℕ → Type 0
 NoReportHas text = (report : Report) → IsReport report → text ≡ report_text report → ⊥
 
 -- some report begins with these lines
-pub record Begins (lines : List TextLine) : Type 0 where
+pub record BeginsReport (lines : List TextLine) : Type 0 where
   pub report : Report
   pub valid : IsReport report
   pub others : List TextLine
@@ -29,11 +29,11 @@ pub record IsFirstBad (text : List ℕ) (line : ℕ) : Type 0 where
   pub below : List TextLine
   pub lines_are : lines_of text ≡ above ++ here ∷ below
   pub number : line ≡ length above + 1
-  pub possible : Begins above
-  pub impossible : below ≢ [] → Begins (above ++ here ∷ []) → ⊥
+  pub possible : BeginsReport above
+  pub impossible : below ≢ [] → BeginsReport (above ++ here ∷ []) → ⊥
 
 -- what a text is answered that isn't read as a report; nothing is said of it where the process was
 -- out of memory
-abbrev pub IsRefused : List ℕ → ReportError → Type 0
-IsRefused text (errors.Bad line) = IsFirstBad text line
-IsRefused text errors.Memory = ⊤
+abbrev pub IsRefusedReport : List ℕ → ReportError → Type 0
+IsRefusedReport text (errors.Bad line) = IsFirstBad text line
+IsRefusedReport text errors.Memory = ⊤

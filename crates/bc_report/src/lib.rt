@@ -14,11 +14,11 @@ mod report;
 mod printing;
 
 // reading a text
+mod line_values;
 mod parser;
 mod part;
 mod reader;
 mod report_error;
-mod said;
 mod sort;
 mod unread;
 

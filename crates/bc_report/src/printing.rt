@@ -5,7 +5,7 @@ ghost use Rattle.std.specs.Fmt.{decimal};
 ghost use Rattle.hex.specs.Hex.{encode_lower};
 ghost use Rattle.bc_text.specs.Lines.{lines_text, line_text, fields_text};
 ghost use Rattle.bc_report.specs.ReportText.{refusal_word, answer_line, via_fields, entry_line, skip_field, skip_fields, event_line, thread_lines, shard_line, shard_lines, device_line, device_lines, all_threads, all_shards, all_devices, report_text};
-ghost use Rattle.bc_report.specs.Spaced.{spaced};
+ghost use Rattle.bc_report.specs.SpacedFields.{spaced};
 
 use crate::answer::Answer;
 use crate::line::Line;
@@ -209,14 +209,7 @@ fn put_program(text: &mut Vec<u8>, slot: u32, key: u32, skipped: &[Skip]) -> Res
 }
 
 /// The fields of the slots that were passed over, each with a space before it.
-#[tactic(
-    auto,
-    using(
-        crate::proofs::Printed::spaced_more,
-        crate::proofs::Printed::some_skips,
-        crate::proofs::Printed::no_skips
-    )
-)]
+#[tactic(auto, using(crate::proofs::Printed::spaced_more, crate::proofs::Printed::some_skips, crate::proofs::Printed::no_skips))]
 fn put_skips(text: &mut Vec<u8>, skipped: &[Skip]) -> Result<(), AllocError>
     ensures { OnOk result (text.new.items ≡ text.old.items ++ spaced (skip_fields skipped.now)) }
 {

@@ -7,13 +7,13 @@ use Rattle.bc_base.specs.Folders.{Files, Has}
 use Rattle.bc_script.specs.declared.limits.TheConstants.{MAX_TEXT}
 use Rattle.bc_script.specs.Script.{Script}
 use Rattle.bc_script.specs.declared.script_error.ScriptError.{ScriptError}
-use Rattle.bc_script.specs.ScriptText.{Says, NoScriptHas}
+use Rattle.bc_script.specs.ScriptText.{SaysScript, NoScriptHas}
 use Rattle.bc_script.specs.ScriptErrors.{error_of}
 use Rattle.bc_report.specs.Report.{Report}
 use Rattle.bc_report.specs.ReportText.{report_text}
 use Rattle.bc_report.specs.LawfulRun.{LawfulButHolders}
 use Rattle.bc_report.specs.SerialRun.{IsSerialRun}
-pub use Rattle.bc_made.specs.Made.{zeros_for}
+pub use Rattle.bc_made.specs.MadeImage.{zeros_for}
 use Rattle.bc_run.specs.Words.{Options, IsShardCount}
 use Rattle.bc_run.specs.declared.image.TheConstants.{MAX_IMAGE}
 
@@ -22,9 +22,9 @@ abbrev pub IsWithinLimit : List ℕ → Type 0
 IsWithinLimit text = length text ≤ MAX_TEXT
 
 -- the text is this script's, within the limit
-pub record IsTextOf (text : List ℕ) (script : Script) : Type 0 where
+pub record IsScriptTextOf (text : List ℕ) (script : Script) : Type 0 where
   pub within : IsWithinLimit text
-  pub says : Says text script
+  pub says : SaysScript text script
 
 -- no script has the text, by this error
 pub record HasError (error : ScriptError) (text : List ℕ) : Type 0 where
@@ -80,10 +80,10 @@ pub record IsCarriedOut (Done : List ℕ → List ℕ → Type 0) (files : Optio
   pub carried_out : IsRunOf files options script report left
   pub done : Done (report_text report) left
 
--- there is a script of which this holds, and where the text is told it is this script's
+-- there is a script of which this holds, and where the text is reported it is this script's
 pub record IsScriptAnd (Holds : Script → Type 0) (text : Option (List ℕ)) : Type 0 where
   pub script : Script
-  pub accepted : IfSome text (λ t. IsTextOf t script)
+  pub accepted : IfSome text (λ t. IsScriptTextOf t script)
   pub holds : Holds script
 
 -- the script's disk has so many bytes, and the folder has another number of bytes under the name,

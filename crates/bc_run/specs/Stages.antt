@@ -18,7 +18,7 @@ abbrev pub status_of : {X : Type 0} → Result X Status → Status
 status_of (Ok value) = statuses.Ok
 status_of (Err status) = status
 
--- the text behind a reference, where there is one
+-- the text that a reference lends, where there is one
 abbrev pub text_of : Option (Bor (List ℕ)) → Option (List ℕ)
 text_of = option_map (λ s. s.now)
 
@@ -32,8 +32,8 @@ said_by options = record {
 }
 
 -- what numbers of `make` that were read say
-abbrev pub made_by : Making → MakeOptions
-made_by making = record { n = making.n; slots = making.slots; shards = making.shards; at_once = making.at_once }
+abbrev pub make_options_of : Making → MakeOptions
+make_options_of making = record { n = making.n; slots = making.slots; shards = making.shards; at_once = making.at_once }
 
 -- a text was not read: no script has it, and this is its error; or there was no memory
 abbrev pub IsNotRead : List ℕ → Status → Type 0

@@ -10,7 +10,7 @@ use Rattle.bc_run.specs.declared.status.Status.{Status}
 use Rattle.bc_run.specs.declared.status.Status.TheVariants.{Ok, Usage, BadScript, ReadFault, WriteFault, FolderFault}
 use Rattle.bc_run.specs.declared.status.Status.TheVariants.{ImageLength, TooLong, NoMemory, Missing}
 use Rattle.bc_run.specs.declared.image.TheConstants.{MAX_IMAGE}
-use Rattle.bc_run.specs.Words.{Begins, IsMakeCommand, IsScriptCommand, NamesScript, Options, make_options_of}
+use Rattle.bc_run.specs.Words.{FirstWordIs, IsMakeCommand, IsScriptCommand, NamesScript, Options, make_options_of}
 use Rattle.bc_run.specs.Words.{options_of}
 use Rattle.bc_run.specs.Making.{IsMade}
 use Rattle.bc_run.specs.Command.{HasAnotherLength, IsBadScript, IsCarriedOut, IsScriptAnd}
@@ -141,5 +141,5 @@ MakeEndsBy words e other = ⊥
 -- why a run ended with this status: the first word says whose reason it is, and where it is no
 -- command's the words are refused
 pub record EndsBy (run : CommandRun) (status : Status) : Type 0 where
-  pub by_make : Begins (codes "make") run.words → MakeEndsBy run.words (sink_of run.effects) status
-  pub by_script : (Begins (codes "make") run.words → ⊥) → ScriptRunEndsBy run status
+  pub by_make : FirstWordIs (codes "make") run.words → MakeEndsBy run.words (sink_of run.effects) status
+  pub by_script : (FirstWordIs (codes "make") run.words → ⊥) → ScriptRunEndsBy run status

@@ -40,12 +40,12 @@ make_command =
     (number_rule (codes "slots") 1 32)) (number_rule (codes "shards") 1 64)) (flag_rule (codes "threads"))
 
 -- the first word is this one
-abbrev pub Begins : List ℕ → List (List ℕ) → Type 0
-Begins word words = slice_get words 0 ≡ Some word
+abbrev pub FirstWordIs : List ℕ → List (List ℕ) → Type 0
+FirstWordIs word words = slice_get words 0 ≡ Some word
 
 -- the first word is that of a command which carries a script out
 abbrev pub NamesScript : List (List ℕ) → Type 0
-NamesScript words = Begins (codes "serial") words ⊎ Begins (codes "threads") words
+NamesScript words = FirstWordIs (codes "serial") words ⊎ FirstWordIs (codes "threads") words
 
 -- the words are those of `serial` or `threads`: that is the first one, and clap finds no fault in
 -- the others
@@ -55,7 +55,7 @@ pub record IsScriptCommand (words : List (List ℕ)) : Type 0 where
 
 -- the words are those of `make`
 pub record IsMakeCommand (words : List (List ℕ)) : Type 0 where
-  pub named : Begins (codes "make") words
+  pub named : FirstWordIs (codes "make") words
   pub taken : fault_of make_command words ≡ []
 
 -- the words are valid: they are those of a command
@@ -64,7 +64,7 @@ IsCommand words = IsScriptCommand words ⊎ IsMakeCommand words
 
 -- the first word is a command's
 abbrev pub NamesCommand : List (List ℕ) → Type 0
-NamesCommand words = NamesScript words ⊎ Begins (codes "make") words
+NamesCommand words = NamesScript words ⊎ FirstWordIs (codes "make") words
 
 -- what the words of `serial` and `threads` say: where the image comes from, where it goes to, over
 -- how many shards, and whether all sections are carried out at once
@@ -75,12 +75,12 @@ pub record Options : Type 0 where
   pub at_once : Bool
 
 -- the number that a value writes
-abbrev pub number_of : List ℕ → ℕ
-number_of value = digits_value 10 (without_leading_plus value)
+abbrev pub number_of_value : List ℕ → ℕ
+number_of_value value = digits_value 10 (without_leading_plus value)
 
 -- the value of an option, where the words have it
-abbrev pub value_of : List ℕ → List (List ℕ) → Option (List ℕ)
-value_of name words = first_of name (matches_of script_command words)
+abbrev pub option_value : List ℕ → List (List ℕ) → Option (List ℕ)
+option_value name words = first_of name (matches_of script_command words)
 
 -- the first word is `threads`
 abbrev pub names_threads : List (List ℕ) → Bool
@@ -90,16 +90,16 @@ names_threads words = option_map_or (λ word. bytes_eq word (codes "threads")) (
 -- nowhere, over one shard
 abbrev pub options_of : List (List ℕ) → Options
 options_of words = record {
-  image = value_of (codes "image") words;
-  out = value_of (codes "out") words;
-  shards = option_map_or number_of (value_of (codes "shards") words) 1;
+  image = option_value (codes "image") words;
+  out = option_value (codes "out") words;
+  shards = option_map_or number_of_value (option_value (codes "shards") words) 1;
   at_once = names_threads words;
 }
 
 -- the value is a number within this range, as clap reads a number
 abbrev pub IsNumberIn : ℕ → ℕ → List ℕ → Type 0
 IsNumberIn least most value =
-    IsNumeral 10 (without_leading_plus value) × (least ≤ number_of value) × (number_of value ≤ most)
+    IsNumeral 10 (without_leading_plus value) × (least ≤ number_of_value value) × (number_of_value value ≤ most)
 
 -- a number of shards that a run may have
 abbrev pub IsShardCount : ℕ → Type 0
@@ -116,7 +116,7 @@ pub record MakeOptions : Type 0 where
 
 -- the number that an option of `make` has, where the words have it, and else this one
 abbrev pub made_number : List ℕ → ℕ → List (List ℕ) → ℕ
-made_number name other words = option_map_or number_of (first_of name (matches_of make_command words)) other
+made_number name other words = option_map_or number_of_value (first_of name (matches_of make_command words)) other
 
 -- whether a flag is set, by its value
 abbrev pub is_set : Option (List ℕ) → Bool

@@ -4,7 +4,7 @@ ghost use Rattle.std.specs.Prelude.{true, false, ◌∷◌, [], codes, Some, Non
 ghost use Rattle.clap.specs.declared.error.kind.ErrorKind.TheVariants.{ArgumentConflict, DisplayHelp, InvalidValue};
 ghost use Rattle.clap.specs.declared.error.kind.ErrorKind.TheVariants.{MissingRequiredArgument, UnknownArgument};
 ghost use Rattle.clap.specs.declared.error.kind.ErrorKind.TheVariants.{TooManyValues, ValueValidation};
-ghost use Rattle.bc_compose.specs.Composed.{SerialRunsAgree};
+ghost use Rattle.bc_compose.specs.ComposedRun.{SerialRunsAgree};
 ghost use Rattle.bc_run.specs.Laws.{AreRefused, MadeLinesAgree, MakeMeans, MakeRefuses, Mean, WrittenTextsAgree};
 ghost use Rattle.bc_run.specs.Laws.{after_serial, after_threads};
 

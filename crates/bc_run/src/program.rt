@@ -5,15 +5,15 @@ ghost use Rattle.std.specs.String.{string_bytes};
 ghost use Rattle.std.specs.Io.KnownBytes.{Consumes, Appends, IsAtEnd, Keeps};
 ghost use Rattle.bc_base.specs.Outside.{Rose, HasCause, AppendsPrefix};
 ghost use Rattle.bc_base.specs.Folders.{HasSame};
-ghost use Rattle.bc_script.specs.ScriptText.{Says};
+ghost use Rattle.bc_script.specs.ScriptText.{SaysScript};
 ghost use Rattle.bc_report.specs.ReportText.{report_text};
 ghost use Rattle.bc_report.specs.LawfulRun.{LawfulButHolders, LawfulRun};
 ghost use Rattle.bc_report.specs.RunOf.{run_of};
 ghost use Rattle.bc_report.specs.SerialRun.{IsSerial};
 ghost use Rattle.bc_script.specs.declared.limits.TheConstants.{MAX_TEXT};
-ghost use Rattle.bc_run.specs.Words.{Begins, IsCommand, IsMakeCommand, IsScriptCommand, IsShardCount, NamesCommand};
+ghost use Rattle.bc_run.specs.Words.{FirstWordIs, IsCommand, IsMakeCommand, IsScriptCommand, IsShardCount, NamesCommand};
 ghost use Rattle.bc_run.specs.Words.{options_of};
-ghost use Rattle.bc_run.specs.Command.{HasImageFor, IsOneCallers, IsTextOf, bytes_of_disk};
+ghost use Rattle.bc_run.specs.Command.{HasImageFor, IsOneCallers, IsScriptTextOf, bytes_of_disk};
 ghost use Rattle.bc_run.specs.Statuses.{ChangesOnly, EndsBy, NamesFile, ScriptEndsBy, ScriptRunEndsBy};
 ghost use Rattle.bc_run.specs.Stages.{status_of, IsNotRead, said_by};
 ghost use Rattle.bc_script.specs.Script as specs;
@@ -119,7 +119,7 @@ pub fn run<R: Threads + Wait + Sync, S: Source, K: Sink, F: Folder, G: Gate + Sy
         → (result ≡ Status.Usage)
         ⊎ ((result ≡ Status.NoMemory) × NamesCommand (map string_bytes words.now)) }
     ensures end { IsScriptCommand (map string_bytes words.now) → result ≡ Status.Ok → IsAtEnd (S.left script.new) }
-    ensures make { Begins (codes "make") (map string_bytes words.now)
+    ensures make { FirstWordIs (codes "make") (map string_bytes words.now)
         → (script.new ≡ script.old) × (folder.new ≡ folder.old) }
     ensures untouched { result ≢ Status.Ok → result ≢ Status.WriteFault
         → Keeps (K.held out.old) (K.held out.new) }
@@ -138,7 +138,7 @@ pub fn run<R: Threads + Wait + Sync, S: Source, K: Sink, F: Folder, G: Gate + Sy
     // A script within the limit is carried out over zeros or the image that the folder has, unless
     // a count of faults rose or memory ran out.
     ensures complete { IsScriptCommand (map string_bytes words.now)
-        → IfSome (S.left script.old) (λ text. (asked : specs.Script) → IsTextOf text asked
+        → IfSome (S.left script.old) (λ text. (asked : specs.Script) → IsScriptTextOf text asked
         → HasImageFor (F.files folder.old) (options_of (map string_bytes words.now)).image asked
         → (Rose (S.faults script.old) (S.faults script.new) → ⊥)
         → (Rose (F.faults folder.old) (F.faults folder.new) → ⊥)
@@ -270,7 +270,7 @@ fn read_script<S: Source>(alloc: Global, source: &mut S) -> Result<Vec<u8>, Stat
 
 /// The script that the text says.
 fn script_of_text(alloc: Global, text: &[u8]) -> Result<Script, Status>
-    ensures ok { IfOk result (Says text.now) }
+    ensures ok { IfOk result (SaysScript text.now) }
     ensures bad { IfErr result (IsNotRead text.now) }
 {
     match parse(alloc, text) {

@@ -45,7 +45,7 @@ const FOUR_OF_3: &[u8] = b"report 1\nthread 0\ndone\ndone\ndone\ndone\n\
 const FOUR_OF_64: &[u8] = b"report 1\nthread 0\ndone\ndone\ndone\ndone\n\
     shard 0 1\n0 0 0 soft\nshard 1 1\n0 1 0 soft\nshard 2 1\n0 2 0 soft\nshard 3 1\n0 3 0 soft\n";
 
-/// The digits of a key of CBC-ESSIV behind those of its first byte.
+/// The digits of a key of CBC-ESSIV after those of its first byte.
 const ESSIV_REST: &str = "8182838485868788898a8b8c8d8e8f";
 
 const MAKE_1: &[u8] = b"make 1: bios 32 units 32 done 32 faults 0 \

@@ -151,7 +151,7 @@ pub no_bytes_of : (n : ℕ) (field : List ℕ) → length field / 2 ≢ n → is
 no_bytes_of n field other =
     no_bytes n n field (λ bytes fits low high text. let len : length field ≡ 2 * length bytes = ap length text ∙ length-encode_with lower_digits bytes in other (omega arith))
 
--- a list that is filled from its front to its end
+-- a list that is filled from its beginning to its end
 pub filled_whole : (n : ℕ) (bytes rest : List ℕ) → n ≡ length bytes → take n (bytes ++ rest) ≡ bytes
 filled_whole n bytes rest same = rw same (front bytes rest)
   where

@@ -5,7 +5,7 @@ use Rattle.std.specs.Fmt.{digits}
 use Rattle.hex.specs.Hex.{encode_with}
 use Rattle.bc_text.specs.Lines.{lines_text}
 use Rattle.bc_script.specs.ScriptText.{op_line, head_lines, key_line, script_text}
-use Rattle.bc_script.specs.Generated.{generated, generated_keys, generated_pair, generated_section}
+use Rattle.bc_script.specs.GeneratedScript.{generated, generated_keys, generated_pair, generated_section}
 
 -- the lines of a thread's pair j of n
 abbrev lines_of_pair : ℕ → ℕ → ℕ → List ℕ

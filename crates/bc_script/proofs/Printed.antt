@@ -18,7 +18,7 @@ parts_more {X} f xs i d old new lt e =
     ∙ lines_text-append before (f x ++ []) ∙ ap (λ (t : List TextLine). lines_text before ++ lines_text t) (append-nil (f x)) in
     e ∙ append_assoc old (lines_text before) (lines_text (f x)) ∙ ap (λ (t : List ℕ). old ++ t) (sym step)
 
--- one field in front of others, and what stands behind them
+-- one field before others, and what stands after them
 in_front : (x y n r : List ℕ) → y ++ n ≡ r → (x ++ space ∷ y) ++ n ≡ x ++ space ∷ r
 in_front x y n r e = append_assoc x (space ∷ y) n ∙ ap (λ (t : List ℕ). x ++ space ∷ t) e
 

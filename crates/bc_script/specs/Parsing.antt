@@ -7,6 +7,6 @@ use Rattle.bc_script.specs.ScriptErrors.{error_of}
 
 -- The first line that fails a test, and the test, of a text that no script has; or nothing of the
 -- text, where there was no memory.
-abbrev pub IsRefused : List ℕ → ParseError → Type 0
-IsRefused text (errors.Bad error) = (error_of text ≡ Some error) × NoScriptHas text
-IsRefused text errors.Memory = ⊤
+abbrev pub IsRefusedScript : List ℕ → ParseError → Type 0
+IsRefusedScript text (errors.Bad error) = (error_of text ≡ Some error) × NoScriptHas text
+IsRefusedScript text errors.Memory = ⊤

@@ -107,7 +107,7 @@ abbrev pub is_whole : Progress → Bool
 is_whole p = nat_eq (length p.targets) 0 || nat_eq (blocks_of p.targets) p.blocks
 
 -- few enough devices, one after the other from the first block on
-pub record FollowOneAnother (devices : List Target) : Type 0 where
+pub record DevicesFollow (devices : List Target) : Type 0 where
   pub count : length devices ≤ max_devices
   pub lie : LieBetween 0 (blocks_of devices) devices
   pub each : AllByRecursion IsDevice devices
@@ -115,7 +115,7 @@ pub record FollowOneAnother (devices : List Target) : Type 0 where
 -- the rules of a script, as far as it has been read
 pub record IsProgress (p : Progress) : Type 0 where
   pub at : IsAt p.last p
-  pub devices : FollowOneAnother p.targets
+  pub devices : DevicesFollow p.targets
   pub keys : AreKeys p.keys
   pub faults : AreFaults p.faults
   pub threads : AllByRecursion (IsSection (length p.targets) (bare_keys p.keys)) p.threads

@@ -10,7 +10,7 @@ ghost use Rattle.bc_key.specs.KeyRefusal.{key_refusal};
 ghost use Rattle.bc_key.specs.KeyData.{key_size};
 ghost use Rattle.bc_script.specs.Script.{max_slots, max_generated};
 ghost use Rattle.bc_script.specs.Name.{is_name};
-ghost use Rattle.bc_script.specs.Generated.{generated, generated_threads, generated_device, generated_keys, counted_key, generated_context, generated_sector, generated_byte, generated_write, generated_read, generated_pair, generated_section};
+ghost use Rattle.bc_script.specs.GeneratedScript.{generated, generated_threads, generated_device, generated_keys, counted_key, generated_context, generated_sector, generated_byte, generated_write, generated_read, generated_pair, generated_section};
 
 use crate::limits::MAX_THREADS;
 use crate::name::Name;

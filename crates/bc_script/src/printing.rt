@@ -6,7 +6,7 @@ ghost use Rattle.hex.specs.Hex.{encode_lower};
 ghost use Rattle.bc_key.specs.DataUnits.{bytes_of};
 ghost use Rattle.bc_key.specs.NumberText.{number_text};
 ghost use Rattle.bc_text.specs.Lines.{fields_text, line_text, lines_text};
-ghost use Rattle.bc_script.specs.ScriptText.{head_lines, version_line, disk_line, on_off, fallback_line, device_line, mode_text, key_line, fault_line, name_of, key_field, number_field, bio_fields, text_fields, op_line, section_lines, script_text};
+ghost use Rattle.bc_script.specs.ScriptText.{head_lines, version_line, disk_line, on_off, fallback_line, device_line, mode_text, key_line, fault_line, key_name_of, key_field, number_field, bio_fields, text_fields, op_line, section_lines, script_text};
 
 use crate::named_key::NamedKey;
 use crate::op::{Op, Text};
@@ -345,7 +345,7 @@ fn put_text(text: &mut Vec<u8>, bytes: &Text) -> Result<(), AllocError>
 
 /// The name of the key with this number.
 fn put_name(text: &mut Vec<u8>, keys: &[NamedKey], number: KeyNo) -> Result<(), AllocError>
-    ensures { OnOk result (text.new.items ≡ text.old.items ++ name_of keys.now number) }
+    ensures { OnOk result (text.new.items ≡ text.old.items ++ key_name_of keys.now number) }
 {
     match keys.get(usize::from(number.0)) {
         None => Ok(()),

@@ -5,7 +5,7 @@ use Rattle.std.specs.List.{AllByRecursion, list_any}
 use Rattle.std.proofs.Math.Logic.{⊎_elim}
 use Rattle.std.proofs.lemmas.Bool.{true≢false, eq-eqb, ne_eqb, cases_eq}
 use Rattle.bc_bio.specs.Chunks.{chunks_with, chunk_by, Linked}
-use Rattle.bc_compose.specs.Ordered.{Pairs}
+use Rattle.bc_compose.specs.OrderedHolds.{Pairs}
 
 -- the neighbours in a chunk go together
 pub chunks_linked : {X : Type 0} (together : X → X → Bool) (xs : List X) → AllByRecursion (Linked together) (chunk_by together xs)

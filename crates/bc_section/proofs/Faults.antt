@@ -3,7 +3,7 @@ use Rattle.std.proofs.Common.{◌≡◌, ℕ, ◌-◌, ◌*◌, ◌/◌, ◌≤�
 use Rattle.std.specs.Prelude.{◌==◌, ◌&&◌, nat_lt, Contains, ◌↔◌, ◌||◌, filter}
 use Rattle.std.proofs.lemmas.Bool.{ltb-true, false_from_ne_true, eqb-true, true≢false, eq-eqb}
 use Rattle.bc_base.specs.RamStores.{RamData, contents, sector_within}
-use Rattle.bc_medium.specs.Places.{shard_of}
+use Rattle.bc_medium.specs.Layout.{shard_of}
 use Rattle.bc_medium.specs.KeyedDisk.{image_sectors, meets_fault}
 use Rattle.std.proofs.lemmas.Option.{none-some, same_Some}
 use Rattle.bc_base.specs.Lists.{At}
@@ -22,7 +22,7 @@ not_behind store blocks s is behind =
     and_false true = refl
     and_false false = refl
 
--- what lies behind the disk
+-- what lies after the disk
 pub nothing_behind : (image : List ℕ) (blocks s : ℕ) → length image ≡ 4096 * blocks → 8 * blocks ≤ s → image_sectors image s ≡ []
 nothing_behind image blocks s whole behind =
     let none : length (image_sectors image s) ≡ 0 =

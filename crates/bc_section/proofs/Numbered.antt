@@ -5,7 +5,7 @@ use Rattle.std.specs.List.{AllByRecursion}
 use Rattle.std.specs.Option.{option_map_or}
 use Rattle.bc_script.specs.declared.op.Op.{Op}
 use Rattle.bc_script.specs.Script.{Script, IsText}
-use Rattle.bc_section.specs.Reached.{numbered, IsAcceptedBio, MayBePlugged}
+use Rattle.bc_section.specs.SectionProgress.{numbered, IsAcceptedBio, MayBePlugged}
 use Rattle.bc_key.specs.KeyData.{KeyData}
 use Rattle.bc_bio.specs.declared.context.Context.{Context}
 use Rattle.bc_bio.specs.Extent.{unit_sectors}

@@ -21,20 +21,20 @@ use Rattle.bc_script.specs.declared.op.Op.{Op}
 use Rattle.bc_script.specs.Script.{Script}
 use Rattle.bc_script.specs.Bios.{bio_of}
 use Rattle.bc_report.specs.SerialRun.{DeviceUse}
-use Rattle.bc_compose.specs.Ordered.{slots_of}
+use Rattle.bc_compose.specs.OrderedHolds.{slot_count_of}
 
 -- the bio of an operation, with the operation's number
 abbrev pub tagged_bio : ℕ × Op → Option TaggedBio
 tagged_bio (op, operation) = option_map (λ bio. record { tag = op; bio = bio }) (bio_of operation)
 
 -- the bios of operations
-abbrev pub bios_of : List (ℕ × Op) → List TaggedBio
-bios_of operations = filter_map tagged_bio operations
+abbrev pub op_bios : List (ℕ × Op) → List TaggedBio
+op_bios operations = filter_map tagged_bio operations
 
 -- the events of a device with these events, after uses of it
 abbrev pub after_uses : Script → ℕ → List Event → List DeviceUse → List Event
 after_uses script device journal done =
-    journal ++ journal_of (slots_after (slots_of script device) journal) (map (λ u. u.use') done)
+    journal ++ journal_of (slots_after (slot_count_of script device) journal) (map (λ u. u.use') done)
 
 -- the use is a hold that is taken for this unit
 abbrev pub is_for : UnitName → DeviceUse → Bool
@@ -53,7 +53,7 @@ pub record NamesOwnUse (script : Script) (journal : List Event) (done : List Dev
   pub among : done ≡ before ++ record { use' = uses.Hold under.key; units = units } ∷ after
   pub for_others : list_any (is_for (name_of_entry e)) before ≡ false
   pub for_it : list_any (is_same (name_of_entry e)) units ≡ true
-  pub holds : Holds (slots_of script device)
+  pub holds : Holds (slot_count_of script device)
       (after_uses script device journal (before ++ record { use' = uses.Hold under.key; units = units } ∷ []))
       under.key.0 slot event
 

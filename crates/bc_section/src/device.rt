@@ -17,11 +17,11 @@ ghost use Rattle.bc_script.specs.Bios.{bio_of, refusal_of};
 ghost use Rattle.bc_report.specs.declared.answer.Answer.{Answer};
 ghost use Rattle.bc_report.specs.declared.answer.Answer.TheVariants as answers;
 ghost use Rattle.bc_report.specs.Report.{IsAnswer};
-ghost use Rattle.bc_compose.specs.Ordered.{Pairs};
+ghost use Rattle.bc_compose.specs.OrderedHolds.{Pairs};
 ghost use Rattle.bc_section.specs.Sections.{DeviceData};
-ghost use Rattle.bc_section.specs.Uses.{bios_of};
-ghost use Rattle.bc_section.specs.Reached.{numbered, left_of, answers_by, MayBePlugged, Settled, Submitted, Evicted};
-ghost use Rattle.bc_section.specs.Reached.{HasReset, Reached, CarriesSection, WindowEnds, HoldsNone, steps_from};
+ghost use Rattle.bc_section.specs.Uses.{op_bios};
+ghost use Rattle.bc_section.specs.SectionProgress.{numbered, left_of, answers_by, MayBePlugged, Settled, Submitted, Evicted};
+ghost use Rattle.bc_section.specs.SectionProgress.{HasReset, Reached, CarriesSection, WindowEnds, HoldsNone, steps_from};
 
 use crate::pending::Pending;
 use bc_bio::{Extent, Refusal};
@@ -357,7 +357,7 @@ fn flush<R, A: Drop, E, D: Device<R, A, E>>(
     requires reached { Reached (D.facts _start.now.value) (D.facts device.old) section.now _op _plugged pending.old
         (answers_by D.answer answers.old) }
     requires ends { WindowEnds (D.facts _start.now.value).script (D.facts _start.now.value).thread _plugged
-        (bios_of (numbered section.now pending.old)) (steps_from (D.facts _start.now.value).script section.now _op) }
+        (op_bios (numbered section.now pending.old)) (steps_from (D.facts _start.now.value).script section.now _op) }
     ensures lent { D.lent device.new ≡ D.lent device.old }
     ensures empty { OnOk result (pending.new ≡ []) }
     ensures afforded { OnOk result (D.affords device.new (left_of section.now _op [])) }

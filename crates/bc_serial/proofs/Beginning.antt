@@ -9,22 +9,22 @@ use Rattle.bc_base.specs.RamStores.{RamData, IsShardOf, owns, contents}
 use Rattle.bc_key.specs.KeyData.{KeyData}
 use Rattle.bc_profile.specs.declared.event.Event.{Event}
 use Rattle.bc_stack.specs.declared.target.Target.{Target}
-use Rattle.bc_medium.specs.Places.{shard_of}
+use Rattle.bc_medium.specs.Layout.{shard_of}
 use Rattle.bc_medium.specs.KeyedDisk.{image_sectors}
-use Rattle.bc_medium.specs.ShardOrder.{ShardData, opened}
+use Rattle.bc_medium.specs.ShardOrder.{ShardData, opened_shard}
 use Rattle.bc_medium.specs.Shards.{opened_with, orders_of}
 use Rattle.bc_script.specs.Script.{Script, IsScript, keys_of, sectors_in, max_ops, max_units}
 use Rattle.bc_serial.specs.Keyslots.{KeyslotsData}
 use Rattle.bc_serial.specs.declared.open_hold.OpenHold.{OpenHold}
 use Rattle.bc_section.specs.Openings.{AreOpenings}
-use Rattle.bc_serial.specs.Standing.{Stands, HaveRoom, IsCourse, sectors_at, IsBegun}
+use Rattle.bc_serial.specs.Standing.{ShardStands, HaveRoom, IsCourse, sectors_at, IsBegun}
 use Rattle.bc_section.proofs.Lists.{at_exists}
 use Rattle.bc_section.proofs.Faults.{not_behind, nothing_behind}
 
-pub opened_at : (stores : List RamData) (n q k : ℕ) (s : ShardData RamData) → length stores ≡ n → At (opened_with stores (replicate n q)) k s → (store : RamData) × At stores k store × (s ≡ opened store q)
+pub opened_at : (stores : List RamData) (n q k : ℕ) (s : ShardData RamData) → length stores ≡ n → At (opened_with stores (replicate n q)) k s → (store : RamData) × At stores k store × (s ≡ opened_shard store q)
 opened_at [] n q k s long at = absurd (none-some s at)
 opened_at (x ∷ xs) zero q k s long at = absurd (omega arith)
-opened_at (x ∷ xs) (suc n) q zero s long at = (x, refl, sym (same_Some (opened x q) s at))
+opened_at (x ∷ xs) (suc n) q zero s long at = (x, refl, sym (same_Some (opened_shard x q) s at))
 opened_at (x ∷ xs) (suc n) q (suc k) s long at = opened_at xs n q k s (omega arith) at
 
 pub length-opened : (stores : List RamData) (n q : ℕ) → length stores ≡ n → length (opened_with stores (replicate n q)) ≡ n
@@ -71,7 +71,7 @@ module _ (script : Script) (rules : IsScript script) (image : List ℕ) (n : ℕ
         let r = opened_at stores n most k s are.count at in
         let is = are.each k r.0 r.1 in
         let blocks : r.0.blocks ≡ length image / 4096 = is.holds.blocks_are in
-        subst (λ m. Stands script m most k s) (sym long) (subst (Stands script n most k) (sym r.2) (record {
+        subst (λ m. ShardStands script m most k s) (sym long) (subst (ShardStands script n most k) (sym r.2) (record {
           keys = tt;
           owned = is_owned k r.0 is.holds;
           blocks = omega arith;

@@ -13,7 +13,7 @@ use Rattle.bc_base.specs.Story.{own, StartsWith}
 use Rattle.bc_base.specs.RamStores.{RamData, HaveAllSectors, owns, contents, sector_within}
 use Rattle.bc_key.specs.KeyData.{KeyData}
 use Rattle.bc_medium.specs.declared.entry.Entry.{Entry}
-use Rattle.bc_medium.specs.Places.{shard_of}
+use Rattle.bc_medium.specs.Layout.{shard_of}
 use Rattle.bc_medium.specs.KeyedDisk.{Sectors, image_sectors, meets_fault}
 use Rattle.bc_medium.specs.Entries.{caller_of, left_by, name_of_entry}
 use Rattle.bc_medium.specs.declared.via.Via.{Via}
@@ -35,13 +35,13 @@ use Rattle.bc_report.specs.declared.answer.Answer.{Answer}
 use Rattle.bc_report.specs.declared.line.Line.{Line}
 use Rattle.bc_report.specs.Report.{Report, IsReport, IsEntry, IsEvent, IsPart}
 use Rattle.bc_compose.specs.SectionDone.{SectionDone, key_of_entry}
-use Rattle.bc_compose.specs.Closed.{ShardsClosed, StoresClosed, DevicesClosed, line_of}
-use Rattle.bc_compose.specs.Composed.{AreSectionsOf, FollowOneAnother, AreUses, NamesItsHold}
+use Rattle.bc_compose.specs.ClosedOrders.{ShardsClosed, StoresClosed, DevicesClosed, report_line_of}
+use Rattle.bc_compose.specs.ComposedRun.{AreSectionsOf, FollowOneAnother, AreUses, NamesItsHold}
 use Rattle.bc_section.specs.Sections.{DeviceData, SectionsDone, journal_seen}
 use Rattle.bc_serial.specs.Keyslots.{KeyslotsData}
 use Rattle.bc_section.specs.Uses.{after_uses, is_for, NamesUse, MakesUses}
 use Rattle.bc_section.specs.Openings.{planned_on}
-use Rattle.bc_serial.specs.Standing.{Stands, IsCourse, CourseData, HasBegun, device_of, sectors_at, IsBegun}
+use Rattle.bc_serial.specs.Standing.{ShardStands, IsCourse, CourseData, HasBegun, own_device, sectors_at, IsBegun}
 use Rattle.bc_section.proofs.Lists.{list_at_past, all_slice, all_by_place, filter_all, filter_none, at_exists, at_map, at_of_map, list_at_map, by_places}
 use Rattle.bc_serial.proofs.Sectioning.{events_at, events_are, same_by_places}
 use Rattle.bc_section.proofs.Using.{holds_within}
@@ -146,7 +146,7 @@ in_one (l ∷ lists) (suc t) x at = in_append_right l (flat_map (λ l. l) lists)
 -- ---- the whole run
 
 module _ (script : Script) (rules : IsScript script) (image : List ℕ) (n : ℕ) (some : 1 ≤ n) (few : n ≤ 64) (whole : length image ≡ 4096 * script.blocks)
-    (v0 v1 : CourseData) (begun : IsBegun script image n v0) (answers : List (List Answer)) (done : SectionsDone (device_of v0) (device_of v1) script.threads answers)
+    (v0 v1 : CourseData) (begun : IsBegun script image n v0) (answers : List (List Answer)) (done : SectionsDone (own_device v0) (own_device v1) script.threads answers)
     (has : HasBegun v1.begun v1.journals) (keys : List KeyData) (keyslots : KeyslotsData) (course : IsCourse v1.script keys v1.shards keyslots v1.left) (stores : List RamData) (orders : List (List Entry))
     (stores_are : stores ≡ map (λ s. s.store) v1.shards) (orders_are : orders ≡ map (λ s. s.entries) v1.shards)
     (closed : Each (λ s. IsOrder (λ (r : RamData) m. owns r m) (λ (r : RamData). Some (contents r)) (λ (r : RamData). Some (record { plan = r.calls.fails; calls = r.calls.calls })) (λ (r : RamData). r.calls.faults)
@@ -161,8 +161,8 @@ module _ (script : Script) (rules : IsScript script) (image : List ℕ) (n : ℕ
   base_is : sectors_at v1.shards ≡ sectors_at v0.shards
   base_is = ap (λ (d : DeviceData). d.base) done.same
 
-  stands : (k : ℕ) (s : ShardData RamData) → At v1.shards k s → Stands script n v1.left k s
-  stands k s at = subst (λ m. Stands script m v1.left k s) count (subst (λ (c : Script). Stands c (length v1.shards) v1.left k s) script_is (course.stand k s at))
+  stands : (k : ℕ) (s : ShardData RamData) → At v1.shards k s → ShardStands script n v1.left k s
+  stands k s at = subst (λ m. ShardStands script m v1.left k s) count (subst (λ (c : Script). ShardStands c (length v1.shards) v1.left k s) script_is (course.stand k s at))
 
   order_at : (k : ℕ) (s : ShardData RamData) → At v1.shards k s → IsOrder (λ (r : RamData) m. owns r m) (λ (r : RamData). Some (contents r)) (λ (r : RamData). Some (record { plan = r.calls.fails; calls = r.calls.calls })) (λ (r : RamData). r.calls.faults)
       s.start s.keys s.store s.entries
@@ -244,7 +244,7 @@ module _ (script : Script) (rules : IsScript script) (image : List ℕ) (n : ℕ
 
   module _ (left : List ℕ) (left_long : length left ≡ 4096 * script.blocks)
       (left_is : (s : ℕ) → s < 8 * script.blocks → AllAt stores (shard_of (length stores) s) (λ store. image_sectors left s ≡ contents store s))
-      (lines : List (List Line)) (lines_are : lines ≡ map (map line_of) orders) (lines_fit : Each (IsPart IsEntry) lines)
+      (lines : List (List Line)) (lines_are : lines ≡ map (map report_line_of) orders) (lines_fit : Each (IsPart IsEntry) lines)
       (have_lawful : HaveLawfulJournals keyslots.script.targets v1.journals) (events_fit : Each (IsPart IsEvent) v1.journals) where
     abbrev report : Report
     report = record { threads = answers; shards = lines; devices = v1.journals }
@@ -270,7 +270,7 @@ module _ (script : Script) (rules : IsScript script) (image : List ℕ) (n : ℕ
       size = left_long ∙ sym whole;
     }
       where
-        empty_behind : (z : ShardData RamData) (k s : ℕ) → Stands script n v1.left k z → owns z.store s ≡ owns z.start s → 8 * script.blocks ≤ s → contents z.store s ≡ []
+        empty_behind : (z : ShardData RamData) (k s : ℕ) → ShardStands script n v1.left k z → owns z.store s ≡ owns z.start s → 8 * script.blocks ≤ s → contents z.store s ≡ []
         empty_behind z k s is same behind =
             let start : owns z.start s ≡ false = none_behind z.start s (subst (λ b. 8 * b ≤ s) (sym is.blocks) behind) in
             ap (λ (b : Bool). cond b (image_sectors z.store.bytes (sector_within z.store.shards s)) []) (same ∙ start)
@@ -291,8 +291,8 @@ module _ (script : Script) (rules : IsScript script) (image : List ℕ) (n : ℕ
       lawful = subst (HaveLawfulJournals script.targets) (sym journals_are) lawful;
     }
 
-    made_uses : MakesUses script (λ device. []) (journal_seen (device_of v1)) (uses_of script) (flat_map (λ es. es) done.made)
-    made_uses = subst (λ (s : Script). MakesUses s (λ device. []) (journal_seen (device_of v1)) (λ device. flat_map (uses_of_section s device) (enumerate_from 0 script.threads)) (flat_map (λ es. es) done.made)) begun.script_is done.uses
+    made_uses : MakesUses script (λ device. []) (journal_seen (own_device v1)) (uses_of script) (flat_map (λ es. es) done.made)
+    made_uses = subst (λ (s : Script). MakesUses s (λ device. []) (journal_seen (own_device v1)) (λ device. flat_map (uses_of_section s device) (enumerate_from 0 script.threads)) (flat_map (λ es. es) done.made)) begun.script_is done.uses
 
     pub uses : AreUses script (length script.threads) made_of done.stories
     uses = record {
@@ -345,7 +345,7 @@ module _ (script : Script) (rules : IsScript script) (image : List ℕ) (n : ℕ
     pub is_report : IsReport report
     is_report = record {
       few_threads = let c : length script.threads ≤ max_threads = rules.threads.count in let a = done.each_answered in omega arith;
-      few_shards = omega (arith, ap length lines_are, length-map orders (map line_of), ap length orders_are, length-map v1.shards (λ (s : ShardData RamData). s.entries), count);
+      few_shards = omega (arith, ap length lines_are, length-map orders (map report_line_of), ap length orders_are, length-map v1.shards (λ (s : ShardData RamData). s.entries), count);
       few_devices = let c = rules.devices.stack.few in let z = zip_length (λ target events. IsLawful target.slots events) script.targets v1.journals lawful in omega arith;
       answers = done.ranges;
       entries = lines_fit;

@@ -9,7 +9,7 @@ length-range bytes a size within = omega (arith, length-take (a + size - a) (dro
 pub length-part : (bytes : List ℕ) (size i : ℕ) → size * i + size ≤ length bytes → length (slice_range bytes (size * i) (size * i + size)) ≡ size
 length-part bytes size i within = length-range bytes (size * i) size within
 
--- the next part begins behind this one
+-- the next part begins after this one
 pub next_part : (size i : ℕ) → (i + 1) * size ≡ i * size + size
 next_part size i = omega arith
 

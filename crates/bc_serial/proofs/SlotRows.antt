@@ -26,13 +26,13 @@ use Rattle.bc_stack.specs.Devices.{all_support, end_of_target}
 use Rattle.bc_stack.specs.declared.stack.TheConstants.{MAX_DEVICES}
 use Rattle.bc_stack.specs.declared.stack_error.StackError.{StackError}
 use Rattle.bc_stack.specs.declared.stack_error.StackError.TheVariants.{Gap, Empty, TooMany, Memory}
-use Rattle.bc_stack.specs.Targets.{LieBetween, IsStack, IsRefusal, refusal_from, refusal_of}
+use Rattle.bc_stack.specs.Targets.{LieBetween, IsStack, IsRefusal, refusal_from, stack_error_of}
 use Rattle.bc_profile.specs.Rows.{cleared, row_of}
 use Rattle.bc_profile.specs.Programmings.{Holds}
 use Rattle.bc_profile.specs.Solo.{SoloData, row_in}
 use Rattle.bc_script.specs.Script.{Script, keys_of}
 use Rattle.bc_script.specs.Bios.{is_inline}
-use Rattle.bc_serial.specs.Keyslots.{SlotCipherData, KeepsTo, row_of_key, rows_of}
+use Rattle.bc_serial.specs.Keyslots.{SlotCipherData, MeansItsWords, row_of_key, rows_of}
 use Rattle.bc_section.proofs.Lists.{at_map}
 use Rattle.bc_modes.proofs.Masks.{place, some_bits}
 
@@ -128,7 +128,7 @@ lies first end (target ∷ targets) is =
     ∙ lies (end_of_target target) end targets is.2
 
 -- targets that make a stack fail no test
-pub passes : (targets : List Target) (blocks : ℕ) → IsStack targets blocks → refusal_of targets blocks ≡ None
+pub passes : (targets : List Target) (blocks : ℕ) → IsStack targets blocks → stack_error_of targets blocks ≡ None
 passes [] blocks is = refl
 passes (target ∷ targets) blocks is =
     let few : nat_lt MAX_DEVICES (length (target ∷ targets)) ≡ false =
@@ -137,7 +137,7 @@ passes (target ∷ targets) blocks is =
     ∙ ap (λ (b : Bool). cond b (Some TooMany) (refusal_from 0 (target ∷ targets) blocks)) few
     ∙ lies 0 blocks (target ∷ targets) is.cover
 
--- so they are refused for want of memory alone
+-- so they are refused only where the process is out of memory
 pub no_refusal : (targets : List Target) (blocks : ℕ) (error : StackError) → IsStack targets blocks → IsRefusal targets blocks error → (error ≡ Memory → ⊥) → ⊥
 no_refusal targets blocks Memory is refusal other = other refl
 no_refusal targets blocks Gap is refusal other = none-some Gap (sym (passes targets blocks is) ∙ refusal)
@@ -152,7 +152,7 @@ same_Ok {E} x y one first second = same_Some x y (ap (λ (r : Result CipherParts
 -- the cipher of words that are read as a key's cipher
 pub kept_means : (caps own : Capabilities) (words : List ℕ) (kept : Option SlotCipherData) (k : KeyData) → caps ≡ own
     → IsSomeAnd kept (λ c. (c.words ≡ words) × (read_words words caps ≡ Ok c.parts)) → read_words words caps ≡ Ok (parts_of k)
-    → KeepsTo own kept × IsSomeAnd kept (λ c. c.parts ≡ parts_of k)
+    → MeansItsWords own kept × IsSomeAnd kept (λ c. c.parts ≡ parts_of k)
 kept_means caps own words None k same has reads = absurd has
 kept_means caps own words (Some c) k same has reads =
     (ap (λ w. read_words w own) has.0 ∙ ap (read_words words) (sym same) ∙ has.1, same_Ok c.parts (parts_of k) (read_words words caps) has.1 reads)

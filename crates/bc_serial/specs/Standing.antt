@@ -20,9 +20,9 @@ use Rattle.bc_bio.specs.PlannedUnit.{PlannedUnit}
 use Rattle.bc_medium.specs.declared.entry.Entry.{Entry}
 use Rattle.bc_medium.specs.declared.unit_at.UnitAt.{UnitAt}
 use Rattle.bc_medium.specs.declared.via.Via.{Via}
-use Rattle.bc_medium.specs.Places.{shard_of}
+use Rattle.bc_medium.specs.Layout.{shard_of}
 use Rattle.bc_medium.specs.KeyedDisk.{Text as Answered, Sectors, image_sectors, UnitAnswer, Faulted, Written}
-use Rattle.bc_medium.specs.Entries.{name_of_entry, told_by, IsTold, written_entry, read_entry, failed_entry}
+use Rattle.bc_medium.specs.Entries.{name_of_entry, told_by, HasAnswer, written_entry, read_entry, failed_entry}
 use Rattle.bc_medium.specs.Growth.{IsEntryOf, Knows}
 use Rattle.bc_medium.specs.Outcome.{is_fault}
 use Rattle.bc_medium.specs.ShardOrder.{ShardData, HasKeys}
@@ -44,7 +44,7 @@ use Rattle.bc_serial.specs.Keyslots.{KeyslotsData, HaveNotKey, max_events, stori
 
 -- a shard of the script's disk: writes had the script's keys, the sectors of its blocks are its
 -- own, it fails as planned, and it has room for so many entries more
-pub record Stands (script : Script) (shards left shard : ℕ) (s : ShardData RamData) : Type 0 where
+pub record ShardStands (script : Script) (shards left shard : ℕ) (s : ShardData RamData) : Type 0 where
   pub keys : HasKeys (keys_of script) s
   pub owned : (sector : ℕ) → sector < sectors_in script → shard_of shards sector ≡ shard → owns s.start sector ≡ true
   pub blocks : s.start.blocks ≡ script.blocks
@@ -54,7 +54,7 @@ pub record Stands (script : Script) (shards left shard : ℕ) (s : ShardData Ram
 
 -- each shard is such
 abbrev pub AllStand : Script → ℕ → List (ShardData RamData) → Type 0
-AllStand script left shards = (shard : ℕ) → AllAt shards shard (Stands script (length shards) left shard)
+AllStand script left shards = (shard : ℕ) → AllAt shards shard (ShardStands script (length shards) left shard)
 
 -- each device may still record two events for each of so many data units, evictions and resets
 abbrev pub HaveRoom : ℕ → List (List Event) → Type 0
@@ -88,8 +88,8 @@ pub record CourseData : Type 0 where
   pub opened : Option OpenHold
 
 -- the same as the device of the thread whose section it is
-abbrev pub device_of : CourseData → DeviceData
-device_of course = record {
+abbrev pub own_device : CourseData → DeviceData
+own_device course = record {
   script = course.script;
   shards = length course.shards;
   base = sectors_at course.shards;
@@ -105,7 +105,7 @@ device_of course = record {
 
 -- a bio can be performed: it isn't refused, has no more data units and sectors than a script's may
 -- have, and none of its numbers wraps
-pub record IsPerformable (script : Script) (bio : Extent) : Type 0 where
+pub record IsPerformableBio (script : Script) (bio : Extent) : Type 0 where
   pub unrefused : refusal_of script bio ≡ None
   pub accepted : IsAccepted (keys_of script) (sectors_in script) bio
   pub few_units : bio.units ≤ max_bio_units
@@ -117,8 +117,8 @@ abbrev pub first_units : List KeyData → ℕ → Op → Extent → ℕ → List
 first_units keys op operation bio n = map (unit_at keys op operation bio) (range_with_len 0 n)
 
 -- a thread's unit, where it lies
-abbrev pub at_of : ℕ → PlannedUnit → UnitAt
-at_of thread u = record { caller = thread; tag = u.tag; unit = u.unit; sector = u.sector; context = u.context }
+abbrev pub unit_place_of : ℕ → PlannedUnit → UnitAt
+unit_place_of thread u = record { caller = thread; tag = u.tag; unit = u.unit; sector = u.sector; context = u.context }
 
 -- the entry of a write that went so, with no fault or with one
 abbrev pub entry_of_write : UnitAt → Via → List ℕ → Bool → Entry
@@ -141,7 +141,7 @@ answer_of_read text true = Answered text
 answer_of_read text false = Faulted
 
 -- a shard goes on by an entry, under these keys if it is a write
-pub record GoesOn (keys : List KeyData) (e : Entry) (s s' : ShardData RamData) : Type 0 where
+pub record GoesOnByEntry (keys : List KeyData) (e : Entry) (s s' : ShardData RamData) : Type 0 where
   pub start : s'.start ≡ s.start
   pub keys_are : HasKeys keys s'
   pub entries : s'.entries ≡ s.entries ++ e ∷ []
@@ -152,9 +152,9 @@ pub record Attempted (keys : List KeyData) (old new : List (ShardData RamData)) 
     : Type 0 where
   pub place : Place
   pub adds : Adds old new e place
-  pub goes_on : ChangesAt old new place.shard (GoesOn keys e)
+  pub goes_on : ChangesAt old new place.shard (GoesOnByEntry keys e)
   pub told : AllAt new place.shard
-      (λ s. IsTold (told_by keys (contents s.start) s.entries) (name_of_entry e) answer)
+      (λ s. HasAnswer (told_by keys (contents s.start) s.entries) (name_of_entry e) answer)
 
 -- each shard has room for one entry more than what fits
 abbrev pub HasEntries : CourseData → Type 0

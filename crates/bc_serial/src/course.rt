@@ -12,9 +12,9 @@ ghost use Rattle.bc_script.specs.declared.op.Op.{Op};
 ghost use Rattle.bc_script.specs.Script.{keys_of, IsScript, IsText, max_bio_units, max_bio_sectors};
 ghost use Rattle.bc_script.specs.Bios.{refusal_of, unsupported_of};
 ghost use Rattle.bc_script.specs.Plan.{unit_at};
-ghost use Rattle.bc_serial.specs.Standing.{IsPerformable, HasEntries, HasBegun, EvictsKey, ResetsDevice};
-ghost use Rattle.bc_serial.specs.Standing.{answer_of_write, answer_of_read, at_of};
-ghost use Rattle.bc_serial.specs.InTurn.{AttemptsOn, GoesOver, HasOpen, HasOpenAt, PerformsBio, Reaches, via_in};
+ghost use Rattle.bc_serial.specs.Standing.{IsPerformableBio, HasEntries, HasBegun, EvictsKey, ResetsDevice};
+ghost use Rattle.bc_serial.specs.Standing.{answer_of_write, answer_of_read, unit_place_of};
+ghost use Rattle.bc_serial.specs.InTurn.{AttemptsOn, GoesOver, HasOpen, HasOpenAt, PerformsBio, ReachesUnit, via_in};
 
 use crate::ciphers::Ciphers;
 use crate::keyslots::Keyslots;
@@ -146,7 +146,7 @@ impl Course<'_> {
         requires units { bio.now.units ≤ max_bio_units }
         requires sectors { bio.now.units * unit_sectors (keys_of self.now.script) bio.now.context ≤ max_bio_sectors }
         requires unrefused { refusal_of self.now.script bio.now ≡ None }
-        ensures yes { IsTrue result → IsPerformable self.now.script bio.now }
+        ensures yes { IsTrue result → IsPerformableBio self.now.script bio.now }
         ensures no { IsTrue (not result) → ⊥ }
     {
         bio.check(self.ciphers.keys(), BLOCK_SECTORS * self.script.blocks())
@@ -169,10 +169,10 @@ impl Course<'_> {
     /// Takes a hold for data unit number `unit` of a bio, where it goes inline and the hold that is
     /// open isn't of its key on its device. What fits is one less.
     fn reach(&mut self, bio: &Extent, unit: u64)
-        requires performable { IsPerformable self.old.script bio.now }
+        requires performable { IsPerformableBio self.old.script bio.now }
         requires unit { unit < bio.now.units }
         requires spare { 1 ≤ self.old.left }
-        ensures reaches { Reaches self.old self.new bio.now unit }
+        ensures reaches { ReachesUnit self.old self.new bio.now unit }
         ensures rules { IsScript self.old.script }
         ensures entries { HasEntries self.new }
         ensures opened { HasOpenAt self.new bio.now.context (sector_at (keys_of self.new.script) bio.now unit) }
@@ -276,7 +276,7 @@ impl Course<'_> {
         room: &mut [u8],
     ) -> Result<Answer, AllocError>
         requires access { bio.now.access ≡ Access.Write }
-        requires performable { IsPerformable self.old.script bio.now }
+        requires performable { IsPerformableBio self.old.script bio.now }
         requires text { IsText (keys_of self.old.script) bio.now.context bio.now.units text.now }
         requires room { length room.old ≡ 131072 }
         requires spare { bio.now.units ≤ self.old.left }
@@ -308,7 +308,7 @@ impl Course<'_> {
         fault: Option<u32>,
     ) -> Result<Option<u32>, AllocError>
         requires access { bio.now.access ≡ Access.Write }
-        requires performable { IsPerformable self.old.script bio.now }
+        requires performable { IsPerformableBio self.old.script bio.now }
         requires text { IsText (keys_of self.old.script) bio.now.context bio.now.units text.now }
         requires unit { unit < bio.now.units }
         requires room { length room.old ≡ 131072 }
@@ -340,7 +340,7 @@ impl Course<'_> {
         room: &mut [u8],
     ) -> Result<bool, AllocError>
         requires access { bio.now.access ≡ Access.Write }
-        requires performable { IsPerformable self.old.script bio.now }
+        requires performable { IsPerformableBio self.old.script bio.now }
         requires text { IsText (keys_of self.old.script) bio.now.context bio.now.units text.now }
         requires unit { unit < bio.now.units }
         requires room { length room.old ≡ 131072 }
@@ -367,7 +367,7 @@ impl Course<'_> {
     /// Reads the data units of a bio, one after the other, until one meets a fault.
     pub(crate) fn read(&mut self, op: u32, bio: &Extent, room: &mut [u8]) -> Answer
         requires access { bio.now.access ≡ Access.Read }
-        requires performable { IsPerformable self.old.script bio.now }
+        requires performable { IsPerformableBio self.old.script bio.now }
         requires room { length room.old ≡ 131072 }
         requires spare { bio.now.units ≤ self.old.left }
         ensures room { length room.new ≡ length room.old }
@@ -398,7 +398,7 @@ impl Course<'_> {
         fault: Option<u32>,
     ) -> Option<u32>
         requires access { bio.now.access ≡ Access.Read }
-        requires performable { IsPerformable self.old.script bio.now }
+        requires performable { IsPerformableBio self.old.script bio.now }
         requires unit { unit < bio.now.units }
         requires length { length place.old ≡ 512 * unit_sectors (keys_of self.old.script) bio.now.context }
         requires spare { 1 ≤ self.old.left }
@@ -420,7 +420,7 @@ impl Course<'_> {
     /// Reads data unit number `unit` of a bio into its place. Tells whether it met no fault.
     fn read_unit(&mut self, op: u32, bio: &Extent, unit: u64, place: &mut [u8]) -> bool
         requires access { bio.now.access ≡ Access.Read }
-        requires performable { IsPerformable self.old.script bio.now }
+        requires performable { IsPerformableBio self.old.script bio.now }
         requires unit { unit < bio.now.units }
         requires length { length place.old ≡ 512 * unit_sectors (keys_of self.old.script) bio.now.context }
         requires spare { HasEntries self.old }
@@ -447,7 +447,7 @@ fn unit_of_bio(keys: &Keys, thread: u16, op: u32, bio: &Extent, unit: u64) -> Un
     requires unit { unit < bio.now.units }
     requires few { bio.now.units ≤ 256 }
     requires no_wrap { context_wrapped unit bio.now.context ≡ context_after unit bio.now.context }
-    ensures { (operation : Op) → result ≡ at_of thread (unit_at keys.now.keys op operation bio.now unit) }
+    ensures { (operation : Op) → result ≡ unit_place_of thread (unit_at keys.now.keys op operation bio.now unit) }
 {
     UnitAt {
         caller: thread,

@@ -11,8 +11,8 @@ ghost use Rattle.bc_report.specs.LawfulRun.{LawfulRun};
 ghost use Rattle.bc_report.specs.RunOf.{run_of};
 ghost use Rattle.bc_report.specs.SerialRun.{IsSerial};
 ghost use Rattle.bc_section.specs.Sections.{SectionsDone, cost_of_section};
-ghost use Rattle.bc_section.specs.Reached.{CarriesSection};
-ghost use Rattle.bc_serial.specs.Standing.{HasBegun, IsBegun, device_of};
+ghost use Rattle.bc_section.specs.SectionProgress.{CarriesSection};
+ghost use Rattle.bc_serial.specs.Standing.{HasBegun, IsBegun, own_device};
 
 use crate::ciphers::Ciphers;
 use crate::course::Course;
@@ -120,7 +120,7 @@ fn carry_sections_out(
     requires untouched { (shard : ℕ) → list_at (orders_of direct.old.shards) shard ≡ [] }
     requires unused { (device : ℕ) → list_at direct.old.journals device ≡ [] }
     requires spare { sum_by cost_of_section sections.now ≤ direct.old.left }
-    ensures done { IfOk result (SectionsDone (device_of direct.old) (device_of direct.new) sections.now) }
+    ensures done { IfOk result (SectionsDone (own_device direct.old) (own_device direct.new) sections.now) }
     ensures begun { OnOk result (HasBegun direct.new.begun direct.new.journals) }
 {
     let mut answers = Vec::with_capacity(alloc, sections.len())?;
@@ -145,8 +145,8 @@ fn carry_section_out(
     requires few { length section.now ≤ max_ops }
     requires spare { cost_of_section section.now ≤ direct.old.left }
     ensures { IfOk result (CarriesSection
-        (device_of (record direct.old { thread = thread; begun = direct.old.journals; opened = None }))
-        (device_of direct.new) section.now) }
+        (own_device (record direct.old { thread = thread; begun = direct.old.journals; opened = None }))
+        (own_device direct.new) section.now) }
 {
     direct.begin(thread);
     let mut noted = vec![in alloc; None; section.len()]?;

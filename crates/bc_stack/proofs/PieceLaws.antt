@@ -81,7 +81,7 @@ piece_from targets units first device end ends =
     (λ i below. ap (option_map (device_of targets)) (slice_get-drop units first i) ∙ ends.on_device (first + i) (omega arith) (omega arith))
     (λ inside e. ends.changes (omega (arith, len)) (sym (ap (λ (n : ℕ). option_map (device_of targets) (slice_get units n)) last) ∙ sym (ap (option_map (device_of targets)) (slice_get-drop units first (end - first))) ∙ e))
 
--- ---- what the calls are told
+-- ---- what the calls are given
 
 position_within : {X : Type 0} (test : X → Bool) (xs : List X) → position_or_len test xs ≤ length xs
 position_within test [] = omega arith

@@ -7,7 +7,7 @@ ghost use Rattle.bc_bio.specs.Windows.{IsRequest, count_units, units_of_request}
 ghost use Rattle.bc_bio.specs.Requests.{tagged_bios};
 ghost use Rattle.bc_stack.specs.Pieces.{EndsPiece, LiesOnDevice, device_of, pieces_of};
 ghost use Rattle.bc_stack.specs.Devices.{device_at, caps_of, all_support};
-ghost use Rattle.bc_stack.specs.Targets.{HasSlots, IsRefusal, IsStack, refusal_of};
+ghost use Rattle.bc_stack.specs.Targets.{HasSlots, IsRefusal, IsStack, stack_error_of};
 
 use crate::{StackError, Target};
 use bc_bio::Request;
@@ -47,7 +47,7 @@ impl Stack {
     /// `Memory` where there is no memory for targets that pass.
     pub fn new(alloc: Global, targets: &[Target], blocks: u32) -> Result<Stack, StackError>
         requires { All HasSlots targets.now }
-        ensures accepts { OnOk result (refusal_of targets.now blocks ≡ None) }
+        ensures accepts { OnOk result (stack_error_of targets.now blocks ≡ None) }
         ensures refuses { IfErr result (IsRefusal targets.now blocks) }
         ensures stack { IfOk result (λ stack.
             stack ≡ record { targets = targets.now; blocks = blocks }) }
@@ -167,7 +167,7 @@ fn position_of(targets: &[Target], sector: u32) -> Option<usize>
 
 /// Whether these targets make a stack over a disk of so many blocks.
 fn check(targets: &[Target], blocks: u32) -> Result<(), StackError>
-    ensures accepts { OnOk result (refusal_of targets.now blocks ≡ None) }
+    ensures accepts { OnOk result (stack_error_of targets.now blocks ≡ None) }
     ensures refuses { IfErr result (IsRefusal targets.now blocks) }
 {
     if targets.is_empty() {

@@ -8,7 +8,7 @@ use Rattle.bc_profile.specs.declared.event.Event.TheVariants as events
 use Rattle.bc_profile.specs.declared.noted.Noted.{Noted}
 use Rattle.bc_profile.specs.SlotJournal.{Slots, InNoSlot, after_event, after_events, opening, slots_after}
 use Rattle.bc_profile.specs.Story.{author_of, events_of, notes}
-use Rattle.bc_compose.specs.Ordered.{Notes}
+use Rattle.bc_compose.specs.OrderedHolds.{Notes}
 use Rattle.bc_pieces.specs.Pieces.{NotesOn}
 use Rattle.bc_section.proofs.Numbered.{events_of_append, events_of_notes}
 

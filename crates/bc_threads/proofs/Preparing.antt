@@ -23,7 +23,7 @@ use Rattle.bc_script.specs.declared.op.Text.TheVariants.{Fill, Bytes}
 use Rattle.bc_script.specs.Script.{Script, IsScriptOp, IsText, keys_of}
 use Rattle.bc_script.specs.Bios.{bio_of}
 use Rattle.bc_script.specs.Plan.{text_at, written_at, HasUnit}
-use Rattle.bc_threads.specs.Prepared.{IsBioOf, IsMadeFor, IsPrepared}
+use Rattle.bc_threads.specs.PreparedBios.{IsBioOf, IsMadeFor, IsPrepared}
 use Rattle.bc_section.proofs.Numbered.{has_unit}
 
 text_length : (text : Text) (size i : ℕ) → HasUnit text size i → length (text_at text size i) ≡ size

@@ -9,7 +9,7 @@ use Rattle.bc_bio.specs.declared.reply.Reply.{Reply}
 use Rattle.bc_bio.specs.BioUnits.{extent_of}
 use Rattle.bc_bio.specs.Conditions.{IsPlaced}
 use Rattle.bc_bio.specs.Requests.{tagged_of, unmarked}
-use Rattle.bc_queue.specs.Plugs.{AreRequests, IsOfWindow, IsPlug, PlugParts, bios_of}
+use Rattle.bc_queue.specs.Plugs.{AreRequests, IsOfWindow, IsPlug, PlugParts, bios_in}
 use Rattle.bc_threads.specs.declared.outcome.Outcome.{Outcome}
 use Rattle.bc_threads.specs.declared.outcome.Outcome.TheVariants as outcomes
 
@@ -22,7 +22,7 @@ pub record IsPlugged (keys : List KeyData) (bios : List (Option Bio)) (window : 
     (plug : PlugParts) : Type 0 where
   pub taken : List Bio
   pub each : AllZip (λ o bio. At bios o (Some bio)) window taken
-  pub plugged : bios_of plug.requests ≡ map unmarked taken
+  pub plugged : bios_in plug.requests ≡ map unmarked taken
   pub plug_is : IsPlug plug
   pub requests : AreRequests keys plug.requests
   pub window_is : IsOfWindow keys plug.requests (map tagged_of taken)

@@ -4,7 +4,7 @@ use Rattle.std.specs.Prelude.{ℕ, ◌+◌, ◌*◌, ◌==◌, List, [], ◌∷�
 use Rattle.std.specs.List.{range_with_len}
 use Rattle.std.specs.Option.{option_map_or}
 use Rattle.bc_bio.specs.Extent.{unit_sectors}
-use Rattle.bc_medium.specs.Places.{shard_of}
+use Rattle.bc_medium.specs.Layout.{shard_of}
 use Rattle.bc_script.specs.declared.op.Op.{Op}
 use Rattle.bc_script.specs.Script.{Script, keys_of}
 use Rattle.bc_script.specs.Bios.{bio_of}
@@ -15,15 +15,15 @@ units_from shards shard sector sectors units =
     sum_by (λ i. if shard_of shards (sector + i * sectors) == shard then 1 else 0) (range_with_len 0 units)
 
 -- how many units of an operation's bio lie in a shard, whether the bio is refused or not
-abbrev pub units_on : Script → ℕ → ℕ → Op → ℕ
-units_on script shards shard operation =
+abbrev pub units_of_op_on : Script → ℕ → ℕ → Op → ℕ
+units_of_op_on script shards shard operation =
     option_map_or (λ bio. units_from shards shard bio.sector (unit_sectors (keys_of script) bio.context) bio.units)
     (bio_of operation) 0
 
 -- how many entries the thread of a section may have at a shard: as many as its bios have units
 -- there
 abbrev pub unit_quota : Script → ℕ → ℕ → List Op → ℕ
-unit_quota script shards shard section = sum_by (units_on script shards shard) section
+unit_quota script shards shard section = sum_by (units_of_op_on script shards shard) section
 
 -- and at each shard
 abbrev pub unit_row : Script → ℕ → List Op → List ℕ

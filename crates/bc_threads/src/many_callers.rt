@@ -6,7 +6,7 @@ ghost use Rattle.bc_base.specs.Lists.{Each};
 ghost use Rattle.bc_base.specs.RamStores.{RamData};
 ghost use Rattle.bc_report.specs.LawfulRun.{LawfulButHolders};
 ghost use Rattle.bc_report.specs.Report.{IsEntry, IsPart};
-ghost use Rattle.bc_compose.specs.Closed.{line_of};
+ghost use Rattle.bc_compose.specs.ClosedOrders.{report_line_of};
 ghost use Rattle.bc_script.specs.Script.{bare_keys};
 ghost use Rattle.bc_disk.specs.Disks.{PassData};
 ghost use Rattle.bc_threads.specs.Runs.{AreCarriedOut, AreJobs, IsOpenedFor, answers_in};
@@ -227,7 +227,7 @@ pub(crate) fn finish<R: Wait>(
 
 /// The lines of the orders of the shards, if a report may have as many.
 fn lines_of(alloc: Global, orders: &[Vec<Entry>]) -> Result<Items<Items<Line>>, AllocError>
-    ensures lines { IfOk result (λ lines. lines ≡ map (λ order. map line_of order.items) orders.now) }
+    ensures lines { IfOk result (λ lines. lines ≡ map (λ order. map report_line_of order.items) orders.now) }
     ensures ranges { IfOk result (Each (IsPart IsEntry)) }
 {
     for order in orders {

@@ -10,7 +10,7 @@ ghost use Rattle.bc_bio.specs.Extent.{unit_sectors};
 ghost use Rattle.bc_key.specs.DataUnits.{IsUnitSize};
 ghost use Rattle.bc_script.specs.Script.{IsScriptOp, keys_of, max_ops};
 ghost use Rattle.bc_script.specs.Plan.{text_at, HasUnit};
-ghost use Rattle.bc_threads.specs.Prepared.{IsMadeFor, IsPrepared};
+ghost use Rattle.bc_threads.specs.PreparedBios.{IsMadeFor, IsPrepared};
 
 use bc_base::{Items, SECTOR_BYTES};
 use bc_bio::{Access, Bio, Context, Unit};
@@ -53,7 +53,7 @@ fn bio_of(
             text,
         } => {
             let size = unit_bytes(script, *context);
-            let units = units_of(alloc, text, size, *units)?;
+            let units = units_for(alloc, text, size, *units)?;
             Ok(Some(Bio {
                 tag: op,
                 access: Access::Write,
@@ -68,7 +68,7 @@ fn bio_of(
             units,
         } => {
             let size = unit_bytes(script, *context);
-            let units = units_of(alloc, &Text::Fill(0), size, *units)?;
+            let units = units_for(alloc, &Text::Fill(0), size, *units)?;
             Ok(Some(Bio {
                 tag: op,
                 access: Access::Read,
@@ -106,7 +106,7 @@ pub(crate) fn unit_sectors(script: &Script, context: Option<Context>) -> u32
 }
 
 /// So many units of `size` bytes each, which have the bytes of a text.
-fn units_of(alloc: Global, text: &Text, size: usize, count: u32) -> Result<Items<Unit>, AllocError>
+fn units_for(alloc: Global, text: &Text, size: usize, count: u32) -> Result<Items<Unit>, AllocError>
     requires text { (unit : ℕ) → unit < count → HasUnit text.now size unit }
     ensures { IfOk result (λ units. units ≡ map (λ i. Full (text_at text.now size i)) (range_with_len 0 count)) }
 {

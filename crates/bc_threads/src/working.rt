@@ -5,7 +5,7 @@ ghost use Rattle.std.specs.List.{enumerate_from};
 ghost use Rattle.bc_base.specs.Lists.{At, list_at};
 ghost use Rattle.bc_threads.specs.declared.outcome.Outcome.{Outcome};
 ghost use Rattle.bc_threads.specs.Jobs.{HasWorked, MayWork};
-ghost use Rattle.bc_threads.specs.Shared.{CanCarryOut};
+ghost use Rattle.bc_threads.specs.SharedDevice.{CanCarryOut};
 
 use crate::sharing::Sharing;
 use crate::{Outcome, Section};

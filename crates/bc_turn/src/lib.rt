@@ -13,7 +13,7 @@
 //!
 //! A turn is one word: twice the number of entries of the value that was given last, and one more
 //! while a caller has it. Taking a free one is one fetch, giving it one store; the value itself is
-//! moved and not copied, so a large one stands behind a handle of a few words (a `Vec`, a `Box`).
+//! moved and not copied, so a large one stands after a handle of a few words (a `Vec`, a `Box`).
 #![tactic(auto)]
 
 // what stands behind a turn

@@ -2,7 +2,7 @@
 ghost use Rattle.std.specs.Prelude.{◌≡◌, ℕ, ◌+◌, ◌<◌, ◌≤◌, [], ◌∷◌, drop, length, OnOk};
 ghost use Rattle.bc_base.specs.Story.{own};
 ghost use Rattle.bc_base.specs.Lists.{AllAt};
-ghost use Rattle.bc_turn.specs.Parts.{with_part, cut_to};
+ghost use Rattle.bc_turn.specs.PassParts.{with_part, cut_to};
 
 use crate::post::Post;
 use crate::story::Story;
@@ -21,7 +21,7 @@ pub struct TurnPass<V: Story> {
 impl<V: Story> Model for TurnPass<V> {
     ghost use Rattle.std.specs.Prelude.{◌≡◌, ℕ, List};
     ghost use Rattle.bc_base.specs.Lists.{Each};
-    ghost use Rattle.bc_turn.specs.Parts.{Pass};
+    ghost use Rattle.bc_turn.specs.PassParts.{Pass};
 
     ghost Value = { Pass V.Item V.Base };
 

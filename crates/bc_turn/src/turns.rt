@@ -4,7 +4,7 @@ ghost use Rattle.std.specs.List.{range_with_len};
 ghost use Rattle.bc_base.specs.Lists.{Each};
 ghost use Rattle.bc_turn.specs.Turning.{sum_of, newcomers, view_of};
 ghost use Rattle.bc_base.specs.Lists.{AllAt, EachFrom};
-ghost use Rattle.bc_turn.specs.Parts.{IsOf, Changes, with_miss, without_turn, Takes, TakesLater, GoesOn, Counts, IsClosed, accounts_from, is_caller, cut_to, new_pass, with_cell};
+ghost use Rattle.bc_turn.specs.PassParts.{IsOf, Changes, with_miss, without_turn, Takes, TakesLater, GoesOn, Counts, IsClosed, accounts_from, is_caller, cut_to, new_pass, with_cell};
 
 use crate::cell::{Cell, Place};
 use crate::pass::TurnPass;
@@ -26,7 +26,7 @@ pub struct Turns<V: Story> {
 impl<V: Story> Model for Turns<V> {
     ghost use Rattle.std.specs.Prelude.{◌≡◌, ◌≤◌, ℕ, List, map};
     ghost use Rattle.bc_base.specs.Lists.{Each};
-    ghost use Rattle.bc_turn.specs.Parts.{TurnsData, CellData};
+    ghost use Rattle.bc_turn.specs.PassParts.{TurnsData, CellData};
 
     ghost Value = { TurnsData V.Base };
 

@@ -36,9 +36,9 @@ pub record Serves (controller : ControllerData) (keys : List KeyData) (context :
   pub entry : entry_words key controller.caps ≡ Some (row_at controller.profile hold.key)
 
 -- how a unit goes that is carried out under the hold: by this device, the hold's slot, and the event that programmed it
-abbrev pub via_of : ControllerData → HoldFacts → Via
-via_of controller hold = Inline controller.device hold.slot hold.epoch
+abbrev pub via_by_device : ControllerData → HoldFacts → Via
+via_by_device controller hold = Inline controller.device hold.slot hold.epoch
 
--- Private: capabilities, of whose numbers nothing is told.
+-- Private: capabilities, of whose numbers nothing is reported.
 abbrev pub with_list : List Capability → Capabilities
 with_list list = record { list = list; max_dun_bytes = 0 }

@@ -10,7 +10,7 @@ ghost use Rattle.bc_medium.specs.KeyedDisk.{enciphered, deciphered, Written, Fau
 ghost use Rattle.bc_medium.specs.Entries.{written_entry, read_entry, failed_entry, unit_name};
 ghost use Rattle.bc_medium.specs.Medium.{Belongs, HasRoom, OwnsSectors, Accesses, AnswersSeen, FailedAsPlanned};
 ghost use Rattle.bc_profile.specs.Passes.{IsOf, row_at};
-ghost use Rattle.bc_ufs.specs.Controllers.{Serves, via_of};
+ghost use Rattle.bc_ufs.specs.Controllers.{Serves, via_by_device};
 
 use crate::last_cipher::{LastCipher, is_of};
 use bc_base::{BLOCK_BYTES, Place, Store};
@@ -105,15 +105,16 @@ impl Controller {
         ensures pass { Belongs medium.now units.new }
         ensures caller { units.new.caller ≡ units.old.caller }
         ensures performs { IfOk result (Accesses medium.now units.old units.new
-            (written_entry at (via_of self.now hold.now) plain.items)) }
+            (written_entry at (via_by_device self.now hold.now) plain.items)) }
         ensures performs_fault { IfErr result (λ fault. Accesses medium.now units.old units.new
-            (failed_entry Access.Write at (via_of self.now hold.now)) fault.0.place) }
+            (failed_entry Access.Write at (via_by_device self.now hold.now)) fault.0.place) }
         ensures back { IfErr result (λ fault. fault.1.items ≡ plain.items) }
         ensures answer { IfOk result (AnswersSeen S.contents medium.now units.new (unit_name at) Written) }
         ensures answer_fault { IfErr result (λ fault.
             AnswersSeen S.contents medium.now units.new (unit_name at) Faulted fault.0.place) }
-        ensures planned { IfOk result (FailedAsPlanned S.told medium.now (IsErr result)) }
-        ensures planned_fault { IfErr result (λ fault. FailedAsPlanned S.told medium.now (IsErr result) fault.0.place) }
+        ensures planned { IfOk result (FailedAsPlanned S.calls medium.now (IsErr result)) }
+        ensures planned_fault { IfErr result (λ fault.
+            FailedAsPlanned S.calls medium.now (IsErr result) fault.0.place) }
     {
         let mut last = None;
         self.write_with(
@@ -148,15 +149,16 @@ impl Controller {
         ensures pass { Belongs medium.now units.new }
         ensures caller { units.new.caller ≡ units.old.caller }
         ensures performs { IfOk result (Accesses medium.now units.old units.new
-            (written_entry at.now (via_of self.now hold.now) plain.items)) }
+            (written_entry at.now (via_by_device self.now hold.now) plain.items)) }
         ensures performs_fault { IfErr result (λ fault. Accesses medium.now units.old units.new
-            (failed_entry Access.Write at.now (via_of self.now hold.now)) fault.0.place) }
+            (failed_entry Access.Write at.now (via_by_device self.now hold.now)) fault.0.place) }
         ensures back { IfErr result (λ fault. fault.1.items ≡ plain.items) }
         ensures answer { IfOk result (AnswersSeen S.contents medium.now units.new (unit_name at.now) Written) }
         ensures answer_fault { IfErr result (λ fault.
             AnswersSeen S.contents medium.now units.new (unit_name at.now) Faulted fault.0.place) }
-        ensures planned { IfOk result (FailedAsPlanned S.told medium.now (IsErr result)) }
-        ensures planned_fault { IfErr result (λ fault. FailedAsPlanned S.told medium.now (IsErr result) fault.0.place) }
+        ensures planned { IfOk result (FailedAsPlanned S.calls medium.now (IsErr result)) }
+        ensures planned_fault { IfErr result (λ fault.
+            FailedAsPlanned S.calls medium.now (IsErr result) fault.0.place) }
     {
         let text = &mut scratch[..plain.len()];
         text.copy_from_slice(plain.as_slice());
@@ -191,15 +193,15 @@ impl Controller {
         ensures pass { Belongs medium.now units.new }
         ensures caller { units.new.caller ≡ units.old.caller }
         ensures performs { IfOk result (Accesses medium.now units.old units.new
-            (read_entry at (via_of self.now hold.now))) }
+            (read_entry at (via_by_device self.now hold.now))) }
         ensures performs_fault { IfErr result (λ fault. Accesses medium.now units.old units.new
-            (failed_entry Access.Read at (via_of self.now hold.now)) fault.place) }
+            (failed_entry Access.Read at (via_by_device self.now hold.now)) fault.place) }
         ensures length { length text.new ≡ length text.old }
         ensures answer { IfOk result (AnswersSeen S.contents medium.now units.new (unit_name at) (Text text.new)) }
         ensures answer_fault { IfErr result (λ fault.
             AnswersSeen S.contents medium.now units.new (unit_name at) Faulted fault.place) }
-        ensures planned { IfOk result (FailedAsPlanned S.told medium.now (IsErr result)) }
-        ensures planned_fault { IfErr result (λ fault. FailedAsPlanned S.told medium.now (IsErr result) fault.place) }
+        ensures planned { IfOk result (FailedAsPlanned S.calls medium.now (IsErr result)) }
+        ensures planned_fault { IfErr result (λ fault. FailedAsPlanned S.calls medium.now (IsErr result) fault.place) }
     {
         let mut last = None;
         self.read_with(rt, slots, hold, medium, units, &at, text, &mut last)
@@ -231,15 +233,15 @@ impl Controller {
         ensures pass { Belongs medium.now units.new }
         ensures caller { units.new.caller ≡ units.old.caller }
         ensures performs { IfOk result (Accesses medium.now units.old units.new
-            (read_entry at.now (via_of self.now hold.now))) }
+            (read_entry at.now (via_by_device self.now hold.now))) }
         ensures performs_fault { IfErr result (λ fault. Accesses medium.now units.old units.new
-            (failed_entry Access.Read at.now (via_of self.now hold.now)) fault.place) }
+            (failed_entry Access.Read at.now (via_by_device self.now hold.now)) fault.place) }
         ensures length { length text.new ≡ length text.old }
         ensures answer { IfOk result (AnswersSeen S.contents medium.now units.new (unit_name at.now) (Text text.new)) }
         ensures answer_fault { IfErr result (λ fault.
             AnswersSeen S.contents medium.now units.new (unit_name at.now) Faulted fault.place) }
-        ensures planned { IfOk result (FailedAsPlanned S.told medium.now (IsErr result)) }
-        ensures planned_fault { IfErr result (λ fault. FailedAsPlanned S.told medium.now (IsErr result) fault.place) }
+        ensures planned { IfOk result (FailedAsPlanned S.calls medium.now (IsErr result)) }
+        ensures planned_fault { IfErr result (λ fault. FailedAsPlanned S.calls medium.now (IsErr result) fault.place) }
     {
         match medium.read_unit(rt, units, *at, self.via(hold), text) {
             Ok(place) => {
@@ -252,7 +254,7 @@ impl Controller {
 
     /// How a data unit goes that is enciphered under the hold.
     fn via(&self, hold: &Hold) -> Via
-        ensures { result ≡ via_of self.now hold.now }
+        ensures { result ≡ via_by_device self.now hold.now }
     {
         Via::Inline {
             device: self.device,

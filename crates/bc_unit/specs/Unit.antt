@@ -27,13 +27,13 @@ mode_of_size size =
     else (if size == 16 then Some Aes128CbcEssiv else None)
 
 -- what a data unit becomes, one way
-abbrev pub carried : Direction → Mode → List ℕ → ℕ → List ℕ → List ℕ
-carried Encrypt mode raw number text = encipher_unit mode raw number text
-carried Decrypt mode raw number text = decipher_unit mode raw number text
+abbrev pub converted_unit : Direction → Mode → List ℕ → ℕ → List ℕ → List ℕ
+converted_unit Encrypt mode raw number text = encipher_unit mode raw number text
+converted_unit Decrypt mode raw number text = decipher_unit mode raw number text
 
 -- the words KEY and NUMBER are a key's and a number's, the text is one data unit, and this becomes
 -- of it
-pub record Carries (way : Direction) (key number text out : List ℕ) : Type 0 where
+pub record ConvertsUnit (way : Direction) (key number text out : List ℕ) : Type 0 where
   pub raw : List ℕ
   pub mode : Mode
   pub place : ℕ
@@ -42,7 +42,7 @@ pub record Carries (way : Direction) (key number text out : List ℕ) : Type 0 w
   pub range : place < 2 ^ 256
   pub number_digits : number ≡ number_text place
   pub accepted : key_refusal mode raw (length text) 16 ≡ None
-  pub becomes : out ≡ carried way mode raw place text
+  pub becomes : out ≡ converted_unit way mode raw place text
 
 -- these digits stand for bytes that meet a condition
 pub record DigitsOf (digits : List ℕ) (holds : List ℕ → Type 0) : Type 0 where

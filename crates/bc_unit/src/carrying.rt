@@ -3,8 +3,8 @@ ghost use Rattle.std.specs.Prelude.{◌≡◌, length, Some, None, IfOk, IfErr, 
 ghost use Rattle.std.specs.String.{string_bytes};
 ghost use Rattle.bc_key.specs.DataUnits.{bytes_of, unit_of};
 ghost use Rattle.bc_key.specs.KeyRefusal.{key_refusal};
-ghost use Rattle.bc_unit.specs.Unit.{carried, mode_of_size, Carries, HasReason, IsNoKeyFor};
-ghost use Rattle.bc_unit.specs.Printed.{digits_line, HasReasonInDigits, PrintsDigits};
+ghost use Rattle.bc_unit.specs.Unit.{converted_unit, mode_of_size, ConvertsUnit, HasReason, IsNoKeyFor};
+ghost use Rattle.bc_unit.specs.PrintedText.{digits_line, HasReasonInDigits, PrintsDigits};
 
 use crate::direction::Direction;
 use crate::refusal::Refusal;
@@ -65,7 +65,7 @@ pub fn carry(
     number: &str,
     text: &mut [u8],
 ) -> Result<(), Refusal>
-    ensures carries { OnOk result (Carries way key.now number.now text.old text.new) }
+    ensures carries { OnOk result (ConvertsUnit way key.now number.now text.old text.new) }
     ensures refuses { IfErr result (HasReason key.now number.now (length text.old)) }
     ensures same { OnErr result (text.new ≡ text.old) }
 {
@@ -116,7 +116,7 @@ fn mode_of_size(size: usize) -> Option<Mode>
 /// Takes one data unit one way under a key, in place.
 fn carry_under(way: Direction, key: &Key, dun: &Dun, text: &mut [u8])
     requires { length text.old ≡ bytes_of key.now.config.unit }
-    ensures { text.new ≡ carried way key.now.config.mode key.now.raw dun.now text.old }
+    ensures { text.new ≡ converted_unit way key.now.config.mode key.now.raw dun.now text.old }
 {
     let cipher = UnitCipher::of_key(key);
     match way {

@@ -3,7 +3,7 @@ use bc_key::KeyError;
 use hex::FromHexError;
 use thiserror::Error;
 
-/// Why nothing is printed. Its text is what the user is told.
+/// Why nothing is printed. Its text is what the user reads.
 #[derive(Clone, Copy, Debug, PartialEq, Eq, Drop, Error)]
 pub enum Refusal {
     /// The words are no command.
