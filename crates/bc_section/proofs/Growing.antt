@@ -37,4 +37,3 @@ module _ (shards caller : ℕ) where
   }
 
 -- ---- attempts
-
