@@ -10,7 +10,7 @@ pub const MAX_BLOCKS: u32 = 16384;
 pub const LAST_BLOCK: u32 = MAX_BLOCKS - 1;
 
 /// The most devices of a script.
-pub const MAX_DEVICES: usize = 8;
+pub const MAX_DEVICES: usize = bc_stack::MAX_DEVICES;
 
 /// The most keyslots of a device.
 pub const MAX_SLOTS: usize = 32;
@@ -23,7 +23,7 @@ pub const MAX_UNIT_MASK: u32 = 15;
 pub const MAX_DEVICE_DUN_BYTES: u32 = 8;
 
 /// The most keys of a script.
-pub const MAX_KEYS: usize = 4096;
+pub const MAX_KEYS: usize = bc_key::MAX_KEYS as usize;
 
 /// The most bytes of a key's name.
 pub const MAX_NAME: usize = 16;
