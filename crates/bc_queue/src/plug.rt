@@ -47,6 +47,10 @@ impl Plug {
     ghost use Rattle.bc_queue.specs.contracts.plug.Plug.{the_row};
 
     /// No bios yet, and memory for [`MAX_PLUGGED`] of them.
+    ///
+    /// # Errors
+    ///
+    /// Out of memory.
     pub fn new(alloc: Global) -> Result<Plug, AllocError>
         ensures { IfOk result (λ plug. plug ≡ no_bios) }
     {

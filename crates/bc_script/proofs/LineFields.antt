@@ -31,7 +31,7 @@ use Rattle.bc_script.proofs.KeyNames.{is_name_of}
 -- ---- fields
 
 -- a byte that may stand in a field
-pub abbrev IsFieldByte : ℕ → Type 0
+abbrev pub IsFieldByte : ℕ → Type 0
 IsFieldByte b = (b ≢ space) × (b ≢ line_feed)
 
 pub hex_digit : (k : ℕ) → k < 16 → IsFieldByte (get_or lower_digits k 0)

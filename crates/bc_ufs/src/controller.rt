@@ -124,6 +124,9 @@ impl Controller {
 
     /// Writes a data unit, as [`Controller::write`]. It keeps the cipher in `last`, and takes the one that is there
     /// where the registers still have its words.
+    ///
+    /// # Errors
+    /// A fault of the store, as [`Controller::write`] has it, with the bytes.
     pub fn write_with<S: Store, R: Wait>(
         &self,
         rt: &R,
@@ -209,6 +212,9 @@ impl Controller {
 
     /// Reads a data unit, as [`Controller::read`]. It keeps the cipher in `last`, and takes the one that is there where
     /// the registers still have its words.
+    ///
+    /// # Errors
+    /// A fault of the store, as [`Controller::read`] has it.
     pub fn read_with<S: Store, R: Wait>(
         &self,
         rt: &R,
