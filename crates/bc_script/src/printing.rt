@@ -81,7 +81,7 @@ fn on_off(is_on: bool) -> &'static [u8]
     if is_on { b"on" } else { b"off" }
 }
 
-#[tactic(auto, using(crate::proofs::Printed::lines_text_more))]
+#[tactic(auto, using(bc_text::proofs::Printing::lines_text_more))]
 fn put_devices(text: &mut Vec<u8>, devices: &[Target]) -> Result<(), AllocError>
     ensures { OnOk result (text.new.items ≡ text.old.items ++ lines_text (map device_line devices.now)) }
 {
@@ -129,7 +129,7 @@ fn put_caps(text: &mut Vec<u8>, caps: &Caps) -> Result<(), AllocError>
 
 // ---- keys
 
-#[tactic(auto, using(crate::proofs::Printed::lines_text_more))]
+#[tactic(auto, using(bc_text::proofs::Printing::lines_text_more))]
 fn put_keys(text: &mut Vec<u8>, keys: &[NamedKey]) -> Result<(), AllocError>
     ensures { OnOk result (text.new.items ≡ text.old.items ++ lines_text (map key_line keys.now)) }
 {
@@ -184,7 +184,7 @@ fn mode_text(mode: Mode) -> &'static [u8]
 
 // ---- faults
 
-#[tactic(auto, using(crate::proofs::Printed::lines_text_more))]
+#[tactic(auto, using(bc_text::proofs::Printing::lines_text_more))]
 fn put_faults(text: &mut Vec<u8>, faults: &[(u16, u32)]) -> Result<(), AllocError>
     ensures { OnOk result (text.new.items ≡ text.old.items ++ lines_text (map fault_line faults.now)) }
 {
@@ -222,7 +222,7 @@ fn put_sections(
     Ok(())
 }
 
-#[tactic(auto, using(crate::proofs::Printed::lines_text_more))]
+#[tactic(auto, using(bc_text::proofs::Printing::lines_text_more))]
 fn put_section(text: &mut Vec<u8>, keys: &[NamedKey], section: &[Op]) -> Result<(), AllocError>
     ensures { OnOk result (text.new.items ≡ text.old.items ++ lines_text (section_lines keys.now section.now)) }
 {
