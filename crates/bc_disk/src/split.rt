@@ -23,7 +23,7 @@ use std::snapshot::Snapshot;
 
 /// A disk and its passes that are to be closed.
 #[derive(Drop)]
-pub(crate) enum Parts<S: Store> {
+pub(crate) enum DiskParts<S: Store> {
     /// All of it: nothing was taken apart.
     Whole(Disk<S>, Vec<Pass<S>>),
     /// What is closed of it, and what isn't.
