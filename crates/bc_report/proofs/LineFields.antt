@@ -1,9 +1,8 @@
 -- Each line of a report is one: its fields have no space and no line feed.
-use Rattle.std.proofs.Common.{ℕ, suc, ◌+◌, ◌<◌, ◌≤◌, ◌/◌, ◌%◌, ◌^◌, List, [], ◌∷◌, ◌++◌, length, map, refl, arith}
+use Rattle.std.proofs.Common.{ℕ, ◌+◌, ◌<◌, ◌≤◌, ◌^◌, List, [], ◌∷◌, ◌++◌, length, map, refl, arith}
 use Rattle.std.specs.Prelude.{codes}
 use Rattle.std.specs.Fmt.{decimal}
 use Rattle.std.specs.List.{AllByRecursion, flat_map, enumerate_from}
-use Rattle.hex.specs.Hex.{encode_with}
 use Rattle.bc_text.specs.Lines.{TextLine, IsField, IsLine, space}
 use Rattle.bc_text.proofs.FieldLaws.{IsField-from_test, IsField-decimal}
 use Rattle.bc_bio.specs.declared.refusal.BioError.TheVariants.{Empty, Misaligned, Outside, DunRange}
@@ -20,15 +19,9 @@ use Rattle.bc_report.specs.declared.line.Line.{Line}
 use Rattle.bc_report.specs.Report.{Report, IsReport, IsAnswer, IsVia, IsEntry, IsSkip, IsEvent, IsPart}
 use Rattle.bc_report.specs.ReportText.{refusal_word, answer_line, via_fields, entry_line, skip_field, skip_fields, event_line, thread_lines, shard_lines, device_lines, all_threads, all_shards, all_devices, report_lines}
 use Rattle.bc_script.proofs.Fields.{one_byte}
-use Rattle.bc_script.proofs.LineFields.{IsField-encode_lower, hex_digit}
+use Rattle.bc_script.proofs.LineFields.{IsField-encode_lower}
 
 -- ---- fields
-
-unfolding encode_with
-IsField-encode_lower [] fits = tt
-IsField-encode_lower (b ∷ bytes) fits =
-    let small : b < 256 = fits 0 in
-    (hex_digit (b / 16) (omega arith), (hex_digit (b % 16) (omega arith), IsField-encode_lower bytes (λ i. fits (suc i))))
 
 IsField-append : (a b : List ℕ) → IsField a → IsField b → IsField (a ++ b)
 IsField-append [] b p q = q
