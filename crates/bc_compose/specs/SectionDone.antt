@@ -109,7 +109,7 @@ module _ (script : Script) (shards : ℕ) (base : ℕ → Sectors) where
     pub in_order : AllPairs (InOrder (evictions_in (thread, (section, replies))) thread) (filter_map inline_of made)
     -- its evictions are answered as they may be
     pub eviction_answers : Each (λ e. IsEvictionAnswer script e.key e.answer)
-    (evictions_in (thread, (section, replies)))
+        (evictions_in (thread, (section, replies)))
     -- it has as many events as its operations and evictions make
     pub bounds : Bounds script (enumerate_from 0 section) (evictions_in (thread, (section, replies)))
         (own_events thread noted)
