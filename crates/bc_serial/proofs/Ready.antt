@@ -39,12 +39,15 @@ use Rattle.bc_serial.proofs.EqualParts.{length-part}
 use Rattle.bc_serial.proofs.Room.{have_less}
 use Rattle.bc_serial.proofs.Placing.{stand_more, attempts_unit}
 use Rattle.bc_base.proofs.Members.{length-set}
-use Rattle.bc_compose.proofs.Placed.{sectors_after}
 use Rattle.bc_section.proofs.Numbered.{part_within}
 
 key_after : (keys : List KeyData) (context : Option Context) (i : ℕ) → HasKey keys context → HasKey keys (context_after i context)
 key_after keys None i has = tt
 key_after keys (Some context) i has = has
+
+pub sectors_after : (keys : List KeyData) (context : Option Context) (i : ℕ) → unit_sectors keys (context_after i context) ≡ unit_sectors keys context
+sectors_after keys None i = refl
+sectors_after keys (Some context) i = refl
 
 -- ---- how a unit goes
 
