@@ -32,8 +32,8 @@ said_by options = record {
 }
 
 -- what numbers of `make` that were read say
-abbrev pub make_options_of : Making → MakeOptions
-make_options_of making = record { n = making.n; slots = making.slots; shards = making.shards; at_once = making.at_once }
+abbrev pub options_of_making : Making → MakeOptions
+options_of_making making = record { n = making.n; slots = making.slots; shards = making.shards; at_once = making.at_once }
 
 -- a text was not read: no script has it, and this is its error; or there was no memory
 abbrev pub IsNotRead : List ℕ → Status → Type 0

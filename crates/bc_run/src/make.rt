@@ -12,7 +12,7 @@ ghost use Rattle.bc_run.specs.Words.{AreMakeOptions, FirstWordIs};
 ghost use Rattle.bc_run.specs.Command.{zeros_for};
 ghost use Rattle.bc_run.specs.Making.{IsMade, with_number, make_line_of};
 ghost use Rattle.bc_run.specs.Statuses.{MakeEndsBy};
-ghost use Rattle.bc_run.specs.Stages.{make_options_of, status_of};
+ghost use Rattle.bc_run.specs.Stages.{options_of_making, status_of};
 
 use crate::image::zeros;
 use crate::make_words::{Making, making_of_words};
@@ -91,8 +91,8 @@ fn made<R: Threads + Wait + Sync, G: Gate + Sync>(
     making: Making,
     gate: &G,
 ) -> Result<Vec<u8>, Status>
-    requires ranges { AreMakeOptions (make_options_of making) }
-    ensures made { IfOk result (λ line. IsMade (λ written. written ≡ line.items) (make_options_of making)) }
+    requires ranges { AreMakeOptions (options_of_making making) }
+    ensures made { IfOk result (λ line. IsMade (λ written. written ≡ line.items) (options_of_making making)) }
     ensures memory { IfErr result (λ e. e ≡ Status.NoMemory) }
 {
     runs_leave_the_made_image();
@@ -109,7 +109,7 @@ fn over_zeros<R: Threads + Wait + Sync, G: Gate + Sync>(
     making: Making,
     gate: &G,
 ) -> Result<Finished, Status>
-    requires ranges { AreMakeOptions (make_options_of making) }
+    requires ranges { AreMakeOptions (options_of_making making) }
     ensures lawful { IfOk result (λ finished.
         LawfulButHolders script.now (zeros_for script.now) making.shards finished.report finished.image.items) }
     ensures one_caller { IfOk result (λ finished. making.at_once ≡ false
@@ -129,7 +129,7 @@ fn over_zeros<R: Threads + Wait + Sync, G: Gate + Sync>(
 
 /// The script of these numbers.
 fn script_of(alloc: Global, making: Making) -> Result<Script, Status>
-    requires ranges { AreMakeOptions (make_options_of making) }
+    requires ranges { AreMakeOptions (options_of_making making) }
     ensures script { IfOk result (λ script. script ≡ generated making.n making.slots) }
     ensures memory { IfErr result (λ e. e ≡ Status.NoMemory) }
 {

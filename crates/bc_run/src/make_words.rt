@@ -6,7 +6,7 @@ ghost use Rattle.std.specs.Option.{option_map_or};
 ghost use Rattle.clap.specs.Words.{FailsBy, HasMatchesOf, IsPlainArg, fault_of, first_value, found_of, rule_of};
 ghost use Rattle.bc_run.specs.Words.{IsNumberIn, FirstWordIs, IsMakeCommand, IsShardCount, AreMakeOptions, make_options_of};
 ghost use Rattle.bc_run.specs.Words.{is_set, required_number, make_command, number_of_value};
-ghost use Rattle.bc_run.specs.Stages.{make_options_of};
+ghost use Rattle.bc_run.specs.Stages.{options_of_making};
 
 use crate::status::Status;
 use crate::words::{flag_named, number_named, status_of};
@@ -31,8 +31,8 @@ pub(crate) struct Making {
 pub(crate) fn making_of_words(alloc: Global, words: &[String]) -> Result<Making, Status>
     requires named { FirstWordIs (codes "make") (map string_bytes words.now) }
     ensures taken { OnOk result (IsMakeCommand (map string_bytes words.now)) }
-    ensures said { IfOk result (λ making. make_options_of making ≡ make_options_of (map string_bytes words.now)) }
-    ensures ranges { IfOk result (λ making. AreMakeOptions (make_options_of making)) }
+    ensures said { IfOk result (λ making. options_of_making making ≡ make_options_of (map string_bytes words.now)) }
+    ensures ranges { IfOk result (λ making. AreMakeOptions (options_of_making making)) }
     ensures statuses { IfErr result (λ e.
         ((e ≡ Status.Usage) × (IsMakeCommand (map string_bytes words.now) → ⊥)) ⊎ (e ≡ Status.NoMemory)) }
 {
