@@ -18,6 +18,44 @@ struct CountingGate {
     counts: [AtomicU64; PLACES * OPERATIONS],
 }
 
+impl CountingGate {
+    /// No operation has passed it.
+    fn new() -> CountingGate {
+        let counts = [
+            AtomicU64::new(0),
+            AtomicU64::new(0),
+            AtomicU64::new(0),
+            AtomicU64::new(0),
+            AtomicU64::new(0),
+            AtomicU64::new(0),
+            AtomicU64::new(0),
+            AtomicU64::new(0),
+            AtomicU64::new(0),
+            AtomicU64::new(0),
+            AtomicU64::new(0),
+            AtomicU64::new(0),
+            AtomicU64::new(0),
+            AtomicU64::new(0),
+            AtomicU64::new(0),
+            AtomicU64::new(0),
+            AtomicU64::new(0),
+            AtomicU64::new(0),
+            AtomicU64::new(0),
+            AtomicU64::new(0),
+        ];
+        CountingGate { counts }
+    }
+
+    /// How often each operation has passed it, place after place.
+    fn counted(&self) -> [u64; PLACES * OPERATIONS] {
+        let mut counted = [0; PLACES * OPERATIONS];
+        for (count, place) in counted.iter_mut().zip(&self.counts) {
+            *count = place.load(Ordering::SeqCst);
+        }
+        counted
+    }
+}
+
 impl Gate for CountingGate {
     fn pass<R: Wait>(&self, _rt: &R, _thread: u16, tag: u32, place: GatePlace) {
         let place = match place {
@@ -43,17 +81,11 @@ fn counted<R: Threads + Wait + Sync>(
     let mut script = MemSource::new(text.to_vec(alloc)?, 4096, Vec::new(alloc));
     let mut out = MemSink::new(alloc, 4096, 4096, Vec::new(alloc))?;
     let mut folder = MemFolder::new(alloc, Vec::new(alloc));
-    let gate = CountingGate {
-        counts: [const { AtomicU64::new(0) }; PLACES * OPERATIONS],
-    };
+    let gate = CountingGate::new();
     if run(rt, alloc, &words, &mut script, &mut out, &mut folder, &gate) != Status::Ok {
         return Err("the run has no report".into());
     }
-    let mut counts = [0; PLACES * OPERATIONS];
-    for (count, counted) in counts.iter_mut().zip(&gate.counts) {
-        *count = counted.load(Ordering::SeqCst);
-    }
-    Ok((out, counts))
+    Ok((out, gate.counted()))
 }
 
 /// The second bio of the plug has data units on both devices. Its first one fails, so that none of the piece on device 1
