@@ -61,7 +61,7 @@ printf '%-6s %-8s %5s %10s %10s %7s\n' mode way bytes ours OpenSSL ratio
 for mode in xts essiv; do
     for size in 4096 512; do
         for way in encrypt decrypt; do
-            our=$(count ':bc_speed::units::carry_unit ' "$program" "$way" "$mode" "$size" "$units")
+            our=$(count ':bc_speed::units::carry_units ' "$program" "$way" "$mode" "$size" "$units")
             soft=$(OPENSSL_ia32cap='~0x200000200000000' count ':evp_unit ' "$scratch/evp" "$mode" "$way" "$size" "$units")
             awk -v mode="$mode" -v way="$way" -v size="$size" -v our="$our" -v soft="$soft" \
                 'BEGIN { printf "%-6s %-8s %5s %10d %10d %7.2f\n", mode, way, size, our, soft, soft / our }'

@@ -6,7 +6,7 @@
 # The run has as many operations as a script may have, half of them writes and half reads, spread over the largest disk.
 # A second run has as many over a disk of one block, so that the image costs it nothing. A third run has as many data units
 # of 4096 bytes, in bios of 32, so that it has the most data units of a script too: half of them are written, which goes over
-# the largest disk twice, and each is read behind it. A fourth run has the same over a device of 32 keyslots, so that each unit goes
+# the largest disk twice, and each is read after it. A fourth run has the same over a device of 32 keyslots, so that each unit goes
 # inline. A fifth and a sixth run have as many writes of 512 bytes under 4096 keys by turns, so that with a device of 32 keyslots
 # no slot ever has the key; the sixth one has no device. The ciphers alone take as many data units of 512 and of 4096 bytes one
 # way and the other. It needs `rt`, or blkcrypt and bc_speed that are built, and GNU time for the peak of memory. Run it on a

@@ -4,7 +4,7 @@
 #     bench/script_speed.sh [ROUNDS]        5 rounds where no number is given
 #
 # The text has as many operations as a script may have, and is just below the most bytes that one may have: writes of a
-# data unit by `hex`, and behind them reads. Each round takes the best of a few times. It needs `rt` or a
+# data unit by `hex`, and after them reads. Each round takes the best of a few times. It needs `rt` or a
 # crates/bc_speed/out/bc_speed that is built, and GNU time for the peak of memory: the program holds the text, the script
 # and the text that is printed. Run it on a machine that does nothing else. MB are millions of bytes.
 set -u

@@ -21,7 +21,7 @@ program=crates/blkcrypt/out/blkcrypt
 scratch=$(mktemp -d) || exit 1
 trap 'rm -rf "$scratch"' EXIT
 
-# script SECTIONS WAY FROM: sections of writes, each read behind it, each section over every so manieth block; the blocks are
+# script SECTIONS WAY FROM: sections of writes, each read after it, each section over every so manieth block; the blocks are
 # counted from FROM on, so that all bios are refused where that is the number of blocks
 script() {
     awk -v blocks="$blocks" -v pairs="$pairs" -v sections="$1" -v way="$2" -v from="$3" 'BEGIN {

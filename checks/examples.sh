@@ -107,7 +107,7 @@ mistake "257 units" 8 number '8s/ 2 2 2 / 2 257 2 /'
 mistake "a byte in upper case" 8 hex '8s/22$/2F/'
 mistake "a plug that stays open" 12 order '10d'
 { cat examples/plug.txt; echo end; } >"$broken"
-broken "a line behind the end" 14 end
+broken "a line after the end" 14 end
 { sed '$d' examples/sections.txt; yes thread | head -n 13; echo end; } >"$broken"
 broken "section 17" 27 limit
 printf '%s' "$(cat examples/empty.txt)" >"$broken"

@@ -90,10 +90,10 @@ SECOND_BUSY_RUN = by_hand(TWO_DEVICES, 1, *SECOND_BUSY_REPORT)
 LAWFUL = [
     ("a run of one caller over two devices", LARGE), ("two writes under a key", ONE_KEY), ("three keys over two slots", THREE_KEYS),
     ("an eviction", EVICTED),
-    ("an eviction of a key that is in use", BUSY_RUN), ("an eviction behind the last use", by_hand(BUSY, 1, *IDLE_REPORT)),
+    ("an eviction of a key that is in use", BUSY_RUN), ("an eviction after the last use", by_hand(BUSY, 1, *IDLE_REPORT)),
     ("a slot that is skipped", SKIP_RUN), ("an eviction that the second device refuses", SECOND_BUSY_RUN),
     ("an eviction of a key with two holders", by_hand(SAME_KEY, 1, *TWO_HOLDERS_REPORT)),
-    ("an idle event behind the slot's next programming", by_hand(LATE_IDLE, 1, *LATE_IDLE_REPORT)),
+    ("an idle event after the slot's next programming", by_hand(LATE_IDLE, 1, *LATE_IDLE_REPORT)),
 ]
 
 DIGEST = next(line for line in LARGE.report.split("\n") if "sha256" in line)
@@ -118,7 +118,7 @@ BROKEN = [
         [("1 1 0 inline 0 1 6\n1 2 0 inline 0 1 6", "1 2 0 inline 0 1 6\n1 1 0 inline 0 1 6")]),
     ("a unit on another shard", "Orders", LARGE,
         [("shard 0 16", "shard 0 17"), ("1 8 0 inline 0 0 12\n", ""), ("shard 1 8", "1 8 0 inline 0 0 12\nshard 1 7")]),
-    ("a unit behind the fault of its bio", "Orders", LARGE,
+    ("a unit after the fault of its bio", "Orders", LARGE,
         [("shard 0 16", "shard 0 17"), ("0 1 7 inline 1 0 0", "0 1 7 inline 1 0 0\n0 1 8 inline 1 0 0")]),
     ("a bio that ends without a fault", "Orders", LARGE, [("shard 1 8", "shard 1 7"), ("0 1 3 inline 0 1 2\n", "")]),
     ("a unit of a refused bio", "Orders", LARGE, [("shard 1 8", "shard 1 9"), ("1 6 0 plain\n", "1 6 0 plain\n1 7 0 inline 0 0 12\n")]),
@@ -174,7 +174,7 @@ BROKEN = [
          ("0 1 0 inline 0 0 0", "0 1 0 inline 0 0 1")]),
 
     ("the event before", "Programmings", LARGE, [("0 4 0 inline 0 1 6", "0 4 0 inline 0 1 5")]),
-    ("the event behind", "Programmings", LARGE, [("0 4 0 inline 0 1 6", "0 4 0 inline 0 1 7")]),
+    ("the event after", "Programmings", LARGE, [("0 4 0 inline 0 1 6", "0 4 0 inline 0 1 7")]),
     ("another slot", "Programmings", LARGE, [("0 4 0 inline 0 1 6", "0 4 0 inline 0 0 6")]),
     ("another key's programming", "Programmings", LARGE, [("0 2 1 inline 0 0 0", "0 2 1 inline 0 1 2")]),
     ("an event that isn't there", "Programmings", LARGE, [("0 4 0 inline 0 1 6", "0 4 0 inline 0 1 14")]),

@@ -71,7 +71,7 @@ static int refusals(void)
         wrong = 1;
     }
     if (memcmp(data + 4096, before + 4096, sizeof data - 4096)) {
-        printf("library_calls: bytes behind the data changed\n");
+        printf("library_calls: bytes after the data changed\n");
         wrong = 1;
     }
     return wrong;

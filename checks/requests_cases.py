@@ -1,9 +1,9 @@
 """Gives the program requests of 1, 64 and 4096 data units over two devices and three shards.
 
-A request is one bio, or a plug of bios that run on from one another; its data units lie before and behind the border
+A request is one bio, or a plug of bios that run on from one another; its data units lie before and after the border
 of the devices, and go inline, soft or plain. A request is written and then read back, or what the image has there is
 read. There is no planned fault, or one at the first unit, the last one, one in the middle, or one beside the border: it
-ends its own bio, and the bios behind it go on.
+ends its own bio, and the bios after it go on.
 
 What must be answered, each shard's order and each device's events are worked out here from the numbers of the units
 alone. The independent model (script_model.py) must say the same of them, and `serial` and `threads` must give the
@@ -161,7 +161,7 @@ class Report:
                 way = f"inline {request.device(unit)} 0 0" if request.way == "inline" else request.way
                 self.shards[request.shard(unit)].append(f"0 {first_op + bio} {unit - units.start} {way}")
         self.answers += ["plug", *answers, "unplug"] if request.bios > 1 else answers
-        # A piece for each device, also where all its units stand behind a fault of their bio.
+        # A piece for each device, also where all its units stand after a fault of their bio.
         pieces = {request.device(unit) for unit in range(request.units)} if request.way == "inline" else set()
         for device in sorted(pieces):
             self.journals[device] += ["idle 0"] if self.journals[device] else ["program 0 0", "idle 0"]

@@ -21,12 +21,12 @@ def text_of(lines):
 
 
 def ended(*lines):
-    """The lines behind a section's beginning, and the end."""
+    """The lines after a section's beginning, and the end."""
     return text_of([*SECTION, *lines, "end"])
 
 
 def headed(*lines):
-    """The lines behind the first three ones, and the end."""
+    """The lines after the first three ones, and the end."""
     return text_of([*HEAD, *lines, "end"])
 
 
@@ -48,8 +48,8 @@ REFUSED = [
     ("no end line", text_of(SECTION), 6, "end"),
     ("an end line without a line feed", headed()[:-1], 4, "end"),
     ("a wrong line without a line feed", text_of(SECTION) + b"nothing", 6, "end"),
-    ("a line feed behind the end", headed() + b"\n", 5, "end"),
-    ("a byte behind the end", headed() + b"x", 5, "end"),
+    ("a line feed after the end", headed() + b"\n", 5, "end"),
+    ("a byte after the end", headed() + b"x", 5, "end"),
     ("a second end", headed() + b"end\n", 5, "end"),
     ("a second script", headed() + headed(), 5, "end"),
     # the first three lines
@@ -63,7 +63,7 @@ REFUSED = [
     ("a blank at the beginning", text_of(["blkcrypt 1", " disk 1", "fallback on", "end"]), 2, "word"),
     ("a disk too large", text_of(["blkcrypt 1", "disk 16385", "fallback on", "end"]), 2, "number"),
     ("a carriage return", headed().replace(b"\n", b"\r\n"), 1, "word"),
-    ("a carriage return behind a number", text_of(["blkcrypt 1", "disk 1\r", "fallback on", "end"]), 2, "number"),
+    ("a carriage return after a number", text_of(["blkcrypt 1", "disk 1\r", "fallback on", "end"]), 2, "number"),
     ("fallback of another word", text_of(["blkcrypt 1", "disk 1", "fallback no", "end"]), 3, "word"),
     ("fallback off as line 2", text_of(["blkcrypt 1", "fallback off", "disk 1", "end"]), 2, "word"),
     ("a second version line", headed("blkcrypt 1"), 4, "word"),
@@ -72,7 +72,7 @@ REFUSED = [
     ("a late fallback off", headed("fallback off"), 4, "word"),
     ("no fallback line", text_of(["blkcrypt 1", "disk 1", "end"]), 3, "word"),
     # devices at other places
-    ("a device behind a key", headed(H512, "device 0 1 1 1 0 8"), 5, "word"),
+    ("a device after a key", headed(H512, "device 0 1 1 1 0 8"), 5, "word"),
     ("a device in a section", ended("device 0 1 1 1 0 8"), 6, "word"),
     ("a device before the fallback line", text_of(["blkcrypt 1", "disk 1", "device 0 1 1 1 0 8"]), 3, "word"),
     ("words that only begin so", headed("devices 0"), 4, "word"),
@@ -98,7 +98,7 @@ REFUSED = [
     ("a name that begins with a digit", headed(H512.replace(" a ", " 1a ")), 4, "name"),
     ("a name of 17 characters", headed(H512.replace(" a ", f" {'a' * 17} ")), 4, "name"),
     ("an empty name", headed(H512.replace(" a ", "  ")), 4, "name"),
-    ("a key behind a section", text_of([*SECTION, B512, "end"]), 6, "word"),
+    ("a key after a section", text_of([*SECTION, B512, "end"]), 6, "word"),
     ("key 4097", headed(*many_names(4096), B512), 4100, "limit"),
     ("key 4097 with a name of before", headed(*many_names(4096), H512.replace(" a ", " k7 ")), 4100, "name"),
     ("key 4097 with equal halves", headed(*many_names(4096), "key b aes-256-xts 512 8 " + "11" * 64), 4100, "key"),
@@ -116,27 +116,27 @@ REFUSED = [
     ("a fault without fields", headed("fault"), 4, "word"),
     ("a fault without a place", headed("fault 0"), 4, "word"),
     ("a fault with a field too many", headed("fault 0 0 0"), 4, "word"),
-    ("a blank behind a fault", headed("fault 0 0 "), 4, "word"),
+    ("a blank after a fault", headed("fault 0 0 "), 4, "word"),
     ("faults, in a word", headed("faults 0 0"), 4, "word"),
     ("a fault in a section", ended("fault 0 0"), 6, "word"),
-    ("a fault behind a section's operation", ended("evict a", "fault 0 0"), 7, "word"),
+    ("a fault after a section's operation", ended("evict a", "fault 0 0"), 7, "word"),
     ("a fault that isn't one in a section", ended("fault x"), 6, "word"),
     ("a fault before the fallback line", text_of(["blkcrypt 1", "disk 1", "fault 0 0"]), 3, "word"),
     ("a fault before the disk line", text_of(["blkcrypt 1", "fault 0 0"]), 2, "word"),
     ("a fault as the first line", b"fault 0 0\n", 1, "word"),
-    ("a fault behind the end", headed() + b"fault 0 0\n", 5, "end"),
-    ("a key behind a fault", headed("fault 0 0", H512), 5, "word"),
-    ("a device behind a fault", headed("fault 0 0", "device 0 1 1 1 0 8"), 5, "word"),
-    ("fallback off behind a fault", headed("fault 0 0", "fallback off"), 5, "word"),
-    ("an operation behind a fault", headed(H512, "fault 0 0", "evict a"), 6, "word"),
+    ("a fault after the end", headed() + b"fault 0 0\n", 5, "end"),
+    ("a key after a fault", headed("fault 0 0", H512), 5, "word"),
+    ("a device after a fault", headed("fault 0 0", "device 0 1 1 1 0 8"), 5, "word"),
+    ("fallback off after a fault", headed("fault 0 0", "fallback off"), 5, "word"),
+    ("an operation after a fault", headed(H512, "fault 0 0", "evict a"), 6, "word"),
     ("a fault twice", headed("fault 0 0", "fault 0 0"), 5, "order"),
     ("a fault at an earlier place", headed("fault 0 7", "fault 0 6"), 5, "order"),
     ("a fault on an earlier shard, at a later place", headed("fault 1 0", "fault 0 65535"), 5, "order"),
     ("places that ascend as words and not as numbers", headed("fault 0 10", "fault 0 9"), 5, "order"),
-    ("a fault out of order behind one in order", headed("fault 0 0", "fault 0 2", "fault 0 1"), 6, "order"),
-    ("the first fault once more behind others", headed("fault 0 0", "fault 0 1", "fault 1 0", "fault 0 0"), 7, "order"),
+    ("a fault out of order after one in order", headed("fault 0 0", "fault 0 2", "fault 0 1"), 6, "order"),
+    ("the first fault once more after others", headed("fault 0 0", "fault 0 1", "fault 1 0", "fault 0 0"), 7, "order"),
     ("fault 1025", headed(*many_faults(1025)), 1028, "limit"),
-    ("fault 1025 behind a key", headed(H512, *many_faults(1025)), 1029, "limit"),
+    ("fault 1025 after a key", headed(H512, *many_faults(1025)), 1029, "limit"),
     ("fault 1025 out of order", headed(*many_faults(1024), "fault 0 64"), 1028, "order"),
     ("fault 1025 on shard 64", headed(*many_faults(1024), "fault 64 0"), 1028, "number"),
     ("fault 1025 with a field too few", headed(*many_faults(1024), "fault 63"), 1028, "word"),
@@ -178,7 +178,7 @@ REFUSED = [
     ("a plug of a section before", ended("plug", "unplug", "thread", "unplug"), 9, "order"),
     # limits
     ("section 17", headed(*["thread"] * 17), 20, "limit"),
-    ("section 17 behind an open plug", headed(*["thread"] * 16, "plug", "thread"), 21, "order"),
+    ("section 17 after an open plug", headed(*["thread"] * 16, "plug", "thread"), 21, "order"),
     ("operation 65537", ended(*["evict a"] * 65537), 65542, "limit"),
     ("operation 65537 out of order", ended(*["evict a"] * 65536, "unplug"), 65542, "order"),
     ("operation 65537 of another section", ended(*["evict a"] * 65536, "thread", "evict a"), 65543, "limit"),
@@ -262,7 +262,7 @@ REPORTED = [
     ("what submits no bio", ended("plug", "write a 0 0 0 fill 00", "write a 1 1 0 fill 01", "unplug", "evict a", "read a 1 1 0"),
         ["report 1", "thread 0", "plug", "refused empty", "done", "unplug", "evicted", "done fill 01", "shard 0 2", "0 2 0 soft",
          "0 5 0 soft", "end"]),
-    ("an empty plug, and a plug behind it", headed("thread", "plug", "unplug", "plug", "write - 0 1 - fill 05", "unplug"),
+    ("an empty plug, and a plug after it", headed("thread", "plug", "unplug", "plug", "write - 0 1 - fill 05", "unplug"),
         ["report 1", "thread 0", "plug", "unplug", "plug", "done", "unplug", "shard 0 1", "0 3 0 plain", "end"]),
     ("an eviction in a plug, which stays open", ended("plug", "write a 0 1 0 fill 11", "evict a", "read a 0 1 0", "unplug"),
         ["report 1", "thread 0", "plug", "done", "evicted", "done fill 11", "unplug", "shard 0 2", "0 1 0 soft", "0 3 0 soft", "end"]),
@@ -283,7 +283,7 @@ REPORTED = [
     ("a fault in a plug", headed(H512, "fault 0 2", *IN_A_PLUG),
         ["report 1", "thread 0", "plug", "done", "fault 0", "done", "unplug", "done fill 00", "done fill 33", "shard 0 6",
          "0 1 0 soft", "0 1 1 soft", "0 2 0 soft", "0 3 0 soft", "0 5 0 plain", "0 6 0 soft", "end"]),
-    ("a fault behind a plug", headed(H512, "fault 0 5", *IN_A_PLUG),
+    ("a fault after a plug", headed(H512, "fault 0 5", *IN_A_PLUG),
         ["report 1", "thread 0", "plug", "done", "done", "done", "unplug", "fault 0", "done fill 33", "shard 0 7",
          "0 1 0 soft", "0 1 1 soft", "0 2 0 soft", "0 2 1 soft", "0 3 0 soft", "0 5 0 plain", "0 6 0 soft", "end"]),
     ("a fault on the first unit of a write", headed("fault 0 0", *WRITE_AND_READ),
@@ -368,7 +368,7 @@ SHARDED = [
     ("faults at places that the run doesn't reach", 2, over_blocks(4, "fault 0 2", "fault 1 2", "fault 1 65535", *BLOCKS),
         ["report 1", "thread 0", *["done"] * 4, "shard 0 2", "0 0 0 soft", "0 2 0 soft", "shard 1 2", "0 1 0 soft", "0 3 0 soft",
          "end"]),
-    ("faults on two of a bio's shards, and reads behind them", 2, text_of([
+    ("faults on two of a bio's shards, and reads after them", 2, text_of([
         "blkcrypt 1", "disk 2", "fallback on", "fault 0 1", "fault 1 0", "thread", "write - 7 2 - fill 01", "read - 7 1 -",
         "read - 8 1 -", "end"]),
         ["report 1", "thread 0", "fault 1", "fault 0", "done fill 00", "shard 0 2", "0 0 0 plain", "0 1 0 plain", "shard 1 2",
@@ -433,14 +433,14 @@ DEVICES_REFUSED = [
     ("a device in capitals", with_devices(1, "on", "Device 0 1 1 1 0 8"), 4, "word"),
     ("a first device that doesn't begin at block 0", with_devices(2, "on", "device 1 1 1 1 0 8"), 4, "device"),
     ("a second device that begins where the first does", with_devices(2, "on", ONE, ONE), 5, "device"),
-    ("a second device behind a gap", with_devices(3, "on", ONE, "device 2 1 1 1 0 8"), 5, "device"),
+    ("a second device after a gap", with_devices(3, "on", ONE, "device 2 1 1 1 0 8"), 5, "device"),
     ("a wrong beginning and a number out of range", with_devices(2, "on", "device 1 1 1 1 0 9"), 4, "number"),
     ("devices that end before the disk, at a key", with_devices(2, "on", ONE, H512), 5, "device"),
     ("devices that end before the disk, at a fault", with_devices(2, "on", ONE, "fault 0 0"), 5, "device"),
     ("devices that end before the disk, at a section", with_devices(2, "on", ONE, "thread"), 5, "device"),
     ("devices that end before the disk, at the end", with_devices(2, "on", ONE), 5, "device"),
-    ("devices that end behind the disk", with_devices(1, "on", "device 0 2 1 1 0 8", H512), 5, "device"),
-    ("two devices that end behind the disk", with_devices(1, "off", *TWO, H512), 6, "device"),
+    ("devices that end beyond the disk", with_devices(1, "on", "device 0 2 1 1 0 8", H512), 5, "device"),
+    ("two devices that end beyond the disk", with_devices(1, "off", *TWO, H512), 6, "device"),
     ("a sum that is wrong, and no further line", text_of(["blkcrypt 1", "disk 2", "fallback on", ONE]), 5, "end"),
     ("a sum that is wrong, and a line without a line feed", text_of(["blkcrypt 1", "disk 2", "fallback on", ONE]) + b"end", 5, "end"),
     ("a sum that is wrong, and another word", with_devices(2, "on", ONE, "keys"), 5, "word"),
@@ -453,10 +453,10 @@ DEVICES_REFUSED = [
     ("device 9", with_devices(9, "on", *EIGHT, "device 8 1 1 1 0 8"), 12, "limit"),
     ("device 9 at a wrong place", with_devices(9, "on", *EIGHT, "device 9 1 1 1 0 8"), 12, "device"),
     ("device 9 with a number out of range", with_devices(9, "on", *EIGHT, "device 9 1 1 1 0 9"), 12, "number"),
-    ("device 9 behind devices that have the disk", with_devices(8, "on", *EIGHT, "device 8 1 1 1 0 8"), 12, "limit"),
-    ("a device behind a key of devices", with_devices(2, "on", TWO[0], TWO[1], H512, "device 2 1 1 1 0 8"), 7, "word"),
+    ("device 9 after devices that have the disk", with_devices(8, "on", *EIGHT, "device 8 1 1 1 0 8"), 12, "limit"),
+    ("a device after a key of devices", with_devices(2, "on", TWO[0], TWO[1], H512, "device 2 1 1 1 0 8"), 7, "word"),
     ("a device in a section of devices", with_devices(1, "on", ONE, "thread", ONE), 6, "word"),
-    ("fallback off behind a device", with_devices(1, "on", ONE, "fallback off"), 5, "word"),
+    ("fallback off after a device", with_devices(1, "on", ONE, "fallback off"), 5, "word"),
     ("a reset of the device that the last one would be followed by", one_device(1, [H512], "reset 0", "reset 1"), 8, "number"),
     ("a reset of device 8", with_devices(8, "on", *EIGHT, "thread", "reset 7", "reset 8"), 14, "number"),
     ("a reset with a leading zero", one_device(1, [H512], "reset 00"), 7, "number"),
@@ -583,7 +583,7 @@ DEVICES_REPORTED = [
          "0 1 0 inline 0 0 0", "0 1 1 inline 0 0 0", "0 2 0 inline 0 0 0", "0 2 1 inline 0 0 0", "0 2 2 inline 1 0 0",
          "0 2 3 inline 1 0 0", "0 3 0 inline 1 0 0", *(f"0 5 {unit} inline {unit // 4} 0 0" for unit in range(7)),
          "device 0 3", "program 0 0", "idle 0", "idle 0", "device 1 3", "program 0 0", "idle 0", "idle 0", "end"]),
-    ("a piece whose units are all passed over behind a fault, and holds its slot", 1,
+    ("a piece whose units are all passed over after a fault, and holds its slot", 1,
         with_devices(2, "off", *TWO, H512, "fault 0 0", "thread", "write a 6 4 0 fill 07"),
         ["report 1", "thread 0", "fault 0", "shard 0 1", "0 0 0 inline 0 0 0", "device 0 2", "program 0 0", "idle 0", "device 1 2",
          "program 0 0", "idle 0", "end"]),
@@ -605,6 +605,15 @@ DEVICES_REPORTED = [
     ("a reset of a device without a programmed slot", 1, one_device(2, [H512], "reset 0", *writes("a")),
         ["report 1", "thread 0", "reset", "done", "shard 0 1", "0 1 0 inline 0 0 1", "device 0 3", "reset", "program 0 0", "idle 0",
          "end"]),
+    # of the section under small0 the eleventh data unit, at the place 10, meets the fault; without the fallback none is tried
+    *((f"a line of each form, fallback {fallback}", 1, with_devices(
+        36, fallback, "device 0 35 31 11 1 1", "device 35 1 32 12 2 2", H512,
+        f"key small0 aes-128-cbc-essiv 4096 16 {E1}", "fault 0 10", "fault 63 65535", "thread",
+        "write - 4294967295 1 - fill 00", "read small0 8 32 ff", "evict a", "thread", "plug", "write a 299 1 13 fill 5a", "reset 1",
+        "unplug"),
+        ["report 1", "thread 0", "refused outside", answer, "evicted", "thread 1", "plug", "refused outside", "reset", "unplug",
+         f"shard 0 {units}", *(f"0 1 {unit} soft" for unit in range(units)), "device 0 0", "device 1 1", "reset", "end"])
+      for fallback, answer, units in [("off", "refused unsupported", 0), ("on", "fault 10", 11)]),
     ("sections one after the other over the same slots", 1,
         one_device(1, [H512, B512], *writes("a"), "thread", *writes("a", "b"), "thread", *writes("a")),
         ["report 1", "thread 0", "done", "thread 1", "done", "done", "thread 2", "done", "shard 0 4", "0 0 0 inline 0 0 0",

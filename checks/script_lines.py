@@ -12,6 +12,11 @@ THREE_BLOCKS = "blkcrypt 1\ndisk 3\nfallback on\n"
 K = bytes(range(64)).hex()
 KEY = f"key a aes-256-xts 512 8 {K}\n"
 SECTION = f"{HEAD}{KEY}thread\n"
+SMALL = f"key small0 aes-128-cbc-essiv 4096 16 {bytes(range(128, 144)).hex()}\n"
+# a section under a key of data units of 4096 bytes
+ESSIV_SECTION = f"{HEAD}key a aes-128-cbc-essiv 4096 8 {bytes(range(128, 144)).hex()}\nthread\n"
+# a device with all that a device may have
+WHOLE_DEVICE = "blkcrypt 1\ndisk 16384\nfallback off\ndevice 0 16384 32 15 0 8\n"
 TWO_DEVICES = f"{THREE_BLOCKS}device 0 2 1 1 0 8\ndevice 2 1 1 1 0 8\n"
 # Eight devices on a disk of 36 blocks, no two of them alike.
 EIGHT_DEVICES = """blkcrypt 1
@@ -68,7 +73,9 @@ REFUSED = [
     (5, "device", THREE_BLOCKS, [
         "device 0 2 1 1 0 8\ndevice 1 1 1 1 0 8\n", "device 0 2 1 1 0 8\ndevice 3 1 1 1 0 8\n",
         "device 0 2 1 1 0 8\ndevice 0 1 1 1 0 8\n", "device 0 3 1 1 0 8\ndevice 0 3 1 1 0 8\n"]),
-    # devices of fewer blocks than the disk, or of more, are found at the first line after them, behind its other tests
+    (5, "device", HEAD, ["device 0 2 1 1 0 8\nend\n"]),
+    (5, "number", WHOLE_DEVICE, ["device 4294967295 7 65535 0 255 16\n"]),
+    # devices of fewer blocks than the disk, or of more, are found at the first line after them, after its other tests
     *(of_line for blocks in [2, 4, 16384] for device in [f"{THREE_BLOCKS}device 0 {blocks} 1 1 0 8\n"] for of_line in [
         (5, "device", device, ["end\n", "thread\nplug\nend\n", "fault 0 0\n", KEY, KEY + KEY]),
         (5, "end", device, ["", "end", "thread"]),
@@ -100,7 +107,15 @@ REFUSED = [
     # 1024 faults, and one more
     (1028, "limit", FAULTS, ["fault 16 0\n"]),
     (1028, "order", FAULTS, ["fault 15 63\n"]),
+    (6, "number", WHOLE_DEVICE, ["fault 3 17\nfault 65535 4294967295\n"]),
+    # keys
+    (4, "key", HEAD, ["key a aes-256-xts 512 8 0011\n"]),
     # operations
+    (6, "name", ESSIV_SECTION, ["write b x x x fill x\n", "evict -\n"]),
+    (6, "hex", ESSIV_SECTION, ["write a 0 33 0 hex 00\n"]),
+    (6, "limit", ESSIV_SECTION, ["write a 0 33 0 fill 00\n"]),
+    (8, "hex", WHOLE_DEVICE + KEY + SMALL + "thread\n", ["write small0 4294967295 256 10000000000000000 hex 0001abff\n"]),
+    (8, "number", WHOLE_DEVICE + KEY + SMALL + "thread\n", ["reset 255\n"]),
     (6, "hex", SECTION, [
         "write a 0 1 0 fill 0\n", "write a 0 1 0 fill \n", "write a 0 1 0 fill 0000\n", "write a 0 1 0 fill 0A\n",
         "write a 0 0 0 hex \n", "write a 0 1 0 hex \n", "write a 0 1 0 hex 00\n"]),
@@ -129,6 +144,10 @@ ACCEPTED = [
     (TWO_DEVICES + "thread\n", ["reset 0\nreset 1\nend\n", "plug\nreset 1\nunplug\nend\n"]),
     (HEAD, ["fault 0 0\nend\n", "fault 0 9\nfault 0 10\nfault 63 65535\nthread\nend\n"]),
     (FAULTS, ["end\n"]),
+    (WHOLE_DEVICE + KEY + SMALL + "fault 3 17\nfault 63 65535\nthread\n", [
+        "write - 0 1 - fill 00\nwrite a 17 2 a fill ff\nread - 7 0 -\nread a 8 10 0\nend\n",
+        f"write small0 4294967295 1 10000000000000000 hex {'0001abff' * 1024}\nend\n",
+        "thread\nplug\nevict small0\nreset 0\nunplug\nend\n"]),
     (HEAD + MANY_KEYS + "thread\n" + MANY_WRITES, ["end\n"]),
 ]
 

@@ -127,7 +127,7 @@ def hexadecimal(field, least, most):
 
 class Reader:
     """Reads lines one after the other. `place` says what the lines so far are: it is the name of the next line where
-    one line may follow, `devices` directly behind the first three lines and behind devices, then `keys`, `faults`, `sections`
+    one line may follow, `devices` directly after the first three lines and after devices, then `keys`, `faults`, `sections`
     and `done`."""
 
     def __init__(self):
@@ -205,7 +205,7 @@ class Reader:
         self.devices.append(device)
 
     def devices_cover(self):
-        """The devices, where there are any, have the disk's blocks. It is tested at the first line behind them."""
+        """The devices, where there are any, have the disk's blocks. It is tested at the first line after them."""
         covered = not self.devices or sum(device.blocks for device in self.devices) == self.blocks
         test(self.place != "devices" or covered, "device")
 
@@ -261,7 +261,7 @@ def read_script(text):
             reader.line(line)
         except Fails as failure:
             return place + 1, str(failure)
-    # Behind the last line feed stands nothing, and nothing is missing.
+    # After the last line feed stands nothing, and nothing is missing.
     if rest or reader.place != "done":
         return len(lines) + 1, "end"
     return Script(reader.blocks, reader.fallback, reader.devices, list(reader.keys.values()), reader.faults, reader.sections)
@@ -357,7 +357,7 @@ class Plugged:
 
 
 def runs_on(one, other):
-    """Whether the bio of one operation goes on directly behind another's, under the same key."""
+    """Whether the bio of one operation goes on directly after another's, under the same key."""
     first, second = one.bio, other.bio
     return (type(one) is type(other) and first.sector + first.units * first.unit_sectors == second.sector
             and first.key is second.key

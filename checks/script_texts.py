@@ -206,7 +206,7 @@ def met_faults(dice):
                 f"read - 0 {4 * step} -", "end"])
     for name, faults, operations in [
             ("the first 1024 accesses fail", range(1024), singly(520, 1)),
-            ("1024 accesses fail behind 16 that don't", range(16, 1040), singly(530, 1)),
+            ("1024 accesses fail after 16 that don't", range(16, 1040), singly(530, 1)),
             ("1024 accesses fail, each second one", range(0, 2048, 2), singly(1030, 1)),
             ("each second access of bios of two units fails", range(1, 1040, 2), singly(520, 2)),
             ("each third access of bios of two units fails", range(0, 1560, 3), singly(520, 2))]:
@@ -497,7 +497,7 @@ def broken(dice):
     yield "UTF-16", text_of(base(dice)).decode().encode("utf-16-le")
     yield "a text too long", longest(dice, 16777217)
     for count in [1024, 1025]:
-        yield f"{count} faults behind as many keys as there may be", text_of(
+        yield f"{count} faults after as many keys as there may be", text_of(
             head(1) + many_keys(dice, 4096) + [f"fault 1 {place}" for place in range(count)] + ["end"])
     yield "a fault too many, of many shards", script_with_faults(
         dice, [f"fault {1 + place // 17} {place}" for place in range(1025)])
@@ -682,7 +682,7 @@ def broken_with_devices(dice):
         yield f"devices: line {place + 1} twice", text_of(lines[:place + 1] + lines[place:])
         yield f"devices: lines {place + 1} and {place + 2} exchanged", text_of(
             lines[:place] + lines[place:place + 2][::-1] + lines[place + 2:])
-        yield f"devices: the text ends behind line {place}", text_of(lines[:place])
+        yield f"devices: the text ends after line {place}", text_of(lines[:place])
         yield f"devices: a third one before line {place + 1}", text_of([*lines[:place], "device 3 1 1 1 1 1", *lines[place:]])
     for turn in range(150):
         change = dice.choice([word_changed, letter_changed, line_changed, text_changed])

@@ -7,6 +7,6 @@ python3 -c 'import cryptography, sys; sys.exit(sys.version_info < (3, 10))' 2>/d
     { echo "serial_model: skipped, no Python from 3.10 on with cryptography"; exit 0; }
 
 # One run, which builds the program where it isn't built. Where it can't be run at all, the launcher has said why. The
-# thousands of runs behind it are of the program itself, since the launcher looks through all sources each time.
+# thousands of runs after it are of the program itself, since the launcher looks through all sources each time.
 ./blkcrypt serial <examples/empty.txt >/dev/null || { echo "serial_model: the program doesn't run"; exit 1; }
 exec python3 -B checks/serial_model.py crates/blkcrypt/out/blkcrypt "$@"

@@ -282,7 +282,7 @@ def picture_is_the_reports(report, script, serial):
             places_are_the_reports(picture, read)
         for kind in [] if thinned else KINDS:
             need(found[kind] == wanted[kind], f"the picture has {found[kind]} of the kind {kind}, and the report {wanted[kind]}")
-        # A use without a data unit, all of which were passed over behind a fault, has nothing to be seen by.
+        # A use without a data unit, all of which were passed over after a fault, has nothing to be seen by.
         if not thinned and serial and plan and not wanted["fault"]:
             need(found["held"] == wanted["idle"], f"{found['held']} uses are drawn, and the report has {wanted['idle']}")
         need(found["held"] <= wanted["idle"] or thinned or not serial, "there are more uses than the slots became idle")
@@ -344,7 +344,7 @@ NO_REPORTS = [
     ("a picture", b"\x89PNG\r\n\x1a\n" + bytes(range(256)), 1),
     ("carriage returns", EXAMPLE.replace(b"\n", b"\r\n"), 1),
     ("no foot", EXAMPLE.removesuffix(b"end\n"), 9),
-    ("a line behind the foot", EXAMPLE + b"end\n", 10),
+    ("a line after the foot", EXAMPLE + b"end\n", 10),
     ("a last line without a line feed", EXAMPLE[:-1], 9),
     ("an answer that is none", EXAMPLE.replace(b"done", b"dine"), 3),
     ("an entry too few", EXAMPLE.replace(b"shard 0 1", b"shard 0 2"), 6),

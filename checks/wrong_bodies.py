@@ -187,7 +187,7 @@ class OpeningImage(Wrote):
         return ciphered(bio.key, bio.number + unit, self.opening[at:at + bio.unit_bytes], False)
 
 
-class GoesOnBehindFaults(ThreadsRun):
+class GoesOnAfterFaults(ThreadsRun):
     def unit(self, thread, plugged, unit, way):
         answer = plugged.answer
         plugged.answer = None
@@ -278,7 +278,7 @@ WRONG = [
     ("one number for all units", {"Answers", "Image"}, OneNumber),
     ("a fallback that doesn't encipher", {"Answers", "Image"}, PlainFallback),
     ("reads from the opening image", {"Answers"}, OpeningImage),
-    ("units behind the fault of their bio", {"Orders"}, GoesOnBehindFaults),
+    ("units after the fault of their bio", {"Orders"}, GoesOnAfterFaults),
     ("units of other shards that are left out", {"Orders"}, SkipsOtherShards),
     ("another thread's number", {"Orders"}, OtherThread),
     ("sections carried out twice", {"Orders", "Counts"}, TwiceCarriedOut),

@@ -1,7 +1,7 @@
 """Puts all that a report tells into one order.
 
 A report has no clock. It has an order for each shard and each device, and each thread's own order. An inline entry stands
-behind the event that programmed its slot, and before the slot gets another key. `ordered` finds one order that keeps all of
+after the event that programmed its slot, and before the slot gets another key. `ordered` finds one order that keeps all of
 this: section after section where that is possible, as a run of one caller goes, and else the threads side by side, each as far
 as the others. Other orders may keep it too.
 """

@@ -44,7 +44,7 @@ class Piece:
 class Script:
     names: list  # of the keys
     unit_bytes: list  # of each key
-    devices: list  # pairs of the first block and the one behind the last
+    devices: list  # pairs of the first block and the one after the last
     slots: list  # of each device
     sections: list
 
@@ -85,7 +85,7 @@ def key_of(script, name):
 
 
 def line_of(script, line):
-    """Takes in a line behind the first three ones, and tells whether it is one."""
+    """Takes in a line after the first three ones, and tells whether it is one."""
     if line == "thread":
         script.sections.append([])
         return True

@@ -5,7 +5,7 @@ use Rattle.std.proofs.lemmas.Simd.{get_or-zip2, length-zip2, get_or-replicate}
 use Rattle.std.specs.Simd.Lanes.{zip2, Each1}
 use Rattle.std.specs.Int.{bit_at}
 use Rattle.bc_aes.specs.State.{byte_of_bits}
-use Rattle.bc_aes.specs.Circuit.{Gate, Circuit, value_of, values_after, results_of, bit_logic, slice_logic}
+use Rattle.bc_aes.specs.Circuit.{Gate, Circuit, gate_value, values_after, results_of, bit_logic, slice_logic}
 
 abbrev pub Long : List ℕ → Type 0
 Long v = length v ≡ 16
@@ -56,10 +56,10 @@ values_bits p k (g ∷ gates) values lt h =
     let v : List ℕ = slice_index_or values g.right (replicate 16 0) in
     let hu : Long u = index_long values g.left h in
     let hv : Long v = index_long values g.right h in
-    let top : bit_of p k (value_of slice_logic values g) ≡ value_of bit_logic (map (bit_of p k) values) g =
+    let top : bit_of p k (gate_value slice_logic values g) ≡ gate_value bit_logic (map (bit_of p k) values) g =
     gate_bit p k g.is_and u v lt hu hv
     ∙ ap₂ (λ (x y : ℕ). if g.is_and then min x y else (x + y) % 2) (sym (index_bit p k values g.left lt)) (sym (index_bit p k values g.right lt)) in
-    values_bits p k gates (value_of slice_logic values g ∷ values) lt (gate_long g.is_and u v hu hv, h)
+    values_bits p k gates (gate_value slice_logic values g ∷ values) lt (gate_long g.is_and u v hu hv, h)
     ∙ ap (λ (w : ℕ). values_after bit_logic gates (w ∷ map (bit_of p k) values)) top
 
 picked_bits : (p k : ℕ) (results : List ℕ) (values : List (List ℕ)) → p < 16

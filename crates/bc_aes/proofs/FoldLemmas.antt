@@ -5,7 +5,7 @@ use Rattle.std.proofs.lemmas.Nat.{xor_comm}
 use Rattle.bc_aes.specs.Field.{times_x, product_by, product}
 use Rattle.bc_aes.specs.State.{at, state_of, mixed, sub_bytes, inv_sub_bytes, shift_rows, inv_shift_rows, mix_columns_by, mix_columns, inv_mix_columns, mixing_row, inv_mixing_row, add_round_key}
 use Rattle.bc_aes.specs.Cipher.{round, last_round, inv_round, inv_last_round}
-use Rattle.bc_aes.specs.Slices.{block_of}
+use Rattle.bc_aes.specs.Slices.{sliced_block}
 use Rattle.bc_aes.specs.SlicedRounds.{constant, raised, bare_sub_bytes, bare_inv_sub_bytes, raised_round, raised_last_round, raised_inv_round, raised_inv_last_round, key_in_slices}
 use Rattle.bc_aes.proofs.FieldLemmas.{xor_assoc}
 use Rattle.bc_aes.proofs.WordLemmas.{four}
@@ -58,43 +58,43 @@ length-unmixed state = refl
 
 -- ---- the S-box
 
-bare-sub_bytes : (slices : List (List ℕ)) (k : ℕ) → bare_sub_bytes (shift_rows (block_of slices k)) ≡ raised (shift_rows (sub_bytes (block_of slices k)))
+bare-sub_bytes : (slices : List (List ℕ)) (k : ℕ) → bare_sub_bytes (shift_rows (sliced_block slices k)) ≡ raised (shift_rows (sub_bytes (sliced_block slices k)))
 unfolding bare_sub_bytes sub_bytes shift_rows add_round_key
 bare-sub_bytes slices k = refl
 
 bare-inv_sub_bytes : (slices : List (List ℕ)) (k : ℕ)
-    → bare_inv_sub_bytes (inv_shift_rows (block_of slices k)) ≡ inv_sub_bytes (inv_shift_rows (raised (block_of slices k)))
+    → bare_inv_sub_bytes (inv_shift_rows (sliced_block slices k)) ≡ inv_sub_bytes (inv_shift_rows (raised (sliced_block slices k)))
 unfolding bare_inv_sub_bytes inv_sub_bytes inv_shift_rows add_round_key
 bare-inv_sub_bytes slices k = refl
 
 -- ---- the rounds
 
 pub round-raised : (slices : List (List ℕ)) (k : ℕ) (key : List ℕ)
-    → add_round_key (mix_columns (bare_sub_bytes (shift_rows (block_of slices k)))) key ≡ raised_round (block_of slices k) key
+    → add_round_key (mix_columns (bare_sub_bytes (shift_rows (sliced_block slices k)))) key ≡ raised_round (sliced_block slices k) key
 unfolding raised_round round
 round-raised slices k key =
-    let s : List ℕ = shift_rows (sub_bytes (block_of slices k)) in
+    let s : List ℕ = shift_rows (sub_bytes (sliced_block slices k)) in
     ap (λ (x : List ℕ). add_round_key (mix_columns x) key) (bare-sub_bytes slices k)
     ∙ ap (λ (x : List ℕ). add_round_key x key) (mix-raised s) ∙ add-raised (mix_columns s) key
 
 pub last_round-raised : (slices : List (List ℕ)) (k : ℕ) (key : List ℕ)
-    → add_round_key (bare_sub_bytes (shift_rows (block_of slices k))) key ≡ raised_last_round (block_of slices k) key
+    → add_round_key (bare_sub_bytes (shift_rows (sliced_block slices k))) key ≡ raised_last_round (sliced_block slices k) key
 unfolding raised_last_round last_round
 last_round-raised slices k key =
-    ap (λ (x : List ℕ). add_round_key x key) (bare-sub_bytes slices k) ∙ add-raised (shift_rows (sub_bytes (block_of slices k))) key
+    ap (λ (x : List ℕ). add_round_key x key) (bare-sub_bytes slices k) ∙ add-raised (shift_rows (sub_bytes (sliced_block slices k))) key
 
 pub inv_round-raised : (slices : List (List ℕ)) (k : ℕ) (key : List ℕ)
-    → inv_mix_columns (add_round_key (bare_inv_sub_bytes (inv_shift_rows (block_of slices k))) key) ≡ raised_inv_round (block_of slices k) key
+    → inv_mix_columns (add_round_key (bare_inv_sub_bytes (inv_shift_rows (sliced_block slices k))) key) ≡ raised_inv_round (sliced_block slices k) key
 unfolding raised_inv_round inv_round
 inv_round-raised slices k key =
-    let s : List ℕ = inv_sub_bytes (inv_shift_rows (raised (block_of slices k))) in
+    let s : List ℕ = inv_sub_bytes (inv_shift_rows (raised (sliced_block slices k))) in
     let sum : List ℕ = add_round_key s key in
     ap (λ (x : List ℕ). inv_mix_columns (add_round_key x key)) (bare-inv_sub_bytes slices k)
     ∙ sym (ap raised (ap (λ (x : List ℕ). inv_mix_columns x) (add-key_raised s key) ∙ unmix-raised sum)
     ∙ add_round_key-twice (inv_mix_columns sum) constant (length-unmixed sum))
 
 pub inv_last_round-raised : (slices : List (List ℕ)) (k : ℕ) (key : List ℕ)
-    → add_round_key (bare_inv_sub_bytes (inv_shift_rows (block_of slices k))) key ≡ raised_inv_last_round (block_of slices k) key
+    → add_round_key (bare_inv_sub_bytes (inv_shift_rows (sliced_block slices k))) key ≡ raised_inv_last_round (sliced_block slices k) key
 unfolding raised_inv_last_round inv_last_round
 inv_last_round-raised slices k key = ap (λ (x : List ℕ). add_round_key x key) (bare-inv_sub_bytes slices k)
 

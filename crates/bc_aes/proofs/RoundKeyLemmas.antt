@@ -11,7 +11,7 @@ use borrow.Author.Count.{below_more}
 use Rattle.bc_aes.specs.State.{byte_of_bits}
 use Rattle.bc_aes.specs.KeyExpansion.{round_key}
 use Rattle.bc_aes.specs.SlicedRounds.{key_in_slices}
-use Rattle.bc_aes.specs.Slices.{slices_of, byte_of, vector_of, block_of}
+use Rattle.bc_aes.specs.Slices.{slices_of, byte_of, vector_of, sliced_block}
 use Rattle.bc_aes.specs.declared.slices.Slices.{Slices}
 use Rattle.bc_aes.proofs.SliceLemmas.{byte_of_bits-lt, bit_at-byte_of_bits}
 
@@ -81,11 +81,11 @@ vector_of-spread q block long fits h0 h1 h2 h3 h4 h5 h6 h7 k lt =
 -- the first n of them are round keys
 abbrev pub FirstAreRoundKeys : List ℕ → List Slices → ℕ → Type 0
 FirstAreRoundKeys schedule keys n =
-    (round : ℕ) → round < n → (k : ℕ) (d : Slices) → k < 8 → block_of (slices_of (slice_index_or keys round d)) k ≡ key_in_slices round (round_key schedule round)
+    (round : ℕ) → round < n → (k : ℕ) (d : Slices) → k < 8 → sliced_block (slices_of (slice_index_or keys round d)) k ≡ key_in_slices round (round_key schedule round)
 
 pub round_keys-more : (schedule : List ℕ) (keys : List Slices) (n : ℕ) (key : Slices) → n < length keys → FirstAreRoundKeys schedule keys n
-    → ((k : ℕ) → k < 8 → block_of (slices_of key) k ≡ key_in_slices n (round_key schedule n)) → FirstAreRoundKeys schedule (set keys n key) (n + 1)
+    → ((k : ℕ) → k < 8 → sliced_block (slices_of key) k ≡ key_in_slices n (round_key schedule n)) → FirstAreRoundKeys schedule (set keys n key) (n + 1)
 round_keys-more schedule keys n key h first next =
-    below_more (λ round. (k : ℕ) (d : Slices) → k < 8 → block_of (slices_of (slice_index_or (set keys n key) round d)) k ≡ key_in_slices round (round_key schedule round)) n
-    (λ round lt k d below. ap (λ (q : Slices). block_of (slices_of q) k) (get_or-set_other keys n round key d (omega arith)) ∙ first round lt k d below)
-    (λ k d below. ap (λ (q : Slices). block_of (slices_of q) k) (get_or-set_same keys n key d h) ∙ next k below)
+    below_more (λ round. (k : ℕ) (d : Slices) → k < 8 → sliced_block (slices_of (slice_index_or (set keys n key) round d)) k ≡ key_in_slices round (round_key schedule round)) n
+    (λ round lt k d below. ap (λ (q : Slices). sliced_block (slices_of q) k) (get_or-set_other keys n round key d (omega arith)) ∙ first round lt k d below)
+    (λ k d below. ap (λ (q : Slices). sliced_block (slices_of q) k) (get_or-set_same keys n key d h) ∙ next k below)

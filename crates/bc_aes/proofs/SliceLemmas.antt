@@ -10,7 +10,7 @@ use Rattle.std.proofs.lemmas.Nat.{xor_lt}
 use Rattle.std.proofs.lemmas.Simd.{get_or-zip2}
 use Rattle.bc_aes.specs.Field.{times_x, product_by, product}
 use Rattle.bc_aes.specs.State.{at, byte_of_bits, shift_rows, inv_shift_rows, add_round_key}
-use Rattle.bc_aes.specs.Slices.{slices_of, byte_of, block_of}
+use Rattle.bc_aes.specs.Slices.{slices_of, byte_of, sliced_block}
 use Rattle.bc_aes.specs.declared.slices.Slices.{Slices}
 use Rattle.bc_aes.specs.SlicedRounds.{turned, doubled}
 use Rattle.bc_aes.proofs.ByteLemmas.{Small, small_map}
@@ -60,22 +60,22 @@ abbrev moved : List ℕ → List (List ℕ) → List (List ℕ)
 moved places slices = map (λ s. pick_l 0 s places) slices
 
 pub block_of-shifted : (q : Slices) (k : ℕ)
-    → block_of (moved (0 ∷ 1 ∷ 2 ∷ 3 ∷ 5 ∷ 6 ∷ 7 ∷ 4 ∷ 10 ∷ 11 ∷ 8 ∷ 9 ∷ 15 ∷ 12 ∷ 13 ∷ 14 ∷ []) (slices_of q)) k ≡ shift_rows (block_of (slices_of q) k)
+    → sliced_block (moved (0 ∷ 1 ∷ 2 ∷ 3 ∷ 5 ∷ 6 ∷ 7 ∷ 4 ∷ 10 ∷ 11 ∷ 8 ∷ 9 ∷ 15 ∷ 12 ∷ 13 ∷ 14 ∷ []) (slices_of q)) k ≡ shift_rows (sliced_block (slices_of q) k)
 unfolding shift_rows
 block_of-shifted q k = refl
 
 pub block_of-unshifted : (q : Slices) (k : ℕ)
-    → block_of (moved (0 ∷ 1 ∷ 2 ∷ 3 ∷ 7 ∷ 4 ∷ 5 ∷ 6 ∷ 10 ∷ 11 ∷ 8 ∷ 9 ∷ 13 ∷ 14 ∷ 15 ∷ 12 ∷ []) (slices_of q)) k ≡ inv_shift_rows (block_of (slices_of q) k)
+    → sliced_block (moved (0 ∷ 1 ∷ 2 ∷ 3 ∷ 7 ∷ 4 ∷ 5 ∷ 6 ∷ 10 ∷ 11 ∷ 8 ∷ 9 ∷ 13 ∷ 14 ∷ 15 ∷ 12 ∷ []) (slices_of q)) k ≡ inv_shift_rows (sliced_block (slices_of q) k)
 unfolding inv_shift_rows
 block_of-unshifted q k = refl
 
 pub block_of-turned : (q : Slices) (k : ℕ)
-    → block_of (moved (4 ∷ 5 ∷ 6 ∷ 7 ∷ 8 ∷ 9 ∷ 10 ∷ 11 ∷ 12 ∷ 13 ∷ 14 ∷ 15 ∷ 0 ∷ 1 ∷ 2 ∷ 3 ∷ []) (slices_of q)) k ≡ turned 1 (block_of (slices_of q) k)
+    → sliced_block (moved (4 ∷ 5 ∷ 6 ∷ 7 ∷ 8 ∷ 9 ∷ 10 ∷ 11 ∷ 12 ∷ 13 ∷ 14 ∷ 15 ∷ 0 ∷ 1 ∷ 2 ∷ 3 ∷ []) (slices_of q)) k ≡ turned 1 (sliced_block (slices_of q) k)
 unfolding turned
 block_of-turned q k = refl
 
 pub block_of-turned_twice : (q : Slices) (k : ℕ)
-    → block_of (moved (8 ∷ 9 ∷ 10 ∷ 11 ∷ 12 ∷ 13 ∷ 14 ∷ 15 ∷ 0 ∷ 1 ∷ 2 ∷ 3 ∷ 4 ∷ 5 ∷ 6 ∷ 7 ∷ []) (slices_of q)) k ≡ turned 2 (block_of (slices_of q) k)
+    → sliced_block (moved (8 ∷ 9 ∷ 10 ∷ 11 ∷ 12 ∷ 13 ∷ 14 ∷ 15 ∷ 0 ∷ 1 ∷ 2 ∷ 3 ∷ 4 ∷ 5 ∷ 6 ∷ 7 ∷ []) (slices_of q)) k ≡ turned 2 (sliced_block (slices_of q) k)
 unfolding turned
 block_of-turned_twice q k = refl
 
@@ -102,19 +102,19 @@ byte_of-sum xs ys k p e hx hy h =
 abbrev pub place : ℕ → ℕ
 place i = 4 * (i % 4) + i / 4
 
-index_block : (xs : List (List ℕ)) (k i : ℕ) → i < 16 → slice_index (block_of xs k) i ≡ byte_of xs k (place i)
+index_block : (xs : List (List ℕ)) (k i : ℕ) → i < 16 → slice_index (sliced_block xs k) i ≡ byte_of xs k (place i)
 index_block xs k i h = get_or-map-range_with_len (λ i. byte_of xs k (place i)) 0 16 i i 0 h (omega arith)
 
 pub block_of-sum : (xs ys : List (List ℕ)) (k : ℕ) → length xs ≡ length ys → Each1 (λ x. length x ≡ 16) xs → Each1 (λ y. length y ≡ 16) ys
-    → block_of (zip2 (zip2 bit_xor) xs ys) k ≡ add_round_key (block_of xs k) (block_of ys k)
+    → sliced_block (zip2 (zip2 bit_xor) xs ys) k ≡ add_round_key (sliced_block xs k) (sliced_block ys k)
 unfolding add_round_key
 block_of-sum xs ys k e hx hy =
-    same_below (λ i. byte_of (zip2 (zip2 bit_xor) xs ys) k (place i)) (λ i. bit_xor (at (block_of xs k) (i % 4) (i / 4)) (at (block_of ys k) (i % 4) (i / 4))) 16
+    same_below (λ i. byte_of (zip2 (zip2 bit_xor) xs ys) k (place i)) (λ i. bit_xor (at (sliced_block xs k) (i % 4) (i / 4)) (at (sliced_block ys k) (i % 4) (i / 4))) 16
     (λ i h. let here : i ≡ i % 4 + 4 * (i / 4) = omega arith in
     byte_of-sum xs ys k (place i) e hx hy (omega arith)
     ∙ ap₂ (λ (x y : ℕ). bit_xor x y)
-    (sym (index_block xs k i h) ∙ ap (λ (n : ℕ). slice_index (block_of xs k) n) here)
-    (sym (index_block ys k i h) ∙ ap (λ (n : ℕ). slice_index (block_of ys k) n) here))
+    (sym (index_block xs k i h) ∙ ap (λ (n : ℕ). slice_index (sliced_block xs k) n) here)
+    (sym (index_block ys k i h) ∙ ap (λ (n : ℕ). slice_index (sliced_block ys k) n) here))
 
 -- ---- doubling
 
@@ -149,8 +149,8 @@ byte_of_bits-doubled bit below =
     ∙ ap (λ (bits : List ℕ). byte_of_bits (slice_index bits)) (doubled_bits-same (bit_at (byte_of_bits bit)) bit (bit_at-byte_of_bits bit below)))
 
 pub block_of-doubled : (q : Slices) (k : ℕ) → Each1 (λ x. length x ≡ 16) (slices_of q)
-    → block_of (q.s7 ∷ zip2 bit_xor q.s0 q.s7 ∷ q.s1 ∷ zip2 bit_xor q.s2 q.s7 ∷ zip2 bit_xor q.s3 q.s7 ∷ q.s4 ∷ q.s5 ∷ q.s6 ∷ []) k
-    ≡ doubled (block_of (slices_of q) k)
+    → sliced_block (q.s7 ∷ zip2 bit_xor q.s0 q.s7 ∷ q.s1 ∷ zip2 bit_xor q.s2 q.s7 ∷ zip2 bit_xor q.s3 q.s7 ∷ q.s4 ∷ q.s5 ∷ q.s6 ∷ []) k
+    ≡ doubled (sliced_block (slices_of q) k)
 unfolding doubled
 block_of-doubled q k long =
     let new : List (List ℕ) = q.s7 ∷ zip2 bit_xor q.s0 q.s7 ∷ q.s1 ∷ zip2 bit_xor q.s2 q.s7 ∷ zip2 bit_xor q.s3 q.s7 ∷ q.s4 ∷ q.s5 ∷ q.s6 ∷ [] in
@@ -171,7 +171,7 @@ block_of-doubled q k long =
 
 -- ---- blocks
 
-pub small-block_of : (slices : List (List ℕ)) (k : ℕ) → Small (block_of slices k)
+pub small-block_of : (slices : List (List ℕ)) (k : ℕ) → Small (sliced_block slices k)
 small-block_of slices k =
     small_map (λ i. byte_of slices k (place i)) (range_with_len 0 16)
     (λ i. byte_of_bits-lt (λ j. bit_at (slice_index (slice_index_or slices j []) (place i)) k) (λ j. bit_at-lt (slice_index (slice_index_or slices j []) (place i)) k))

@@ -9,7 +9,7 @@ use Rattle.std.specs.Int.{bit_at}
 use Rattle.bc_aes.specs.State.{byte_of_bits}
 use Rattle.bc_aes.specs.Blocks.{block}
 use Rattle.bc_aes.specs.declared.slices.Slices.{Slices}
-use Rattle.bc_aes.specs.Slices.{slices_of, byte_of, vector_of, by_rows, block_of, AreBytes, bits_at, lower_bits, upper_bits, Exchanged}
+use Rattle.bc_aes.specs.Slices.{slices_of, byte_of, vector_of, by_rows, sliced_block, AreBytes, bits_at, lower_bits, upper_bits, Exchanged}
 use Rattle.bc_aes.proofs.BlockLemmas.{kept}
 use Rattle.bc_aes.proofs.CircuitLemmas.{Long, bit_of, byte_from}
 use Rattle.bc_aes.proofs.UndoLemmas.{state_of-at}
@@ -98,7 +98,7 @@ blocks-transposed old new rows bytes k lt =
 -- ---- rows
 
 -- the block of a vector
-pub block_of-vector : (slices : List (List ℕ)) (k : ℕ) → block_of slices k ≡ by_rows (vector_of slices k)
+pub block_of-vector : (slices : List (List ℕ)) (k : ℕ) → sliced_block slices k ≡ by_rows (vector_of slices k)
 block_of-vector slices k = refl
 
 -- and twice is not at all

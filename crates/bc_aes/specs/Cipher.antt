@@ -1,5 +1,5 @@
--- The block cipher AES: FIPS 197, sections 5.1 and 5.3. The key has nk words of 4 bytes: nk is 4 for AES-128 and 8
--- for AES-256. Keys and blocks are lists of bytes; a block is 16 bytes.
+-- The block cipher AES: FIPS 197, sections 5.1 and 5.3. The key has nk words of 4 bytes: nk is 4
+-- for AES-128 and 8 for AES-256. Keys and blocks are lists of bytes; a block is 16 bytes.
 use Rattle.std.specs.Prelude.{ℕ, zero, suc, ◌-◌, List}
 use Rattle.bc_aes.specs.State.{sub_bytes, inv_sub_bytes, shift_rows, inv_shift_rows, mix_columns, inv_mix_columns, add_round_key}
 use Rattle.bc_aes.specs.KeyExpansion.{rounds, key_expansion, round_key}

@@ -1,5 +1,5 @@
--- Private: the contracts of private functions alone speak of these. The state and the schedule as words of 32 bits, one for
--- each column, with row 0 in the lowest byte.
+-- Private: the contracts of private functions alone speak of these. The state and the schedule as
+-- words of 32 bits, one for each column, with row 0 in the lowest byte.
 use Rattle.std.specs.Prelude.{◌≡◌, ℕ, ◌+◌, ◌-◌, ◌/◌, ◌<◌, ◌≤◌, List, [], ◌∷◌, ◌++◌, length, slice_index}
 use Rattle.std.specs.List.{flat_map}
 use Rattle.std.specs.Int.{w32, to_le_bytes, from_le_bytes}
@@ -49,7 +49,8 @@ abbrev pub unmixed_column : List ℕ → List ℕ
 unmixed_column bytes =
     mixed_column inv_mixing_row (slice_index bytes 0) (slice_index bytes 1) (slice_index bytes 2) (slice_index bytes 3)
 
--- the words of a schedule for decipherment: between the first and the last four, each column is unmixed
+-- the words of a schedule for decipherment: between the first and the last four, each column is
+-- unmixed
 pub record IsUnmixed (words unmixed : List ℕ) : Type 0 where
   pub same_length : length unmixed ≡ length words
   pub between : (i : ℕ) → 4 ≤ i → i + 4 < length words

@@ -1,5 +1,6 @@
--- The field GF(2^8) of FIPS 197, section 4: a byte is the polynomial of its bits, sums are exclusive-or,
--- and products are taken modulo x^8 + x^4 + x^3 + x + 1. A byte is a number below 256.
+-- The field GF(2^8) of FIPS 197, section 4: a byte is the polynomial of its bits, sums are
+-- exclusive-or, and products are taken modulo x^8 + x^4 + x^3 + x + 1. A byte is a number below
+-- 256.
 use Rattle.std.specs.Prelude.{ℕ, zero, suc, ◌*◌, ◌/◌, ◌%◌, ◌==◌, nat_lt, if◌then◌else◌, bit_xor, find, unwrap_or}
 use Rattle.std.specs.List.{range_with_len}
 
@@ -7,7 +8,8 @@ use Rattle.std.specs.List.{range_with_len}
 unfoldable pub times_x : ℕ → ℕ
 times_x a = if nat_lt a 128 then 2 * a else bit_xor (2 * a) 0x11B
 
--- the product of a with the n lowest terms of b: a where b has the term 1, and (a times x) times (b divided by x)
+-- the product of a with the n lowest terms of b: a where b has the term 1, and (a times x) times (b
+-- divided by x)
 unfoldable pub product_by : ℕ → ℕ → ℕ → ℕ
 product_by zero a b = 0
 product_by (suc n) a b = bit_xor (if b % 2 == 1 then a else 0) (product_by n (times_x a) (b / 2))

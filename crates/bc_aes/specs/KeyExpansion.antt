@@ -1,5 +1,6 @@
--- Key expansion of AES: FIPS 197, section 5.2. A key of nk words of 4 bytes (4 for AES-128, 8 for AES-256) becomes
--- a schedule of 4 (nr + 1) words, one round key of four words for each of the rounds 0 to nr.
+-- Key expansion of AES: FIPS 197, section 5.2. A key of nk words of 4 bytes (4 for AES-128, 8 for
+-- AES-256) becomes a schedule of 4 (nr + 1) words, one round key of four words for each of the
+-- rounds 0 to nr.
 use Rattle.std.specs.Prelude.{ℕ, zero, suc, ◌+◌, ◌-◌, ◌*◌, ◌/◌, ◌%◌, ◌==◌, ◌&&◌, if◌then◌else◌, List, [], ◌∷◌, ◌++◌, map, slice_index, slice_range, bit_xor}
 use Rattle.bc_aes.specs.Field.{times_x}
 use Rattle.bc_aes.specs.State.{sub_byte}
@@ -42,7 +43,7 @@ added_word nk i w =
     then xor_word (sub_word (rot_word w)) (rcon (i / nk))
     else (if nk == 8 && i % 8 == 4 then sub_word w else w)
 
--- a schedule's first i words, with word i behind them
+-- a schedule's first i words, with word i after them
 unfoldable pub with_word : ℕ → ℕ → List ℕ → List ℕ
 with_word nk i schedule = schedule ++ xor_word (word schedule (i - nk)) (added_word nk i (word schedule (i - 1)))
 

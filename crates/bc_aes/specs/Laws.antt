@@ -1,4 +1,5 @@
--- The laws of the block cipher AES, for keys and blocks of bytes and every number of words in a key.
+-- The laws of the block cipher AES, for keys and blocks of bytes and every number of words in a
+-- key.
 use Rattle.std.specs.Prelude.{◌≡◌, ℕ, ◌*◌, ◌<◌, List, length, All}
 use Rattle.bc_aes.specs.Cipher.{encipher, decipher}
 

@@ -1,5 +1,5 @@
--- Private: the contracts of private functions alone speak of these. Eight blocks of 16 bytes in bit slices, row after row: bit
--- k of byte 4r + c of slice j is bit j of row r, column c of block k.
+-- Private: the contracts of private functions alone speak of these. Eight blocks of 16 bytes in bit
+-- slices, row after row: bit k of byte 4r + c of slice j is bit j of row r, column c of block k.
 use Rattle.std.specs.Prelude.{◌≡◌, ℕ, ◌+◌, ◌-◌, ◌*◌, ◌/◌, ◌%◌, ◌==◌, ◌<◌, if◌then◌else◌, List, [], ◌∷◌, map, slice_index, slice_index_or}
 use Rattle.std.specs.List.{range_with_len}
 use Rattle.std.specs.Int.{bit_at}
@@ -23,12 +23,12 @@ abbrev pub by_rows : List ℕ → List ℕ
 by_rows bytes = state_of (λ r c. slice_index bytes (4 * r + c))
 
 -- block k
-abbrev pub block_of : List (List ℕ) → ℕ → List ℕ
-block_of slices k = state_of (λ r c. byte_of slices k (4 * r + c))
+abbrev pub sliced_block : List (List ℕ) → ℕ → List ℕ
+sliced_block slices k = state_of (λ r c. byte_of slices k (4 * r + c))
 
 -- each block of the new slices is `f` of that block of the old ones
 pub record EachSlicedBlock (f : List ℕ → List ℕ) (old new : List (List ℕ)) : Type 0 where
-  pub each : (k : ℕ) → k < 8 → block_of new k ≡ f (block_of old k)
+  pub each : (k : ℕ) → k < 8 → sliced_block new k ≡ f (sliced_block old k)
 
 -- the 16 numbers of a slice are bytes
 abbrev pub AreBytes : List ℕ → Type 0
@@ -46,7 +46,8 @@ lower_bits n a b = map (λ i. if i / n % 2 == 0 then slice_index a i else slice_
 abbrev pub upper_bits : ℕ → List ℕ → List ℕ → List ℕ
 upper_bits n a b = map (λ i. if i / n % 2 == 0 then slice_index a (i + n) else slice_index b i) (range_with_len 0 8)
 
--- c and d are slices a and b, once each byte of a has given its bits where i / n is odd for those of b n places lower
+-- c and d are slices a and b, once each byte of a has given its bits where i / n is odd for those
+-- of b n places lower
 pub record Exchanged (n : ℕ) (a b c d : List ℕ) : Type 0 where
   pub lower : (p : ℕ) → p < 16 → bits_at p c ≡ lower_bits n (bits_at p a) (bits_at p b)
   pub upper : (p : ℕ) → p < 16 → bits_at p d ≡ upper_bits n (bits_at p a) (bits_at p b)

@@ -1,5 +1,5 @@
--- The transformations of the state of AES: FIPS 197, sections 5.1 and 5.3. The state has 16 bytes; byte r + 4c is
--- row r, column c.
+-- The transformations of the state of AES: FIPS 197, sections 5.1 and 5.3. The state has 16 bytes;
+-- byte r + 4c is row r, column c.
 use Rattle.std.specs.Prelude.{ℕ, ◌+◌, ◌-◌, ◌*◌, ◌/◌, ◌%◌, ◌^◌, List, [], ◌∷◌, map, sum, slice_index, bit_xor}
 use Rattle.std.specs.List.{range_with_len}
 use Rattle.std.specs.Int.{bit_at}
@@ -17,7 +17,8 @@ state_of byte = map (λ i. byte (i % 4) (i / 4)) (range_with_len 0 16)
 abbrev pub byte_of_bits : (ℕ → ℕ) → ℕ
 byte_of_bits bit = sum (map (λ i. bit i * 2 ^ i) (range_with_len 0 8))
 
--- bit i becomes b_i + b_(i+4) + b_(i+5) + b_(i+6) + b_(i+7) + c_i, places modulo 8, with c the bits of 0x63 (5.1.1)
+-- bit i becomes b_i + b_(i+4) + b_(i+5) + b_(i+6) + b_(i+7) + c_i, places modulo 8, with c the bits
+-- of 0x63 (5.1.1)
 unfoldable pub affine : ℕ → ℕ
 affine b = byte_of_bits (λ i.
     (bit_at b i + bit_at b ((i + 4) % 8) + bit_at b ((i + 5) % 8) + bit_at b ((i + 6) % 8) + bit_at b ((i + 7) % 8)
@@ -52,7 +53,8 @@ shift_rows state = state_of (λ r c. at state r ((c + r) % 4))
 unfoldable pub inv_shift_rows : List ℕ → List ℕ
 inv_shift_rows state = state_of (λ r c. at state r ((c + 4 - r) % 4))
 
--- row r, column c of the circulant matrix with this first row: each row is the one above, moved right by one
+-- row r, column c of the circulant matrix with this first row: each row is the one above, moved
+-- right by one
 abbrev pub circulant : List ℕ → ℕ → ℕ → ℕ
 circulant first_row r c = slice_index first_row ((c + 4 - r) % 4)
 

@@ -11,7 +11,8 @@ use crate::schedule::{expand, unmix};
 use crate::slices::Slices;
 use std::marker::Model;
 
-/// AES-128 under one key (FIPS 197), expanded for both directions. A contract sees the key, 16 bytes.
+/// AES-128 under one key (FIPS 197), expanded for both directions. A contract sees the key, 16
+/// bytes.
 #[derive(Drop)]
 pub struct Aes128 {
     schedule: [u32; 44],

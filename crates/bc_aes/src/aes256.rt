@@ -11,7 +11,8 @@ use crate::schedule::{expand, unmix};
 use crate::slices::Slices;
 use std::marker::Model;
 
-/// AES-256 under one key (FIPS 197), expanded for both directions. A contract sees the key, 32 bytes.
+/// AES-256 under one key (FIPS 197), expanded for both directions. A contract sees the key, 32
+/// bytes.
 #[derive(Drop)]
 pub struct Aes256 {
     schedule: [u32; 60],

@@ -7,8 +7,8 @@ use crate::rounds::encrypt;
 use crate::schedule::expand;
 use std::marker::Model;
 
-/// AES-256 under one key (FIPS 197), expanded to encipher single blocks: a tenth of what [`Aes256`](crate::Aes256) keeps.
-/// A contract sees the key, 32 bytes.
+/// AES-256 under one key (FIPS 197), expanded to encipher single blocks: a tenth of what
+/// [`Aes256`](crate::Aes256) keeps. A contract sees the key, 32 bytes.
 #[derive(Drop)]
 pub struct Aes256Enc {
     schedule: [u32; 60],

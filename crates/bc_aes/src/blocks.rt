@@ -1,4 +1,5 @@
-//! Texts of whole blocks, under an expanded key: eight blocks at a time as far as they go, and the rest one by one.
+//! Texts of whole blocks, under an expanded key: eight blocks at a time as far as they go, and the
+//! rest one by one.
 
 ghost use Rattle.std.specs.Prelude.{◌≡◌, ◌+◌, ◌*◌, ◌%◌, ◌≤◌, List, ℕ, length, take, drop, slice_range};
 ghost use Rattle.bc_aes.specs.Blocks.{EachBlock};
@@ -31,7 +32,8 @@ pub(crate) fn put_bytes(text: &mut [u8], at: usize, bytes: &[u8])
     text[at..at + bytes.len()].copy_from_slice(bytes);
 }
 
-// Takes each piece of so many bytes out of a text of whole pieces, does a step with it, and puts it back.
+// Takes each piece of so many bytes out of a text of whole pieces, does a step with it, and puts it
+// back.
 macro_rules! each_piece {
     ($text:ident, $size:literal, $piece:ident => $step:expr) => {
         for i in 0..$text.len() / $size {
@@ -54,7 +56,7 @@ fn encrypt_singly(schedule: &[u32], text: &mut [u8])
 
 /// Enciphers each block in place, eight by eight.
 #[inline(always)]
-fn encrypt_pieces(keys: &[Slices], text: &mut [u8])
+pub(crate) fn encrypt_pieces(keys: &[Slices], text: &mut [u8])
     requires long { 2 ≤ length keys.now }
     requires whole_pieces { length text.old % 128 ≡ 0 }
     ensures enciphers { (schedule : List ℕ) → AreRoundKeys schedule keys.now →
@@ -90,7 +92,7 @@ fn decrypt_singly(schedule: &[u32], unmixed_schedule: &[u32], raw: &mut [u8])
 
 /// Deciphers each block in place, eight by eight.
 #[inline(always)]
-fn decrypt_pieces(keys: &[Slices], raw: &mut [u8])
+pub(crate) fn decrypt_pieces(keys: &[Slices], raw: &mut [u8])
     requires long { 2 ≤ length keys.now }
     requires whole_pieces { length raw.old % 128 ≡ 0 }
     ensures deciphers { (schedule : List ℕ) → AreRoundKeys schedule keys.now →

@@ -1,5 +1,5 @@
-//! The S-box and its inverse on bit slices, by circuits of exclusive-ors and ands: no table, and so no place in memory
-//! that a key or a text chooses.
+//! The S-box and its inverse on bit slices, by circuits of exclusive-ors and ands: no table, and so
+//! no place in memory that a key or a text chooses.
 
 ghost use Rattle.std.specs.Prelude.{◌≡◌};
 ghost use Rattle.bc_aes.specs.Slices.{slices_of, EachSlicedBlock};
@@ -9,8 +9,8 @@ ghost use Rattle.bc_aes.specs.Circuit.{slice_logic, results_of, sub_byte_circuit
 use crate::slices::Slices;
 use std::simd::prelude::*;
 
-// The gates that both circuits share: the inverse of a byte, from the sums of its bits that the first gates make, to the
-// products of which the last gates are sums.
+// The gates that both circuits share: the inverse of a byte, from the sums of its bits that the
+// first gates make, to the products of which the last gates are sums.
 macro_rules! products {
     ([
             $x:ident $y1:ident $y2:ident $y3:ident $y4:ident $y5:ident $y6:ident $y7:ident $y8:ident

@@ -10,7 +10,8 @@ use crate::circuit::{inv_sub_bytes, sub_bytes};
 use crate::layers::{add, inv_mix_columns, inv_shift_rows, mix_columns, shift_rows};
 use crate::slices::{Slices, from_blocks, to_blocks};
 
-/// SubBytes, ShiftRows, MixColumns and AddRoundKey. Bytes are moved before they go through the S-box, which is the same.
+/// SubBytes, ShiftRows, MixColumns and AddRoundKey. Bytes are moved before they go through the
+/// S-box, which is the same.
 #[inline(always)]
 fn round(q: Slices, key: Slices) -> Slices
     ensures goes_on { EachSlicedByKey raised_round (slices_of q) (slices_of key) (slices_of result) }

@@ -2,8 +2,8 @@
 
 ghost use Rattle.bc_aes.specs.Laws.{DeciphermentUndoes, EnciphermentUndoes, EnciphermentMakesBlocks, DeciphermentMakesBlocks};
 
-/// Does nothing, and states the laws of the block cipher: either direction undoes the other, and makes a block of 16
-/// bytes of a block of 16 bytes. A caller's proof cites them from this call.
+/// Does nothing, and states the laws of the block cipher: either direction undoes the other, and
+/// makes a block of 16 bytes of a block of 16 bytes. A caller's proof cites them from this call.
 #[inline]
 pub fn cipher_laws()
     ensures decipherment_undoes { DeciphermentUndoes }

@@ -95,7 +95,8 @@ fn turned_twice(q: Slices) -> Slices
     each_slice!(q, columns_turned_twice)
 }
 
-/// Each byte multiplied by x: the bits move up by one, and the highest comes back where the reduction has a term.
+/// Each byte multiplied by x: the bits move up by one, and the highest comes back where the
+/// reduction has a term.
 #[inline(always)]
 fn doubled(q: Slices) -> Slices
     ensures doubles { EachSlicedBlock doubled (slices_of q) (slices_of result) }
@@ -129,8 +130,8 @@ pub(crate) fn add(q: Slices, key: Slices) -> Slices
     }
 }
 
-/// MixColumns of each block (FIPS 197, 5.1.3). With t the sum of a row and the next, the new row is 2t plus the next row
-/// plus the t of two rows further.
+/// MixColumns of each block (FIPS 197, 5.1.3). With t the sum of a row and the next, the new row is
+/// 2t plus the next row plus the t of two rows further.
 #[inline(always)]
 pub(crate) fn mix_columns(q: Slices) -> Slices
     ensures mixes { EachSlicedBlock mix_columns (slices_of q) (slices_of result) }
@@ -140,8 +141,8 @@ pub(crate) fn mix_columns(q: Slices) -> Slices
     add(add(doubled(sums), next), turned_twice(sums))
 }
 
-/// InvMixColumns of each block (FIPS 197, 5.3.3), as MixColumns of each row plus 4 times the sum of it and the row after
-/// the next.
+/// InvMixColumns of each block (FIPS 197, 5.3.3), as MixColumns of each row plus 4 times the sum of
+/// it and the row after the next.
 #[inline(always)]
 pub(crate) fn inv_mix_columns(q: Slices) -> Slices
     ensures unmixes { EachSlicedBlock inv_mix_columns (slices_of q) (slices_of result) }

@@ -1,5 +1,6 @@
-//! The plain program: the key expansion and the cipher byte by byte, by the arithmetic of the definitions. It is slow, shares
-//! no round, table or schedule with the fast program, and stands here to be read and compared with.
+//! The plain program: the key expansion and the cipher byte by byte, by the arithmetic of the
+//! definitions. It is slow, shares no round, table or schedule with the fast program, and stands
+//! here to be read and compared with.
 
 ghost use Rattle.std.specs.Prelude.{◌≡◌, ◌+◌, ◌-◌, ◌*◌, ◌/◌, ◌%◌, ◌<◌, ◌≤◌, ◌⊎◌, ◌==◌};
 ghost use Rattle.std.specs.Prelude.{if◌then◌else◌, length, slice_index};

@@ -1,5 +1,5 @@
-//! Round keys in bit slices, each of them in all eight blocks: a byte of a slice is all ones or zeros. The constant of the
-//! S-box is added to each but the first.
+//! Round keys in bit slices, each of them in all eight blocks: a byte of a slice is all ones or
+//! zeros. The constant of the S-box is added to each but the first.
 
 ghost use Rattle.std.specs.Prelude.{◌≡◌, ℕ, ◌+◌, ◌*◌, ◌<◌, ◌≤◌, length, slice_index};
 ghost use Rattle.std.specs.Int.{bit_at};

@@ -96,7 +96,8 @@ pub(crate) fn encrypt(schedule: &[u32], block: &mut [u8; 16])
     *block = store(last_round(state, key_of_round(schedule, schedule.len() / 4 - 1)));
 }
 
-/// A round of the equivalent inverse cipher: InvSubBytes, InvShiftRows, InvMixColumns and AddRoundKey (FIPS 197, 5.3.5).
+/// A round of the equivalent inverse cipher: InvSubBytes, InvShiftRows, InvMixColumns and
+/// AddRoundKey (FIPS 197, 5.3.5).
 #[inline(always)]
 fn equivalent_inv_round(state: [u32; 4], key: [u32; 4]) -> [u32; 4]
     ensures goes_on { state_bytes result ≡
@@ -114,7 +115,8 @@ fn equivalent_inv_round(state: [u32; 4], key: [u32; 4]) -> [u32; 4]
     )
 }
 
-/// The last round of either inverse cipher: InvSubBytes, InvShiftRows and AddRoundKey (FIPS 197, 5.3).
+/// The last round of either inverse cipher: InvSubBytes, InvShiftRows and AddRoundKey (FIPS 197,
+/// 5.3).
 #[inline(always)]
 fn inv_last_round(state: [u32; 4], key: [u32; 4]) -> [u32; 4]
     ensures ends { state_bytes result ≡ cipher.inv_last_round (state_bytes state) (state_bytes key) }
@@ -149,7 +151,8 @@ fn unmixing_rounds(schedule: &[u32], unmixed_schedule: &[u32], block: &[u8; 16])
     state
 }
 
-/// Deciphers a block in place under an expanded key of four words a round and the schedule unmixed (FIPS 197, 5.3.5).
+/// Deciphers a block in place under an expanded key of four words a round and the schedule unmixed
+/// (FIPS 197, 5.3.5).
 #[inline(always)]
 pub(crate) fn decrypt(schedule: &[u32], unmixed_schedule: &[u32], block: &mut [u8; 16])
     requires long { 8 ≤ length schedule.now }

@@ -1,9 +1,10 @@
-//! Eight blocks in bit slices, row after row: bit k of byte 4r + c of slice j is bit j of row r, column c of block k. So one
-//! operation on a slice is that operation on one bit of each of 128 bytes, and rows move as words of 32 bits.
+//! Eight blocks in bit slices, row after row: bit k of byte 4r + c of slice j is bit j of row r,
+//! column c of block k. So one operation on a slice is that operation on one bit of each of 128
+//! bytes, and rows move as words of 32 bits.
 
 ghost use Rattle.std.specs.Prelude.{◌≡◌, ℕ, ◌*◌, ◌<◌, [], take, slice_index_or};
 ghost use Rattle.bc_aes.specs.Blocks.{block};
-ghost use Rattle.bc_aes.specs.Slices.{slices_of, vector_of, by_rows, block_of, AreBytes, Exchanged};
+ghost use Rattle.bc_aes.specs.Slices.{slices_of, vector_of, by_rows, sliced_block, AreBytes, Exchanged};
 
 use std::simd::prelude::*;
 
@@ -42,7 +43,8 @@ fn exchanged_2(a: u8x16, b: u8x16) -> (u8x16, u8x16)
     (a ^ (moved << 2), b ^ moved)
 }
 
-/// The slices with the upper half of each byte of the first and the lower half of each of the second exchanged.
+/// The slices with the upper half of each byte of the first and the lower half of each of the
+/// second exchanged.
 #[inline(always)]
 fn exchanged_4(a: u8x16, b: u8x16) -> (u8x16, u8x16)
     ensures exchanges { Exchanged 4 a b result.0 result.1 }
@@ -53,8 +55,8 @@ fn exchanged_4(a: u8x16, b: u8x16) -> (u8x16, u8x16)
     (a ^ (moved << 4), b ^ moved)
 }
 
-/// Eight blocks in slices from the blocks, and the blocks from the slices: the bits of each byte change places with the
-/// eight vectors.
+/// Eight blocks in slices from the blocks, and the blocks from the slices: the bits of each byte
+/// change places with the eight vectors.
 #[inline(always)]
 fn transposed(q: Slices) -> Slices
     ensures into_slices { (k : ℕ) → k < 8 → vector_of (slices_of result) k ≡ slice_index_or (slices_of q) k [] }
@@ -124,7 +126,7 @@ fn put_vector(piece: &mut [u8; 128], i: usize, vector: u8x16)
 /// Eight blocks, taken into slices.
 #[inline(always)]
 pub(crate) fn from_blocks(piece: &[u8; 128]) -> Slices
-    ensures takes { (k : ℕ) → k < 8 → block_of (slices_of result) k ≡ block piece.now k }
+    ensures takes { (k : ℕ) → k < 8 → sliced_block (slices_of result) k ≡ block piece.now k }
 {
     transposed(Slices {
         s0: vector_at(piece, 0),
@@ -141,7 +143,7 @@ pub(crate) fn from_blocks(piece: &[u8; 128]) -> Slices
 /// Writes the eight blocks that are in slices.
 #[inline(always)]
 pub(crate) fn to_blocks(q: Slices, piece: &mut [u8; 128])
-    ensures gives { (k : ℕ) → k < 8 → block piece.new k ≡ block_of (slices_of q) k }
+    ensures gives { (k : ℕ) → k < 8 → block piece.new k ≡ sliced_block (slices_of q) k }
 {
     let blocks = transposed(q);
     put_vector(piece, 0, by_rows(blocks.s0));

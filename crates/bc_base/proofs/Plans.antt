@@ -6,11 +6,11 @@ use Rattle.std.proofs.Math.Logic.{⊎_elim}
 use Rattle.std.proofs.lemmas.Bool.{cases_lt}
 use Rattle.std.proofs.lemmas.Bool.Decides.{nat_tests}
 use Rattle.std.proofs.lemmas.List.Elements.{Contains-append_left, Contains-push, Contains-push_cases}
-use Rattle.bc_base.specs.RamStores.{IsNext}
+use Rattle.bc_base.specs.RamStores.{PlansNext}
 
 -- with one number more
-pub IsNext-push : (plan : List ℕ) (n from : ℕ) (next : Option ℕ) → IsNext plan from next
-    → IsNext (plan ++ n ∷ []) from (if nat_le from n && option_map_or (λ m. nat_lt n m) next true then Some n else next)
+pub IsNext-push : (plan : List ℕ) (n from : ℕ) (next : Option ℕ) → PlansNext plan from next
+    → PlansNext (plan ++ n ∷ []) from (if nat_le from n && option_map_or (λ m. nat_lt n m) next true then Some n else next)
 IsNext-push plan n from None is =
     ⊎_elim
     (λ (below : n < from).
@@ -36,7 +36,7 @@ IsNext-push plan n from (Some next) is =
     (cases_lt n from)
 
 -- a number that isn't the next one isn't in the plan
-pub IsNext-none : (plan : List ℕ) (from : ℕ) (next : Option ℕ) → IsNext plan from next → (next ≡ Some from → ⊥) → Contains plan from → ⊥
+pub IsNext-none : (plan : List ℕ) (from : ℕ) (next : Option ℕ) → PlansNext plan from next → (next ≡ Some from → ⊥) → Contains plan from → ⊥
 IsNext-none plan from None is not has = let l = is from has in omega arith
 IsNext-none plan from (Some next) is not has =
     let above = is.1 in let below = is.2 from has (omega arith) in
@@ -44,7 +44,7 @@ IsNext-none plan from (Some next) is not has =
     not (ap (λ (n : ℕ). Some n) same)
 
 -- the next one stays when that number has gone by
-pub IsNext-later : (plan : List ℕ) (from later : ℕ) (next : Option ℕ) → IsNext plan from next → (next ≡ Some from → ⊥) → from ≤ later → later ≤ from + 1 → IsNext plan later next
+pub IsNext-later : (plan : List ℕ) (from later : ℕ) (next : Option ℕ) → PlansNext plan from next → (next ≡ Some from → ⊥) → from ≤ later → later ≤ from + 1 → PlansNext plan later next
 IsNext-later plan from later None is not le small = λ n has. let l = is n has in omega arith
 IsNext-later plan from later (Some next) is not le small =
     let above = is.1 in

@@ -3,16 +3,16 @@ use Rattle.std.proofs.Common.{◌≡◌, ℕ, zero, suc, ◌+◌, ◌-◌, ◌*�
 use Rattle.std.specs.Prelude.{◌==◌, ◌&&◌, nat_lt, nat_le, slice_range}
 use Rattle.std.proofs.Math.Logic.{⊎_elim}
 use Rattle.std.proofs.Math.Nat.{mul-le-mul_left}
-use Rattle.std.proofs.lemmas.Bool.{cases_lt, cases_Bool, eqb-true, ltb-true, eq-eqb}
+use Rattle.std.proofs.lemmas.Bool.{cases_lt, eqb-true, ltb-true}
 use Rattle.std.proofs.lemmas.Bool.Decides.{nat_tests}
 use Rattle.std.proofs.Math.Seq.{drop-append-add}
 use Rattle.std.proofs.lemmas.List.{drop-drop, drop-take, take-take, drop-append-le, take-append-le, take_all}
-use Rattle.bc_base.specs.Places.{block_of, shard_of}
+use Rattle.bc_base.specs.Layout.{block_of, shard_of}
 use Rattle.bc_base.specs.Sectors.{Sectors, image_sectors, bytes_at, with_bytes}
 use Rattle.bc_base.specs.Memory.{Calls}
 use Rattle.bc_base.specs.Stores.{IsPiece}
 use Rattle.bc_base.specs.Lists.{At, AllAt}
-use Rattle.bc_base.specs.RamStores.{RamData, owns, contents, sector_within, block_at, IsWhole, HasBlocksOf, IsShardOf, HaveAllSectors}
+use Rattle.bc_base.specs.RamStores.{RamData, owns, contents, sector_within, block_at, HasAllBlocks, HasBlocksOf, IsShardOf, HaveAllSectors, IsOneImage}
 use Rattle.bc_base.proofs.Lists.{at_one}
 use Rattle.bc_base.proofs.Image.{image_of-image_sectors}
 
@@ -151,7 +151,7 @@ holds_shard image store some count has s mine =
     ∙ same_sectors store.bytes image (sector_within store.shards s) s place (ap (block_at store.bytes) here ∙ has.same i (omega arith) ∙ ap (block_at image) (sym block))
 
 -- a piece of the shard lies within the bytes
-pub piece_within : (store : RamData) (first count : ℕ) → IsWhole store.bytes store.shard store.shards store.blocks → IsPiece (owns store) first count
+pub piece_within : (store : RamData) (first count : ℕ) → HasAllBlocks store.bytes store.shard store.shards store.blocks → IsPiece (owns store) first count
     → 512 * sector_within store.shards first + 512 * count ≤ length store.bytes
 piece_within store first count whole piece =
     let some : 0 < store.shards = let b = whole.below in omega arith in
@@ -253,6 +253,23 @@ joined_more stores image more blocks store is long at bytes = record {
       block_push_new image more b (let a = is.long in omega arith) long ∙ bytes ∙ ap₂ (λ (s : RamData) (n : ℕ). block_at s.bytes (n / s.shards)) one (sym now))
       (cases_lt b blocks);
 }
+
+-- the bytes of a single store that are an image are put together already
+joined_one : (store : RamData) (blocks : ℕ) → store.shards ≡ 1 → length store.bytes ≡ 4096 * blocks → IsJoined (store ∷ []) store.bytes blocks
+joined_one store blocks one long = record {
+  long = long;
+  same = λ b less x there.
+      let first : b % 1 ≡ 0 = omega arith in
+      let is : store ≡ x = at_one (store ∷ []) 0 store x refl (subst (λ (n : ℕ). At (store ∷ []) n x) first there) in
+      let place : b ≡ b / 1 = omega arith in
+      ap (block_at store.bytes) (place ∙ ap (λ (n : ℕ). b / n) (sym one)) ∙ ap (λ (s : RamData). block_at s.bytes (b / s.shards)) is;
+}
+
+pub joined_only : (stores : List RamData) (blocks : ℕ) (store : RamData) → IsOneImage stores blocks → At stores 0 store → IsJoined stores store.bytes blocks
+joined_only stores blocks store one at =
+    let same : one.0 ≡ store = at_one (one.0 ∷ []) 0 one.0 store refl (subst (λ (l : List RamData). At l 0 store) one.1 at) in
+    subst (λ (l : List RamData). IsJoined l store.bytes blocks) (sym one.1)
+    (subst (λ (x : RamData). IsJoined (one.0 ∷ []) x.bytes blocks) same (joined_one one.0 blocks one.2 one.3))
 
 -- a block whose first sector is the store's is one of its blocks
 pub owns_block : (store : RamData) (block : ℕ) → owns store (8 * block) ≡ true → (block % store.shards ≡ store.shard) × (block < store.blocks)

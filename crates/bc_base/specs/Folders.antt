@@ -1,4 +1,5 @@
--- What a folder has under each name, and what a call does to it, as far as the folder tells. A name is its bytes in UTF-8.
+-- What a folder has under each name, and what a call does to it, as far as the folder tells. A name is its bytes in
+-- UTF-8.
 use Rattle.std.specs.Prelude.{◌≡◌, ◌≢◌, ℕ, ◌<◌, List, [], ◌∷◌, length, slice_index_or, true, false, Option, Some, None, IfSome, IsSomeAnd, if◌then◌else◌}
 use Rattle.std.specs.Str.{bytes_eq}
 use Rattle.bc_base.specs.Memory.{Calls}
@@ -40,9 +41,9 @@ pub record FolderData : Type 0 where
   pub calls : Calls
 
 -- the bytes of the first file of this name
-abbrev pub bytes_of : List FileData → Files
-bytes_of [] name = None
-bytes_of (file ∷ files) name = if bytes_eq file.name name then Some file.bytes else bytes_of files name
+abbrev pub file_bytes : List FileData → Files
+file_bytes [] name = None
+file_bytes (file ∷ files) name = if bytes_eq file.name name then Some file.bytes else file_bytes files name
 
 -- the place of the first file of this name
 pub record IsPlaceOf (files : List FileData) (name : List ℕ) (place : ℕ) : Type 0 where

@@ -1,4 +1,4 @@
--- Stories: lists of entries that each name a caller, of which a caller has seen a front.
+-- Stories: lists of entries that each name a caller, of which a caller has seen a prefix.
 use Rattle.std.specs.Prelude.{◌≡◌, ℕ, ◌==◌, List, ◌++◌, filter}
 
 -- the entries of one caller
@@ -9,7 +9,7 @@ own by caller story = filter (λ entry. by entry == caller) story
 abbrev pub StartsWith : {E : Type 0} → List E → List E → Type 0
 StartsWith {E} story seen = (more : List E) × (story ≡ seen ++ more)
 
--- what was seen is a front of the story that has all of its caller's entries
+-- what was seen is a prefix of the story that has all of its caller's entries
 pub record IsFront {E : Type 0} (by : E → ℕ) (caller : ℕ) (seen story : List E) : Type 0 where
   pub begins : StartsWith story seen
   pub own_entries : own by caller story ≡ own by caller seen

@@ -2,9 +2,9 @@
 
 ghost use Rattle.std.specs.Prelude.{◌≡◌, ◌≢◌, ◌⊎◌, ◌↔◌, ℕ, ◌<◌, ◌≤◌, List, [], length, Some, None, MatchOption, IsSomeAnd, IfOk, IfErr, IsErrOf, OnOk, OnErr};
 ghost use Rattle.std.specs.Str.{bytes_eq};
-ghost use Rattle.bc_base.specs.Memory.{NextFails, called, failed};
+ghost use Rattle.bc_base.specs.Memory.{NextFails, calls_after_success, calls_after_fault};
 ghost use Rattle.bc_base.specs.Outside.{HasCause};
-ghost use Rattle.bc_base.specs.Folders.{bytes_of, IsPlaceOf};
+ghost use Rattle.bc_base.specs.Folders.{file_bytes, IsPlaceOf};
 
 use crate::calls::Calls;
 use crate::error::{GetError, PutError};
@@ -12,7 +12,7 @@ use crate::folder::Folder;
 use std::alloc::{AllocError, Global};
 use std::marker::Model;
 
-/// Keeps files in memory, and fails at the calls that it was told to.
+/// Keeps files in memory, and fails at the calls that it was made to fail.
 #[derive(Drop)]
 pub struct MemFolder {
     alloc: Global,
@@ -59,24 +59,24 @@ impl MemFolder {
 
 impl Folder for MemFolder {
     ghost use Rattle.std.specs.Prelude.{Some};
-    ghost use Rattle.bc_base.specs.Folders.{bytes_of};
+    ghost use Rattle.bc_base.specs.Folders.{file_bytes};
 
-    ghost files = { λ f. Some (bytes_of f.files) };
+    ghost files = { λ f. Some (file_bytes f.files) };
 
     ghost faults = { λ f. f.calls.faults };
 
     fn get(&mut self, alloc: Global, name: &str, limit: u64) -> Result<Vec<u8>, GetError>
-        ensures found { IfOk result (λ bytes. bytes_of self.old.files name.now ≡ Some bytes.items) }
+        ensures found { IfOk result (λ bytes. file_bytes self.old.files name.now ≡ Some bytes.items) }
         ensures within { IfOk result (λ bytes. length bytes.items ≤ limit) }
-        ensures missing { IsErrOf result GetError.Missing → bytes_of self.old.files name.now ≡ None }
+        ensures missing { IsErrOf result GetError.Missing → file_bytes self.old.files name.now ≡ None }
         ensures too_long { IsErrOf result GetError.TooLong
-            → IsSomeAnd (bytes_of self.old.files name.now) (λ bytes. limit < length bytes) }
+            → IsSomeAnd (file_bytes self.old.files name.now) (λ bytes. limit < length bytes) }
         ensures cause { HasCause self.old.calls.faults self.new.calls.faults (IsErrOf result GetError.Failed) }
         ensures fails { IsErrOf result GetError.Failed ↔ NextFails self.old.calls }
         ensures failed { IsErrOf result GetError.Failed
-            → self.new ≡ record self.old { calls = failed self.old.calls } }
+            → self.new ≡ record self.old { calls = calls_after_fault self.old.calls } }
         ensures called { (IsErrOf result GetError.Failed → ⊥)
-            → self.new ≡ record self.old { calls = called self.old.calls } }
+            → self.new ≡ record self.old { calls = calls_after_success self.old.calls } }
     {
         self.calls.next()?;
         let Some(place) = place_of(&self.files, name) else {
@@ -86,14 +86,14 @@ impl Folder for MemFolder {
     }
 
     fn put(&mut self, name: &str, bytes: &[u8]) -> Result<(), PutError>
-        ensures puts { OnOk result (bytes_of self.new.files name.now ≡ Some bytes.now) }
+        ensures puts { OnOk result (file_bytes self.new.files name.now ≡ Some bytes.now) }
         ensures others { (other : List ℕ) → other ≢ name.now
-            → bytes_of self.new.files other ≡ bytes_of self.old.files other }
+            → file_bytes self.new.files other ≡ file_bytes self.old.files other }
         ensures same { OnErr result (self.new.files ≡ self.old.files) }
         ensures cause { HasCause self.old.calls.faults self.new.calls.faults (IsErrOf result PutError.Failed) }
         ensures fails { IsErrOf result PutError.Failed ↔ NextFails self.old.calls }
-        ensures failed { IsErrOf result PutError.Failed → self.new.calls ≡ failed self.old.calls }
-        ensures called { (IsErrOf result PutError.Failed → ⊥) → self.new.calls ≡ called self.old.calls }
+        ensures failed { IsErrOf result PutError.Failed → self.new.calls ≡ calls_after_fault self.old.calls }
+        ensures called { (IsErrOf result PutError.Failed → ⊥) → self.new.calls ≡ calls_after_success self.old.calls }
     {
         self.calls.next()?;
         let file = File::copy_of(self.alloc, name, bytes)?;
@@ -136,7 +136,7 @@ impl File {
 
 /// The place of the first file of this name.
 fn place_of(files: &[File], name: &str) -> Option<usize>
-    ensures { MatchOption result (bytes_of files.now name.now ≡ None) (IsPlaceOf files.now name.now) }
+    ensures { MatchOption result (file_bytes files.now name.now ≡ None) (IsPlaceOf files.now name.now) }
 {
     for (place, file) in files.iter().enumerate() {
         if file.is_named(name) {
@@ -148,9 +148,9 @@ fn place_of(files: &[File], name: &str) -> Option<usize>
 
 /// Puts a file in place of the first one of its name, or last where there is none.
 fn put_file(files: &mut Vec<File>, file: File) -> Result<(), AllocError>
-    ensures puts { OnOk result (bytes_of files.new.items file.name ≡ Some file.bytes) }
+    ensures puts { OnOk result (file_bytes files.new.items file.name ≡ Some file.bytes) }
     ensures others { OnOk result
-        ((other : List ℕ) → other ≢ file.name → bytes_of files.new.items other ≡ bytes_of files.old.items other) }
+        ((other : List ℕ) → other ≢ file.name → file_bytes files.new.items other ≡ file_bytes files.old.items other) }
     ensures err { OnErr result (files.new.items ≡ files.old.items) }
 {
     match place_of(files, file.name.as_str()) {

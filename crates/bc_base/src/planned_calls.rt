@@ -2,9 +2,9 @@
 
 ghost use Rattle.std.specs.Prelude.{◌≡◌, ◌↔◌, ◌&&◌, IsTrue, IsErr, OnOk, OnErr, Some, true, nat_le, nat_lt, if◌then◌else◌};
 ghost use Rattle.std.specs.Option.{option_map_or};
-ghost use Rattle.bc_base.specs.Memory.{counted, NextFails};
+ghost use Rattle.bc_base.specs.Memory.{next_count, NextFails};
 ghost use Rattle.bc_base.specs.Outside.{HasCause};
-ghost use Rattle.bc_base.specs.RamStores.{IsNext};
+ghost use Rattle.bc_base.specs.RamStores.{PlansNext};
 
 use crate::error::Failed;
 use std::marker::Model;
@@ -21,13 +21,13 @@ pub(crate) struct PlannedCalls {
 
 impl Model for PlannedCalls {
     ghost use Rattle.bc_base.specs.Memory as memory;
-    ghost use Rattle.bc_base.specs.RamStores.{IsNext};
+    ghost use Rattle.bc_base.specs.RamStores.{PlansNext};
 
     ghost Value = { memory.Calls };
 
     ghost view = { λ c. record { fails = c.plan.items; calls = c.calls; faults = c.faults } };
 
-    ghost invariant = { λ c. IsNext c.plan.items c.calls c.next };
+    ghost invariant = { λ c. PlansNext c.plan.items c.calls c.next };
 }
 
 impl PlannedCalls {
@@ -46,9 +46,9 @@ impl PlannedCalls {
     pub(crate) fn next(&mut self) -> Result<(), Failed>
         ensures fails { IsErr result ↔ NextFails self.old }
         ensures cause { HasCause self.old.faults self.new.faults (IsErr result) }
-        ensures ok { OnOk result (self.new ≡ record self.old { calls = counted self.old.calls }) }
+        ensures ok { OnOk result (self.new ≡ record self.old { calls = next_count self.old.calls }) }
         ensures err { OnErr result
-            (self.new ≡ record self.old { calls = counted self.old.calls; faults = counted self.old.faults }) }
+            (self.new ≡ record self.old { calls = next_count self.old.calls; faults = next_count self.old.faults }) }
     {
         let fails = is_next(self.next, self.calls);
         self.calls = self.calls.saturating_add(1);
@@ -73,7 +73,7 @@ fn is_next(next: Option<u32>, call: u64) -> bool
 
 /// The least number of the plan that is `from` or more.
 fn next_planned(plan: &[u32], from: u64) -> Option<u32>
-    ensures { IsNext plan.now from result }
+    ensures { PlansNext plan.now from result }
 {
     let mut next = None;
     for number in plan {

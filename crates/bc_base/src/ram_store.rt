@@ -1,11 +1,12 @@
 //! A store in memory: the sectors of one shard of an image.
 
-ghost use Rattle.std.specs.Prelude.{◌≡◌, ℕ, ◌+◌, ◌*◌, ◌/◌, ◌%◌, ◌<◌, ◌≤◌, true, List, length, IfOk};
+ghost use Rattle.std.specs.Prelude.{◌≡◌, ℕ, ◌+◌, ◌*◌, ◌/◌, ◌%◌, ◌<◌, ◌≤◌, true, List, length, IfOk, IsTrue};
 ghost use Rattle.bc_base.specs.Lists.{AllAt};
-ghost use Rattle.bc_base.specs.Places.{shard_of};
+ghost use Rattle.bc_base.specs.Layout.{shard_of};
 ghost use Rattle.bc_base.specs.Sectors.{image_sectors, bytes_at, with_bytes};
 ghost use Rattle.bc_base.specs.Stores.{IsPieceOf};
-ghost use Rattle.bc_base.specs.RamStores.{IsShardOf, HaveAllSectors, HasBlocksOf, owns, contents, sector_within, block_at};
+ghost use Rattle.bc_base.specs.RamStores.{IsShardOf, HaveAllSectors, HasBlocksOf, IsOneImage};
+ghost use Rattle.bc_base.specs.RamStores.{owns, contents, sector_within, block_at};
 
 use crate::error::Failed;
 use crate::geometry::{BLOCK_BYTES, BLOCK_SECTORS, SECTOR_BYTES};
@@ -25,19 +26,19 @@ pub struct RamStore {
 }
 
 impl Model for RamStore {
-    ghost use Rattle.bc_base.specs.RamStores.{RamData, IsWhole};
+    ghost use Rattle.bc_base.specs.RamStores.{RamData, HasAllBlocks};
 
     ghost Value = { RamData };
 
     ghost view = { λ s. record
         { bytes = s.bytes.items; shard = s.shard; shards = s.shards; blocks = s.blocks; calls = s.calls } };
 
-    ghost invariant = { λ s. IsWhole s.bytes.items s.shard s.shards s.blocks };
+    ghost invariant = { λ s. HasAllBlocks s.bytes.items s.shard s.shards s.blocks };
 }
 
 impl RamStore {
-    /// Holds the sectors of an image that lie in `shard` of so many shards, and fails exactly at the calls whose numbers,
-    /// from 0, the plan has. The image has whole blocks: its length is a multiple of 4096 bytes.
+    /// Holds the sectors of an image that lie in `shard` of so many shards, and fails exactly at the calls whose
+    /// numbers, from 0, the plan has. The image has whole blocks: its length is a multiple of 4096 bytes.
     ///
     /// # Errors
     /// Out of memory.
@@ -64,8 +65,25 @@ impl RamStore {
         })
     }
 
-    /// The image of so many blocks whose sectors the stores of all its shards hold, in order: each sector belongs to the
-    /// store of its shard. What `of_image` took apart it puts together.
+    /// The store of the only shard of an image, as `of_image` makes it for shard 0 of 1. It keeps the image itself, so
+    /// nothing is copied.
+    pub fn of_whole(image: Vec<u8>, plan: Vec<u32>) -> RamStore
+        requires whole { length image.items % 4096 ≡ 0 }
+        ensures shard { IsShardOf image.items 0 1 result }
+        ensures calls { result.calls ≡ record { fails = plan.items; calls = 0; faults = 0 } }
+    {
+        let blocks = image.len() / BLOCK_BYTES;
+        RamStore {
+            bytes: image,
+            shard: 0,
+            shards: 1,
+            blocks,
+            calls: PlannedCalls::new(plan),
+        }
+    }
+
+    /// The image of so many blocks whose sectors the stores of all its shards hold, in order: each sector belongs to
+    /// the store of its shard. What `of_image` took apart it puts together.
     ///
     /// # Errors
     /// Out of memory.
@@ -88,6 +106,35 @@ impl RamStore {
         Ok(image)
     }
 
+    /// The image that `join` puts together, of stores that end with it. Where one store holds just the image, as
+    /// `of_whole` makes it, its bytes are given back and nothing is copied.
+    ///
+    /// # Errors
+    /// Out of memory.
+    pub fn into_image(
+        alloc: Global,
+        stores: Vec<RamStore>,
+        blocks: u32,
+    ) -> Result<Vec<u8>, AllocError>
+        requires { HaveAllSectors blocks stores.items }
+        ensures length { IfOk result (λ image. length image.items ≡ 4096 * blocks) }
+        ensures sectors { IfOk result (λ image. (s : ℕ) → s < 8 * blocks
+            → AllAt stores.items (shard_of (length stores.items) s)
+            (λ store. image_sectors image.items s ≡ contents store s)) }
+        ensures gives_back { IfOk result (λ image. (whole : List ℕ) → length whole ≡ 4096 * blocks
+            → ((shard : ℕ) → AllAt stores.items shard (IsShardOf whole shard (length stores.items)))
+            → image.items ≡ whole) }
+    {
+        let mut stores = stores;
+        if !is_one_image(&stores, blocks) {
+            return RamStore::join(alloc, &stores, blocks);
+        }
+        let Some(store) = stores.pop() else {
+            unreachable!()
+        };
+        Ok(store.bytes)
+    }
+
     /// A block of the shard, by its number on the disk.
     fn block(&self, block: u32) -> &[u8]
         requires shard { block % self.now.shards ≡ self.now.shard }
@@ -108,7 +155,7 @@ impl Store for RamStore {
 
     ghost contents = { λ s. Some (ram.contents s) };
 
-    ghost told = { λ s. Some record { plan = s.calls.fails; calls = s.calls.calls } };
+    ghost calls = { λ s. Some record { plan = s.calls.fails; calls = s.calls.calls } };
 
     ghost faults = { λ s. s.calls.faults };
 
@@ -155,6 +202,16 @@ fn set_sectors(image: &mut [u8], place: usize, from: &[u8])
     let start = SECTOR_BYTES * place;
     let end = start + from.len();
     image[start..end].copy_from_slice(from);
+}
+
+/// Tells whether the bytes of a single store are an image of so many blocks.
+fn is_one_image(stores: &[RamStore], blocks: u32) -> bool
+    ensures { IsTrue result → IsOneImage stores.now blocks }
+{
+    match stores {
+        [store] => store.shards == 1 && store.bytes.len() == BLOCK_BYTES * blocks as usize,
+        _ => false,
+    }
 }
 
 /// Every `step`-th block of an image, from block `first` on.

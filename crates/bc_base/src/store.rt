@@ -3,7 +3,7 @@
 ghost use Rattle.std.specs.Prelude.{ℕ, Bool, Option, IsErr, OnOk, OnErr, ◌≡◌};
 ghost use Rattle.bc_base.specs.Outside.{HasCause};
 ghost use Rattle.bc_base.specs.Sectors.{Sectors};
-ghost use Rattle.bc_base.specs.Stores.{ToldCalls, IsPieceOf, HoldsSame, Sets, Reads, MakesCall};
+ghost use Rattle.bc_base.specs.Stores.{StoreCalls, IsPieceOf, HoldsSame, Sets, ReadsSectors, MakesCall};
 
 use crate::error::Failed;
 
@@ -19,12 +19,13 @@ pub trait Store {
     ghost contents: { Self → Option Sectors };
 
     /// The number of its calls and its plan, where the store tells them.
-    ghost told: { Self → Option ToldCalls };
+    ghost calls: { Self → Option StoreCalls };
 
     /// How often it has failed.
     ghost faults: { Self → ℕ };
 
-    /// Reads the sectors from `sector` on, as many as `into` has room for. A read changes no sector, also where it fails.
+    /// Reads the sectors from `sector` on, as many as `into` has room for. A read changes no sector, also where it
+    /// fails.
     ///
     /// # Errors
     /// A fault of the store. `into` is then unspecified.
@@ -32,8 +33,8 @@ pub trait Store {
         requires { IsPieceOf (owns self.old) sector into.old }
         ensures owns { (s : ℕ) → owns self.new s ≡ owns self.old s }
         ensures same { HoldsSame (contents self.old) (contents self.new) }
-        ensures reads { OnOk result (Reads (contents self.old) sector into.new) }
-        ensures calls { MakesCall (told self.old) (told self.new) (IsErr result) }
+        ensures reads { OnOk result (ReadsSectors (contents self.old) sector into.new) }
+        ensures calls { MakesCall (calls self.old) (calls self.new) (IsErr result) }
         ensures cause { HasCause (faults self.old) (faults self.new) (IsErr result) };
 
     /// Sets the sectors from `sector` on to `from`, and no other.
@@ -45,6 +46,6 @@ pub trait Store {
         ensures owns { (s : ℕ) → owns self.new s ≡ owns self.old s }
         ensures sets { OnOk result (Sets (contents self.old) (contents self.new) sector from.now) }
         ensures same { OnErr result (HoldsSame (contents self.old) (contents self.new)) }
-        ensures calls { MakesCall (told self.old) (told self.new) (IsErr result) }
+        ensures calls { MakesCall (calls self.old) (calls self.new) (IsErr result) }
         ensures cause { HasCause (faults self.old) (faults self.new) (IsErr result) };
 }

@@ -1,5 +1,5 @@
 -- A list's chunks: with one more element, and joined again.
-use Rattle.std.proofs.Common.{◌≡◌, Bool, true, false, cond, List, [], ◌∷◌, ◌++◌, refl, sym, ap, subst, ◌∙◌}
+use Rattle.std.proofs.Common.{◌≡◌, Bool, true, false, cond, List, [], ◌∷◌, ◌++◌, refl, ap, ◌∙◌}
 use Rattle.std.specs.Prelude.{flat_map}
 use Rattle.bc_bio.specs.Chunks.{chunks_with, chunk_by, joins_last, chunks_and}
 
@@ -23,7 +23,7 @@ one_chunk together x z zs y true false is joined = rw (joined, is, joined) refl
 one_chunk together x z zs y false true is joined = rw (joined, is, joined) refl
 one_chunk together x z zs y false false is joined = rw (joined, is, joined) refl
 
--- an element in front and one at the end, in either order
+-- an element at the beginning and one at the end, in either order
 with_first : {X : Type 0} (together : X → X → Bool) (x : X) (chunks : List (List X)) (y : X)
     → chunks_with together x (chunks_and together chunks y) ≡ chunks_and together (chunks_with together x chunks) y
 with_first together x [] y =

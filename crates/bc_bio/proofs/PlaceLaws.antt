@@ -11,12 +11,12 @@ use Rattle.bc_bio.specs.declared.unit_place.UnitPlace.{UnitPlace}
 use Rattle.bc_bio.specs.Windows.{TaggedBio, count_units}
 use Rattle.bc_bio.specs.declared.marked_bio.MarkedBio.{MarkedBio}
 use Rattle.bc_bio.specs.Requests.{place_of, tagged_bios, tagged_of}
-use Rattle.bc_bio.specs.Ends.{ends_after, begin_of, Parts, IsFound}
+use Rattle.bc_bio.specs.Ends.{ends_after, begin_of, IsPartition, IsFound}
 
 units_of : TaggedBio → ℕ
 units_of tagged = tagged.bio.units
 
-count-cons : (tagged : TaggedBio) (bios : List TaggedBio) → count_units (tagged ∷ bios) ≡ tagged.bio.units + count_units bios
+pub count-cons : (tagged : TaggedBio) (bios : List TaggedBio) → count_units (tagged ∷ bios) ≡ tagged.bio.units + count_units bios
 count-cons tagged bios = sum_by-cons (λ (t : TaggedBio). t.bio.units) tagged bios
 
 pub length-ends_after : (before : ℕ) (bios : List TaggedBio) → length (ends_after before bios) ≡ length bios
@@ -87,7 +87,7 @@ moved bios a b k unit same at =
     ∙ ap after_first at
     ∙ ap (λ (i : ℕ). let place : UnitPlace = record { bio = i; unit = unit } in place) next
 
-pub place_found : (before : ℕ) (bios : List TaggedBio) (n k : ℕ) → before ≤ n → n < before + count_units bios → Parts (ends_after before bios) n k → Found before bios n k
+pub place_found : (before : ℕ) (bios : List TaggedBio) (n k : ℕ) → before ≤ n → n < before + count_units bios → IsPartition (ends_after before bios) n k → Found before bios n k
 place_found before [] n k low high parts = absurd (omega arith)
 place_found before (tagged ∷ bios) n zero low high parts =
     let here = parts.1 0 0 (omega arith) (omega arith) in
@@ -117,10 +117,10 @@ place_found before (tagged ∷ bios) n (suc k) low high parts =
 
 -- so a search among the ends finds it
 pub is_found : (bios : List MarkedBio) (ends : List ℕ) (n k : ℕ) → ends ≡ ends_after 0 (tagged_bios bios) → n < count_units (tagged_bios bios)
-    → (IsPartitionedBy (λ end. nat_le end n) ends → Parts ends n k) → (begin_of 0 ends k ≤ n) × IsFound bios n (record { bio = k; unit = n - begin_of 0 ends k })
+    → (IsPartitionedBy (λ end. nat_le end n) ends → IsPartition ends n k) → (begin_of 0 ends k ≤ n) × IsFound bios n (record { bio = k; unit = n - begin_of 0 ends k })
 is_found bios ends n k are within search =
     let tagged = tagged_bios bios in
-    let parts = subst (λ (es : List ℕ). Parts es n k) are (search (subst (λ (es : List ℕ). IsPartitionedBy (λ end. nat_le end n) es) (sym are) (ends_partitioned 0 tagged n))) in
+    let parts = subst (λ (es : List ℕ). IsPartition es n k) are (search (subst (λ (es : List ℕ). IsPartitionedBy (λ end. nat_le end n) es) (sym are) (ends_partitioned 0 tagged n))) in
     let found = place_found 0 tagged n k (omega arith) (omega arith) parts in
     let len = length-map bios (λ (m : MarkedBio). tagged_of m.bio) in
     let all : n - 0 ≡ n = omega arith in
@@ -135,7 +135,7 @@ is_found bios ends n k are within search =
 
 -- the same, by what a request's calls tell
 pub place_in_request : (inside bios : List MarkedBio) (ends seen again : List ℕ) (n k begin : ℕ) → inside ≡ bios → ends ≡ ends_after 0 (tagged_bios inside)
-    → seen ≡ ends → again ≡ ends → n < count_units (tagged_bios bios) → (IsPartitionedBy (λ end. nat_le end n) seen → Parts seen n k)
+    → seen ≡ ends → again ≡ ends → n < count_units (tagged_bios bios) → (IsPartitionedBy (λ end. nat_le end n) seen → IsPartition seen n k)
     → begin ≡ begin_of 0 again k → (begin ≤ n) × IsFound bios n (record { bio = k; unit = n - begin })
 place_in_request inside bios ends seen again n k begin same are is_seen is_again within search begins =
     let found = is_found inside seen n k (is_seen ∙ are) (subst (λ (bs : List MarkedBio). n < count_units (tagged_bios bs)) (sym same) within) search in

@@ -7,7 +7,7 @@ use Rattle.std.specs.List.{AllByRecursion}
 use Rattle.std.proofs.lemmas.Bool.{and_parts, eqb-true}
 use Rattle.std.proofs.lemmas.Bool.Decides.{nat_tests}
 use Rattle.std.proofs.lemmas.List.{map-append, length-map}
-use Rattle.std.proofs.lemmas.List.Sums.{sum_by-cons, sum_by-append}
+use Rattle.std.proofs.lemmas.List.Sums.{sum_by-append}
 use Rattle.std.proofs.lemmas.List.FromFn.{length-map-range_with_len, get_or-map-range_with_len}
 use Rattle.std.proofs.lemmas.Option.{slice_get-get_or}
 use Rattle.std.proofs.Math.Seq.{map-set_same}
@@ -31,7 +31,7 @@ use Rattle.bc_bio.specs.declared.unit_place.UnitPlace.{UnitPlace}
 use Rattle.bc_bio.specs.BioUnits.{extent_of}
 use Rattle.bc_bio.specs.Requests.{CanBePlaced, tagged_of, tagged_bios, place_of, place_in, unmarked, with_bio_of, unit_in, first_fault}
 use Rattle.bc_bio.specs.Ends.{IsFound, HasEnds, ends_after}
-use Rattle.bc_bio.proofs.PlaceLaws.{length-ends_after, ends_after-append}
+use Rattle.bc_bio.proofs.PlaceLaws.{length-ends_after, ends_after-append, count-cons}
 
 -- ---- lengths
 
@@ -65,10 +65,7 @@ runs_on_after keys first second joined =
     let place = and_parts (same_access first.access second.access) (second.sector == end_of keys first) both.0 in
     eqb-true second.sector (end_of keys first) place.1
 
-count-cons : (tagged : TaggedBio) (bios : List TaggedBio) → count_units (tagged ∷ bios) ≡ tagged.bio.units + count_units bios
-count-cons tagged bios = sum_by-cons (λ (t : TaggedBio). t.bio.units) tagged bios
-
--- what runs on at the back of linked bios starts behind all their units
+-- what runs on at the back of linked bios starts after all their units
 pub starts_behind : (keys : List KeyData) (first : TaggedBio) (bios : List TaggedBio) (next : TaggedBio)
     → Linked (joins keys) (first ∷ bios) → IsTrue (joins_last (joins keys) (first ∷ bios) next) → first.bio.sector + count_units (first ∷ bios) ≤ next.bio.sector
 starts_behind keys first [] next linked joined =
@@ -141,7 +138,7 @@ unit_of_bio keys tagged i within =
     slice_get-get_or (named_units keys tagged) i d (omega (arith, len))
     ∙ ap (λ (u : NamedUnit). Some u) (get_or-map-range_with_len (named_unit keys tagged) 0 tagged.bio.units i i d within (omega arith))
 
--- a unit behind those of the first bio
+-- a unit after those of the first bio
 unit_later : (keys : List KeyData) (tagged : TaggedBio) (bios : List TaggedBio) (n m : ℕ) (d : TaggedBio) (place : UnitPlace) → n ≡ length (named_units keys tagged) + m
     → slice_get (units_of_request keys bios) m ≡ Some (named_unit keys (get_or bios place.bio d) place.unit)
     → slice_get (named_units keys tagged ++ units_of_request keys bios) n ≡ Some (named_unit keys (get_or (tagged ∷ bios) (place.bio + 1) d) place.unit)
@@ -168,7 +165,7 @@ unit_found keys (tagged ∷ bios) n d within =
           unit_later keys tagged bios n (n - tagged.bio.units) d (place_of bios (n - tagged.bio.units)) (omega (arith, len)) (unit_found keys bios (n - tagged.bio.units) d (omega (arith, all)))
     ]) refl
 
--- ---- what a request's calls are told
+-- ---- what a request's calls are given
 
 -- a bio of a request is placed
 pub placed_at : (keys : List KeyData) (bios : List MarkedBio) (k : ℕ) (marked : MarkedBio) → AllByRecursion (λ tagged. IsPlaced keys tagged.bio) (tagged_bios bios)

@@ -18,8 +18,8 @@ joins_last together [] x = false
 joins_last together (last ∷ []) x = together last x
 joins_last together (first ∷ second ∷ others) x = joins_last together (second ∷ others) x
 
--- the chunks with one more element at the end: in the last chunk, where it goes together with the last one there, and
--- else in a chunk of its own
+-- the chunks with one more element at the end: in the last chunk, where it goes together with the
+-- last one there, and else in a chunk of its own
 abbrev pub chunks_and : {X : Type 0} → (X → X → Bool) → List (List X) → X → List (List X)
 chunks_and together [] x = (x ∷ []) ∷ []
 chunks_and together (last ∷ []) x =

@@ -16,9 +16,9 @@ abbrev pub begin_of : ℕ → List ℕ → ℕ → ℕ
 begin_of before ends zero = before
 begin_of before ends (suc bio) = slice_index ends bio
 
--- the bios below this one end at unit number n or before it, and the others behind it
-abbrev pub Parts : List ℕ → ℕ → ℕ → Type 0
-Parts ends n bio = IsPartitionPoint (λ end. nat_le end n ≡ true) (λ end. nat_le end n ≡ false) ends bio
+-- the bios below this one end at unit number n or before it, and the others after it
+abbrev pub IsPartition : List ℕ → ℕ → ℕ → Type 0
+IsPartition ends n bio = IsPartitionPoint (λ end. nat_le end n ≡ true) (λ end. nat_le end n ≡ false) ends bio
 
 -- a request has these ends, and room for one with each bio
 pub record HasEnds (bios : List TaggedBio) (room : ℕ) (ends : List ℕ) (ends_room : ℕ) : Type 0 where

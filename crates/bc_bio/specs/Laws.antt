@@ -1,4 +1,5 @@
--- Laws of bios: the size of a data unit, where an aligned one lies, and what is known of a bio that no test refuses.
+-- Laws of bios: the size of a data unit, where an aligned one lies, and what is known of a bio that
+-- no test refuses.
 use Rattle.std.specs.Prelude.{◌≡◌, ℕ, ◌+◌, ◌/◌, ◌%◌, ◌^◌, ◌<◌, List, Option, None}
 use Rattle.bc_base.specs.declared.geometry.TheConstants.{BLOCK_SECTORS}
 use Rattle.bc_key.specs.KeyData.{KeyData}
@@ -14,7 +15,8 @@ abbrev pub UnitsHaveSizes : Type 0
 UnitsHaveSizes =
     (keys : List KeyData) (context : Option Context) → IsUnitSize (unit_sectors keys context)
 
--- each data unit of an aligned bio lies in one block, and so in one shard: all its sectors are in its first one's block
+-- each data unit of an aligned bio lies in one block, and so in one shard: all its sectors are in
+-- its first one's block
 abbrev pub UnitsLieInBlocks : Type 0
 UnitsLieInBlocks =
     (keys : List KeyData) (bio : Extent) (i j : ℕ)

@@ -7,7 +7,7 @@ ghost use Rattle.bc_bio.specs.BioUnits.{extent_of};
 ghost use Rattle.bc_bio.specs.Chunks.{joins_last};
 ghost use Rattle.bc_bio.specs.Conditions.{IsPlaced};
 ghost use Rattle.bc_bio.specs.Windows.{IsRequest, count_units, joins, units_of_request};
-ghost use Rattle.bc_bio.specs.Ends.{IsFound, Parts, begin_of};
+ghost use Rattle.bc_bio.specs.Ends.{IsFound, IsPartition, begin_of};
 ghost use Rattle.bc_bio.specs.Requests.{CanBePlaced, is_over, place_in, reply_of, tagged_bios, tagged_of, unit_in, with_bio, with_fault, with_unit};
 
 use crate::context::{context_wrapped, unit_sectors};
@@ -18,10 +18,11 @@ use bc_key::Keys;
 use std::alloc::{AllocError, Global};
 use std::marker::Model;
 
-/// Bios, each of which runs on at the back of the one before it, and what has become of their data units. It is filled,
-/// its units are carried out in order, and it is emptied into replies.
+/// Bios, each of which runs on at the back of the one before it, and what has become of their data
+/// units. It is filled, its units are carried out in order, and it is emptied into replies.
 ///
-/// All calls on one request are given the same keys, and each of its bios has a key of these and ends below sector 2^32.
+/// All calls on one request are given the same keys, and each of its bios has a key of these and
+/// ends below sector 2^32.
 #[derive(Drop)]
 pub struct Request {
     bios: Vec<MarkedBio>,
@@ -47,6 +48,10 @@ impl Request {
     ghost use Rattle.bc_bio.specs.contracts.unit.Unit.{the_row as unit_row};
 
     /// No bios yet, and memory for `room` of them.
+    ///
+    /// # Errors
+    ///
+    /// `AllocError` where there is no memory for them.
     pub fn new(alloc: Global, room: usize) -> Result<Request, AllocError>
         ensures { IfOk result (λ request. request ≡ record { bios = []; spare = room }) }
     {
@@ -66,7 +71,7 @@ impl Request {
         self.append(bio);
     }
 
-    /// Puts a bio behind the last one, where it runs on at its back. Takes no memory.
+    /// Puts a bio after the last one, where it runs on at its back. Takes no memory.
     ///
     /// # Errors
     ///
@@ -90,7 +95,7 @@ impl Request {
         Ok(())
     }
 
-    /// Puts a bio behind the last one.
+    /// Puts a bio after the last one.
     fn append(&mut self, bio: Bio)
         requires spare { 1 ≤ self.old.spare }
         requires fits { count_units (tagged_bios self.old.bios) + length bio.units < 2 ^ 32 }
@@ -111,8 +116,8 @@ impl Request {
         }
     }
 
-    /// The tag of the bio of unit number `n`, from 0 through the request, and the unit's number in its bio, sector and
-    /// context.
+    /// The tag of the bio of unit number `n`, from 0 through the request, and the unit's number in
+    /// its bio, sector and context.
     pub fn unit_at(&self, keys: &Keys, n: u32) -> (u32, u32, u32, Option<Context>)
         requires request { IsRequest keys.now.keys (tagged_bios self.now.bios) }
         requires within { n < count_units (tagged_bios self.now.bios) }
@@ -169,7 +174,8 @@ impl Request {
         &self.bios[place.bio].bio
     }
 
-    /// Empties the request into replies, in order. They go behind those that `out` has, which has room for them.
+    /// Empties the request into replies, in order. They go after those that `out` has, which has
+    /// room for them.
     pub fn finish(&mut self, out: &mut Vec<Reply>)
         requires { vec_len out.old + length self.old.bios ≤ vec_capacity out.old }
         ensures replies { out.new.items ≡ out.old.items ++ map reply_of self.old.bios }
@@ -194,7 +200,7 @@ impl Request {
 /// The bio that has unit number `n`, by the number of units up to the end of each.
 fn bio_with(ends: &[u32], n: u32) -> usize
     ensures within { result ≤ length ends.now }
-    ensures parts { IsPartitionedBy (λ end. nat_le end n) ends.now → Parts ends.now n result }
+    ensures parts { IsPartitionedBy (λ end. nat_le end n) ends.now → IsPartition ends.now n result }
 {
     ends.partition_point(|end| *end <= n)
 }

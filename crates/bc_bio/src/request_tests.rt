@@ -66,7 +66,8 @@ fn request_of(alloc: Global, keys: &Keys, first: Bio) -> Result<Request, AllocEr
     Ok(request)
 }
 
-/// Whether the second bio joins a request of the first. A request that refuses it is as it was, and gives it back.
+/// Whether the second bio joins a request of the first. A request that refuses it is as it was, and
+/// gives it back.
 fn joins(alloc: Global, keys: &Keys, first: Bio, second: Bio) -> Result<bool, Fail>
     requires first { IsPlaced keys.now.keys (extent_of first) }
     requires second { IsPlaced keys.now.keys (extent_of second) }
@@ -85,7 +86,8 @@ fn joins(alloc: Global, keys: &Keys, first: Bio, second: Bio) -> Result<bool, Fa
     }
 }
 
-/// Whether a bio of one unit joins a write of two units in sector 4 under the first key, with the numbers 7 and 8.
+/// Whether a bio of one unit joins a write of two units in sector 4 under the first key, with the
+/// numbers 7 and 8.
 fn joins_seven(
     alloc: Global,
     keys: &Keys,

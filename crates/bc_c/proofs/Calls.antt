@@ -5,16 +5,16 @@ use Rattle.bc_key.specs.KeyData.{KeyData}
 use Rattle.bc_modes.specs.UnitCipher.{CipherParts, parts_of}
 use Rattle.bc_c.specs.declared.direction.Direction.{Direction}
 use Rattle.bc_c.specs.Status.{mode_of_number}
-use Rattle.bc_c.specs.Units.{AreCarried, carried, each_unit}
+use Rattle.bc_c.specs.Units.{AreCarried, converted_unit, each_unit}
 
 module _ (way : Direction) (old : List ℕ) where
   abbrev units_by : CipherParts → List ℕ → ℕ → ℕ → List ℕ
-  units_by parts raw first size = each_unit (λ i. carried way parts.mode raw (first + i)) size (length old / size) old
+  units_by parts raw first size = each_unit (λ i. converted_unit way parts.mode raw (first + i)) size (length old / size) old
 
 pub are_carried : (way : Direction) (mode unit : ℕ) (raw : List ℕ) (first : ℕ) (old new : List ℕ) (parts : CipherParts) (key : KeyData) (number size : ℕ)
     → mode_of_number mode ≡ Some key.config.mode → bytes_of key.config.unit ≡ unit → key.raw ≡ raw → parts ≡ parts_of key → number ≡ first
     → size ≡ bytes_of key.config.unit
-    → new ≡ each_unit (λ i. carried way parts.mode parts.raw (number + i)) size (length old / size) old
+    → new ≡ each_unit (λ i. converted_unit way parts.mode parts.raw (number + i)) size (length old / size) old
     → AreCarried way mode unit raw first old new
 are_carried way mode unit raw first old new parts key number size by_mode unit_is raw_is parts_are number_is size_is e = record {
   cipher = key.config.mode;

@@ -1,5 +1,5 @@
--- The numbers that cross to C: modes by Linux's numbers (enum blk_crypto_mode_num of include/linux/blk-crypto.h), and why a
--- call does nothing, in the order of its tests.
+-- The numbers that cross to C: modes by Linux's numbers (enum blk_crypto_mode_num of
+-- include/linux/blk-crypto.h), and why a call does nothing, in the order of its tests.
 use Rattle.std.specs.Prelude.{ℕ, ◌/◌, ◌%◌, ◌==◌, not, ◌&&◌, nat_lt, Bool, List, Option, Some, None, if◌then◌else◌}
 use Rattle.bc_key.specs.declared.config.Mode.{Mode}
 use Rattle.bc_key.specs.declared.config.Mode.TheVariants.{Aes256Xts, Aes128CbcEssiv}

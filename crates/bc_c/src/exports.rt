@@ -27,9 +27,9 @@ pub struct BlkcryptNumber {
     pub words: [u64; 4],
 }
 
-/// Whether a key is one: 0, or the number of the first test that it fails. A mode is 1 for AES-256-XTS or 2 for
-/// AES-128-CBC-ESSIV, `unit` a data unit's size in bytes, `number_bytes` how many bytes the numbers of its data units may
-/// have, and `raw` the key's bytes.
+/// Whether a key is one: 0, or the number of the first test that it fails. A mode is 1 for
+/// AES-256-XTS or 2 for AES-128-CBC-ESSIV, `unit` a data unit's size in bytes, `number_bytes` how
+/// many bytes the numbers of its data units may have, and `raw` the key's bytes.
 #[unsafe(no_mangle)]
 pub extern "C" fn blkcrypt_check_key(mode: u32, unit: u32, number_bytes: u8, raw: &[u8]) -> u32
     ensures { result ≡ key_status mode unit number_bytes raw.now }
@@ -40,8 +40,8 @@ pub extern "C" fn blkcrypt_check_key(mode: u32, unit: u32, number_bytes: u8, raw
     }
 }
 
-/// Enciphers whole consecutive data units in place, each under the number that follows. Gives 0, or else the number of the
-/// first test that the call fails, and then the buffer is as it was.
+/// Enciphers whole consecutive data units in place, each under the number that follows. Gives 0, or
+/// else the number of the first test that the call fails, and then the buffer is as it was.
 #[unsafe(no_mangle)]
 pub extern "C" fn blkcrypt_encrypt_units(
     mode: u32,
@@ -58,8 +58,8 @@ pub extern "C" fn blkcrypt_encrypt_units(
     carry(Direction::Encrypt, mode, unit, raw, first, texts)
 }
 
-/// Deciphers whole consecutive data units in place, each under the number that follows. Gives 0, or else the number of the
-/// first test that the call fails, and then the buffer is as it was.
+/// Deciphers whole consecutive data units in place, each under the number that follows. Gives 0, or
+/// else the number of the first test that the call fails, and then the buffer is as it was.
 #[unsafe(no_mangle)]
 pub extern "C" fn blkcrypt_decrypt_units(
     mode: u32,
@@ -76,7 +76,8 @@ pub extern "C" fn blkcrypt_decrypt_units(
     carry(Direction::Decrypt, mode, unit, raw, first, texts)
 }
 
-/// Takes the data units of a call one way, in place, or gives the number of the first test that the call fails.
+/// Takes the data units of a call one way, in place, or gives the number of the first test that the
+/// call fails.
 fn carry(
     way: Direction,
     mode: u32,

@@ -32,7 +32,13 @@ fn number_of_error(error: KeyError) -> u32
     }
 }
 
-/// The key, or the status of what is none.
+/// The key, or the status of what is none. `mode` is Linux's number of the mode, `unit` a data unit's
+/// size in bytes.
+///
+/// # Errors
+///
+/// The status of the first test that fails: no mode has this number, or [`Key::new`] refuses the key.
+/// It is never 0.
 pub fn key_of(mode: u32, unit: u32, number_bytes: u8, raw: &[u8]) -> Result<Key, u32>
     ensures status { IfOk result (λ key. key_status mode unit number_bytes raw.now ≡ 0) }
     ensures mode { IfOk result (λ key. mode_of_number mode ≡ Some key.config.mode) }

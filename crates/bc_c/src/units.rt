@@ -2,7 +2,7 @@
 ghost use Rattle.std.specs.Prelude.{◌≡◌, ◌+◌, ◌*◌, ◌^◌, ◌<◌, false, length};
 ghost use Rattle.bc_key.specs.DataUnits.{bytes_of};
 ghost use Rattle.bc_c.specs.Status.{runs_out};
-ghost use Rattle.bc_c.specs.Units.{carried, each_unit};
+ghost use Rattle.bc_c.specs.Units.{converted_unit, each_unit};
 
 use crate::direction::Direction;
 use bc_key::Dun;
@@ -29,7 +29,7 @@ fn number(first: &Dun, i: usize) -> Dun
 /// Takes one data unit one way, in place.
 fn carry_unit(way: Direction, cipher: &UnitCipher, dun: &Dun, text: &mut [u8])
     requires { length text.old ≡ bytes_of cipher.now.unit }
-    ensures { text.new ≡ carried way cipher.now.mode cipher.now.raw dun.now text.old }
+    ensures { text.new ≡ converted_unit way cipher.now.mode cipher.now.raw dun.now text.old }
 {
     match way {
         Direction::Encrypt => cipher.encrypt(dun, text),
@@ -51,7 +51,7 @@ pub fn carry_units(
     requires whole { length texts.old ≡ units * size }
     requires numbers { runs_out first.now units ≡ false }
     ensures { texts.new ≡
-        each_unit (λ i. carried way cipher.now.mode cipher.now.raw (first.now + i)) size units texts.old }
+        each_unit (λ i. converted_unit way cipher.now.mode cipher.now.raw (first.now + i)) size units texts.old }
 {
     for i in 0..units {
         carry_unit(

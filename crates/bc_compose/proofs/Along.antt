@@ -10,9 +10,9 @@ use Rattle.bc_bio.specs.Extent.{unit_sectors}
 use Rattle.bc_bio.specs.PlannedUnit.{PlannedUnit}
 use Rattle.bc_medium.specs.declared.entry.Entry.{Entry}
 use Rattle.bc_medium.specs.declared.unit_name.UnitName.{UnitName}
-use Rattle.bc_medium.specs.Places.{shard_of}
+use Rattle.bc_medium.specs.Layout.{shard_of}
 use Rattle.bc_medium.specs.KeyedDisk.{Sectors, UnitAnswer, Faulted, Text, bytes_at, with_bytes, enciphered, deciphered, meets_fault, accessed, performed, disk_along, answers_along}
-use Rattle.bc_medium.specs.Entries.{name_of_entry, unit_of, performed_by, left_by, told_by}
+use Rattle.bc_medium.specs.Entries.{name_of_entry, entry_unit, performed_by, left_by, told_by}
 use Rattle.bc_medium.specs.Outcome.{Run, unit_named}
 use Rattle.bc_medium.specs.Growth.{IsEntryOf}
 
@@ -62,12 +62,12 @@ module _ (run : Run) (shards shard : ℕ) where
   same_step a b place u e is lies failed same =
       subst (λ (t : Bool). Agree (cond t (record { disk = a; answer = Faulted }) (accessed u.access run.keys a u)).disk (performed_by run.keys b e).disk
       × ((cond t (record { disk = a; answer = Faulted }) (accessed u.access run.keys a u)).answer ≡ (performed_by run.keys b e).answer)) failed
-      ((elim e.failed as (λ (t : Bool). e.failed ≡ t → Agree (cond t (record { disk = a; answer = Faulted }) (accessed u.access run.keys a u)).disk (cond t (record { disk = b; answer = Faulted }) (accessed e.access run.keys b (unit_of e))).disk
-      × ((cond t (record { disk = a; answer = Faulted }) (accessed u.access run.keys a u)).answer ≡ (cond t (record { disk = b; answer = Faulted }) (accessed e.access run.keys b (unit_of e))).answer)) [
+      ((elim e.failed as (λ (t : Bool). e.failed ≡ t → Agree (cond t (record { disk = a; answer = Faulted }) (accessed u.access run.keys a u)).disk (cond t (record { disk = b; answer = Faulted }) (accessed e.access run.keys b (entry_unit e))).disk
+      × ((cond t (record { disk = a; answer = Faulted }) (accessed u.access run.keys a u)).answer ≡ (cond t (record { disk = b; answer = Faulted }) (accessed e.access run.keys b (entry_unit e))).answer)) [
         | true ↦ λ _. (same, refl)
         | false ↦ λ went.
-            subst (λ (act : Access). Agree (accessed u.access run.keys a u).disk (accessed act run.keys b (unit_of e)).disk × ((accessed u.access run.keys a u).answer ≡ (accessed act run.keys b (unit_of e)).answer)) (sym is.access)
-            (same_access u.access a b u.sector u.context u (unit_of e) refl refl (ap (λ x. x.sector) is.unit) (ap (λ x. x.context) is.unit)
+            subst (λ (act : Access). Agree (accessed u.access run.keys a u).disk (accessed act run.keys b (entry_unit e)).disk × ((accessed u.access run.keys a u).answer ≡ (accessed act run.keys b (entry_unit e)).answer)) (sym is.access)
+            (same_access u.access a b u.sector u.context u (entry_unit e) refl refl (ap (λ x. x.sector) is.unit) (ap (λ x. x.context) is.unit)
             (λ writes. sym (ap (λ (o : Option (List ℕ)). option_map_or (λ bytes. bytes) o []) (is.written went writes))) same lies)
       ]) refl)
 

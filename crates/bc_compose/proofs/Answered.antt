@@ -16,22 +16,24 @@ use Rattle.bc_bio.specs.Extent.{unit_sectors}
 use Rattle.bc_bio.specs.PlannedUnit.{PlannedUnit}
 use Rattle.bc_medium.specs.declared.entry.Entry.{Entry}
 use Rattle.bc_medium.specs.declared.unit_name.UnitName.{UnitName}
-use Rattle.bc_medium.specs.Places.{shard_of}
+use Rattle.bc_medium.specs.Layout.{shard_of}
 use Rattle.bc_medium.specs.KeyedDisk.{Sectors, meets_fault, UnitAnswer, Faulted, Written, Text, image_sectors, bytes_at, accessed, disk_along, answers_along}
-use Rattle.bc_medium.specs.Entries.{caller_of, name_of_entry, unit_of, performed_by, left_by, told_by, IsTold}
-use Rattle.bc_medium.specs.LawfulOrders.{name_of, is_same, is_attempted, is_earlier}
+use Rattle.bc_medium.specs.Entries.{caller_of, name_of_entry, entry_unit, performed_by, left_by, told_by, HasAnswer}
+use Rattle.bc_medium.specs.LawfulOrders.{unit_name_of, is_same, is_attempted, is_earlier}
 use Rattle.bc_medium.specs.Outcome.{Run, unit_named, disk_of, answers_on, answers_of, final_image, is_fault, is_unit_of, answer_text, unit_answer, answers_of_bio, fault_of, without_fault, bio_answer, BioAnswer, Wrote, Bytes, Fault}
-use Rattle.bc_compose.proofs.Image.{image_of-image_sectors}
 use Rattle.bc_script.specs.Script.{Script, keys_of}
 use Rattle.bc_base.specs.Lists.{list_at}
 use Rattle.bc_medium.specs.Growth.{IsEntryOf, failed_names, attempted_by, lies_in, Knows}
 use Rattle.bc_compose.specs.SectionDone.{IsBioAnswer}
-use Rattle.bc_compose.specs.Closed.{ShardsClosed, StoresClosed}
-use Rattle.bc_compose.proofs.Lists.{In, in_at, all_at, all_from_in, in_map, in_filter, in_of_filter, beside, beside_left, any_from, slice_get_append}
+use Rattle.bc_compose.specs.ClosedOrders.{ShardsClosed, StoresClosed}
+use Rattle.bc_compose.proofs.Lists.{in_at, in_map, in_filter, beside_left, slice_get_append}
 use Rattle.bc_compose.proofs.Names.{Apart, finds}
 use Rattle.bc_compose.proofs.Distinct.{Distinct, distinct_filter, distinct_from_own, distinct_same, distinct_units, same_names, same_itself, find_the, find_some, find_none, in_of_range, in_range}
 use Rattle.bc_compose.proofs.Along.{Known, Agree, along}
 use Rattle.bc_compose.proofs.Orders.{HasMade, named, by_thread, placed, made_by, at_map}
+use Rattle.bc_base.proofs.Members.{In, in_of_filter, beside, any_from, all_at, all_from_in}
+use Rattle.bc_base.proofs.Image.{image_of-image_sectors}
+use Rattle.bc_medium.proofs.Told.{told_append}
 
 -- ---- entries and answers
 
@@ -51,14 +53,8 @@ distinct_told keys disk (e ∷ es) all = (
   distinct_told keys (performed_by keys disk e).disk es all.1,
 )
 
--- what was told of a front stays told of the whole
-pub told_append : (keys : List KeyData) (disk : Sectors) (es more : List Entry) → told_by keys disk (es ++ more) ≡ told_by keys disk es ++ told_by keys (left_by keys disk es) more
-told_append keys disk [] more = refl
-told_append keys disk (e ∷ es) more =
-    ap (λ (l : List (UnitName × UnitAnswer)). (name_of_entry e, (performed_by keys disk e).answer) ∷ l) (told_append keys (performed_by keys disk e).disk es more)
-
 pub still_told : (keys : List KeyData) (disk : Sectors) (caller : ℕ) (seen order : List Entry) (name : UnitName) (answer : UnitAnswer)
-    → IsFront caller_of caller seen order → IsTold (told_by keys disk seen) name answer → IsTold (told_by keys disk order) name answer
+    → IsFront caller_of caller seen order → HasAnswer (told_by keys disk seen) name answer → HasAnswer (told_by keys disk order) name answer
 still_told keys disk caller seen order name answer front told =
     let more = front.begins.0 in (
       told.0,
@@ -66,7 +62,7 @@ still_told keys disk caller seen order name answer front told =
           (slice_get_append (told_by keys disk seen) (told_by keys (left_by keys disk seen) more) told.0 (name, answer) told.1),
     )
 
--- an entry that failed is told so, and no other
+-- an entry that failed is reported so, and no other
 told_failed : (keys : List KeyData) (disk : Sectors) (es : List Entry) (x : UnitName × UnitAnswer) → In x (told_by keys disk es) → is_fault x.1 ≡ true → (e : Entry) × In e es × (name_of_entry e ≡ x.0) × (e.failed ≡ true)
 told_failed keys disk [] x at' faulty = absurd at'
 told_failed keys disk (e ∷ es) x at' faulty =
@@ -82,9 +78,9 @@ told_failed keys disk (e ∷ es) x at' faulty =
 
     failed : (e : Entry) → is_fault (performed_by keys disk e).answer ≡ true → e.failed ≡ true
     failed e is =
-        (elim e.failed as (λ (t : Bool). is_fault (cond t (record { disk = disk; answer = Faulted }) (accessed e.access keys disk (unit_of e))).answer ≡ true → t ≡ true) [
+        (elim e.failed as (λ (t : Bool). is_fault (cond t (record { disk = disk; answer = Faulted }) (accessed e.access keys disk (entry_unit e))).answer ≡ true → t ≡ true) [
           | true ↦ λ _. refl
-          | false ↦ λ f. absurd (true≢false (sym f ∙ went e.access (unit_of e)))
+          | false ↦ λ f. absurd (true≢false (sym f ∙ went e.access (entry_unit e)))
         ]) is
 
 module _ (script : Script) (faults : List (ℕ × ℕ)) (shards callers : ℕ) (some : 1 ≤ shards) (plan : List (List PlannedUnit)) (few : length plan ≡ callers)
@@ -102,13 +98,13 @@ module _ (script : Script) (faults : List (ℕ × ℕ)) (shards callers : ℕ) (
 
   -- the unit of an entry
   unit_of_entry : (thread : ℕ) (e : Entry) → thread < callers → In e (made thread)
-      → (u : PlannedUnit) × In u (list_at plan thread) × IsEntryOf thread u e × (is_attempted (failed_names (made thread)) (name_of thread u) ≡ true)
+      → (u : PlannedUnit) × In u (list_at plan thread) × IsEntryOf thread u e × (is_attempted (failed_names (made thread)) (unit_name_of thread u) ≡ true)
   unit_of_entry thread e there at' =
       let r = beside (IsEntryOf thread) (attempted_by thread (failed_names (made thread)) (list_at plan thread)) (made thread) e (has_made thread there).attempts at' in
-      let both = in_of_filter (λ u. is_attempted (failed_names (made thread)) (name_of thread u)) (list_at plan thread) r.0 r.1 in
+      let both = in_of_filter (λ u. is_attempted (failed_names (made thread)) (unit_name_of thread u)) (list_at plan thread) r.0 r.1 in
       (r.0, both.0, r.2, both.1)
 
-  pub plans : (thread : ℕ) (u : PlannedUnit) → thread < callers → In u (list_at plan thread) → unit_named run (name_of thread u) ≡ Some u
+  pub plans : (thread : ℕ) (u : PlannedUnit) → thread < callers → In u (list_at plan thread) → unit_named run (unit_name_of thread u) ≡ Some u
   plans thread u there at' = finds thread (list_at plan thread) u (apart thread there) at'
 
   -- an entry of the orders is a unit of the plan
@@ -121,7 +117,7 @@ module _ (script : Script) (faults : List (ℕ × ℕ)) (shards callers : ℕ) (
       let here : shard_of shards u.sector ≡ shard = ap (shard_of shards) (sym (placed c u e r.2)) ∙ eqb-true (shard_of shards e.at.sector) shard m.2 in
       (u, ap (unit_named run) (named c u e r.2) ∙ plans c u m.0 r.1, r.2, λ i lt. one_shard c u m.0 r.1 i lt ∙ here)
 
-  -- what is told of a shard
+  -- what is reported of a shard
   abbrev pub told_on : ℕ → List (UnitName × UnitAnswer)
   told_on shard = told_by (keys_of script) (base shard) (list_at orders shard)
 
@@ -169,9 +165,9 @@ module _ (script : Script) (faults : List (ℕ × ℕ)) (shards callers : ℕ) (
   pub distinct_made : (thread : ℕ) → thread < callers → Distinct name_of_entry (made thread)
   distinct_made thread there =
       beside_distinct (attempted_by thread (failed_names (made thread)) (list_at plan thread)) (made thread) (has_made thread there).attempts
-      (distinct_filter (name_of thread) (λ u. is_attempted (failed_names (made thread)) (name_of thread u)) (list_at plan thread) (distinct_units thread (list_at plan thread) (apart thread there)))
+      (distinct_filter (unit_name_of thread) (λ u. is_attempted (failed_names (made thread)) (unit_name_of thread u)) (list_at plan thread) (distinct_units thread (list_at plan thread) (apart thread there)))
     where
-      beside_distinct : (us : List PlannedUnit) (es : List Entry) → AllZip (IsEntryOf thread) us es → Distinct (name_of thread) us → Distinct name_of_entry es
+      beside_distinct : (us : List PlannedUnit) (es : List Entry) → AllZip (IsEntryOf thread) us es → Distinct (unit_name_of thread) us → Distinct name_of_entry es
       beside_distinct [] [] all distinct = tt
       beside_distinct [] (e ∷ es) all distinct = absurd all
       beside_distinct (u ∷ us) [] all distinct = absurd all
@@ -179,7 +175,7 @@ module _ (script : Script) (faults : List (ℕ × ℕ)) (shards callers : ℕ) (
         all_from_in (λ x. name_of_entry e ≡ name_of_entry x → ⊥) es
             (λ x at' same.
             let r = beside (IsEntryOf thread) us es x all.1 at' in
-            all_at (λ v. name_of thread u ≡ name_of thread v → ⊥) us r.0 distinct.0 r.1
+            all_at (λ v. unit_name_of thread u ≡ unit_name_of thread v → ⊥) us r.0 distinct.0 r.1
             (sym (named thread u e all.0) ∙ same ∙ named thread r.0 x r.2)),
         beside_distinct us es all.1 distinct.1,
       )
@@ -200,7 +196,7 @@ module _ (script : Script) (faults : List (ℕ × ℕ)) (shards callers : ℕ) (
           ap (λ (b : Bool). cond b (e ∷ own caller_of c es) (own caller_of c es)) (ne_eqb (caller_of e) c (λ same. omega arith))
           ∙ none c past es (λ x at'. below x (inr at'))
 
-  -- one name is told once
+  -- one name is reported once
   pub told_once : (s t : ℕ) (x y : UnitName × UnitAnswer) → s < shards → t < shards → In x (told_on s) → In y (told_on t) → x.0 ≡ y.0 → x ≡ y
   told_once s t x y within within' a b same =
       let d = told_in keys (base s) (list_at orders s) x a in
@@ -231,24 +227,24 @@ module _ (script : Script) (faults : List (ℕ × ℕ)) (shards callers : ℕ) (
       (r.0, within, subst (In x) (answers_on_is r.0 within) r.3)
 
   pub unit_told : (thread : ℕ) (u : PlannedUnit) (answer : UnitAnswer) → thread < callers → Knows (keys_of script) shards base thread (seen thread) u answer
-      → In (name_of thread u, answer) (told_on (shard_of shards u.sector))
+      → In (unit_name_of thread u, answer) (told_on (shard_of shards u.sector))
   unit_told thread u answer there knows =
       let s = shard_of shards u.sector in
-      let told = still_told keys (base s) thread (list_at (seen thread) s) (list_at orders s) (name_of thread u) answer (closed.fronts thread s there (shard_within u.sector)) knows in
-      in_at (told_on s) told.0 (name_of thread u, answer) told.1
+      let told = still_told keys (base s) thread (list_at (seen thread) s) (list_at orders s) (unit_name_of thread u) answer (closed.fronts thread s there (shard_within u.sector)) knows in
+      in_at (told_on s) told.0 (unit_name_of thread u, answer) told.1
 
   pub unit_answered : (thread : ℕ) (u : PlannedUnit) (answer : UnitAnswer) → thread < callers → Knows (keys_of script) shards base thread (seen thread) u answer
-      → unit_answer run (name_of thread u) ≡ Some answer
+      → unit_answer run (unit_name_of thread u) ≡ Some answer
   unit_answered thread u answer there knows =
       let s = shard_of shards u.sector in
-      let x : UnitName × UnitAnswer = (name_of thread u, answer) in
+      let x : UnitName × UnitAnswer = (unit_name_of thread u, answer) in
       let here = unit_told thread u answer there knows in
       ap (option_map (λ (at' : UnitName × UnitAnswer). at'.1))
-      (find_the (λ (at' : UnitName × UnitAnswer). is_same at'.0 (name_of thread u)) (answers_of run) x
-      (told_of_all s x (shard_within u.sector) here) (same_itself (name_of thread u))
+      (find_the (λ (at' : UnitName × UnitAnswer). is_same at'.0 (unit_name_of thread u)) (answers_of run) x
+      (told_of_all s x (shard_within u.sector) here) (same_itself (unit_name_of thread u))
       (λ y at' passes.
       let r = all_of_told y at' in
-      told_once r.0 s y x r.1 (shard_within u.sector) r.2 here (same_names y.0 (name_of thread u) passes)))
+      told_once r.0 s y x r.1 (shard_within u.sector) r.2 here (same_names y.0 (unit_name_of thread u) passes)))
 
   -- ---- faults
 
@@ -293,7 +289,7 @@ module _ (script : Script) (faults : List (ℕ × ℕ)) (shards callers : ℕ) (
   pub fault_told : (thread op : ℕ) (u : PlannedUnit) → thread < callers → u.tag ≡ op → Knows (keys_of script) shards base thread (seen thread) u Faulted → fault_of run thread op ≡ Some u.unit
   fault_told thread op u there own_op knows =
       let s = shard_of shards u.sector in
-      let x : UnitName × UnitAnswer = (name_of thread u, Faulted) in
+      let x : UnitName × UnitAnswer = (unit_name_of thread u, Faulted) in
       let test = λ (y : UnitName × UnitAnswer). is_unit_of thread op y && is_fault y.1 in
       let here = told_of_all s x (shard_within u.sector) (unit_told thread u Faulted there knows) in
       let passes : test x ≡ true = rw (eq-eqb thread thread refl, eq-eqb u.tag op own_op) refl in
@@ -320,12 +316,12 @@ module _ (script : Script) (faults : List (ℕ × ℕ)) (shards callers : ℕ) (
       let parts = faulty_parts thread op x passes in
       let d = failed_entry thread x at' parts.0 parts.2 in
       let r = unit_of_entry thread d.1.0 there d.1.1 in
-      let name : name_of thread r.0 ≡ x.0 = sym (named thread r.0 d.1.0 r.2) ∙ d.1.2 in
+      let name : unit_name_of thread r.0 ≡ x.0 = sym (named thread r.0 d.1.0 r.2) ∙ d.1.2 in
       let mine : In r.0 units = subst (In r.0) are (in_filter (λ u. u.tag == op) (list_at plan thread) r.0 r.1 (eq-eqb r.0.tag op (ap (λ (n : UnitName). n.op) name ∙ parts.1))) in
       let k = knows r.0 mine in
       let told = unit_told thread r.0 k.0 there k.2 in
       let y = all_of_told x at' in
-      let same : (name_of thread r.0, k.0) ≡ x = told_once (shard_of shards r.0.sector) y.0 (name_of thread r.0, k.0) x (shard_within r.0.sector) y.1 told y.2 name in
+      let same : (unit_name_of thread r.0, k.0) ≡ x = told_once (shard_of shards r.0.sector) y.0 (unit_name_of thread r.0, k.0) x (shard_within r.0.sector) y.1 told y.2 name in
       true≢false (sym parts.2 ∙ sym (ap (λ (z : UnitName × UnitAnswer). is_fault z.1) same) ∙ k.1))))
 
   -- ---- what a bio is answered
@@ -342,7 +338,7 @@ module _ (script : Script) (faults : List (ℕ × ℕ)) (shards callers : ℕ) (
       let none = no_fault_told thread op units there are
       (λ u at'. let r = beside_left (λ v text. Knows (keys_of script) shards base thread (seen thread) v (Text text)) units texts u is.2 at' in (Text r.0, refl, r.2)) in
       ap (λ l. Bytes l) (is.3 ∙ sym (texts_of texts))
-      ∙ ap (λ (l : List UnitAnswer). Bytes (flat_map answer_text l)) (sym (ap (filter_map (λ u. unit_answer run (name_of thread u))) are ∙ each units texts is.2))
+      ∙ ap (λ (l : List UnitAnswer). Bytes (flat_map answer_text l)) (sym (ap (filter_map (λ u. unit_answer run (unit_name_of thread u))) are ∙ each units texts is.2))
       ∙ ap (λ (act : Access). without_fault act (answers_of_bio run thread op)) (sym is.0)
       ∙ sym (ap (λ (o : Option ℕ). option_map_or (λ unit. Fault unit) o (without_fault access (answers_of_bio run thread op))) none)
     where
@@ -351,12 +347,12 @@ module _ (script : Script) (faults : List (ℕ × ℕ)) (shards callers : ℕ) (
       texts_of (text ∷ texts) = ap (λ (l : List ℕ). text ++ l) (texts_of texts)
 
       each : (us : List PlannedUnit) (texts : List (List ℕ)) → AllZip (λ u text. Knows (keys_of script) shards base thread (seen thread) u (Text text)) us texts
-          → filter_map (λ u. unit_answer run (name_of thread u)) us ≡ map (λ text. Text text) texts
+          → filter_map (λ u. unit_answer run (unit_name_of thread u)) us ≡ map (λ text. Text text) texts
       each [] [] all = refl
       each [] (text ∷ texts) all = absurd all
       each (u ∷ us) [] all = absurd all
       each (u ∷ us) (text ∷ texts) all =
-          ap (λ (o : Option UnitAnswer). cons_option o (filter_map (λ v. unit_answer run (name_of thread v)) us)) (unit_answered thread u (Text text) there all.0)
+          ap (λ (o : Option UnitAnswer). cons_option o (filter_map (λ v. unit_answer run (unit_name_of thread v)) us)) (unit_answered thread u (Text text) there all.0)
           ∙ ap (λ (l : List UnitAnswer). Text text ∷ l) (each us texts all.1)
   bio_answered thread op access units (Fault unit) there are ops is =
       let u = is.1 in

@@ -19,11 +19,11 @@ use Rattle.bc_report.specs.Evictions.{Eviction, evictions_in, evictions_of, is_e
 use Rattle.bc_report.specs.Counts.{count_operations, is_reset_of, touches_under, touches_any, is_reset, is_programming_of, is_idle, CountsHold}
 use Rattle.bc_report.specs.LawfulRun.{HaveLawfulJournals}
 use Rattle.bc_compose.specs.SectionDone.{own_events}
-use Rattle.bc_compose.specs.Composed.{AreSectionsOf}
-use Rattle.bc_compose.proofs.Lists.{In, all_at, all_from_in}
+use Rattle.bc_compose.specs.ComposedRun.{AreSectionsOf}
 use Rattle.bc_compose.proofs.Flat.{in_enumerated, slice_zip}
 use Rattle.bc_compose.proofs.Sums.{sum_plus, sum_le, sum_same, count_own, sum_lists, count_flat, get_zip, length_zip}
 use Rattle.bc_compose.proofs.Orders.{at_map}
+use Rattle.bc_base.proofs.Members.{In, all_at, all_from_in}
 
 module _ (sizes : UnitsHaveSizes) (blocks : UnitsLieInBlocks) (unrefused : UnrefusedIsAccepted)
     (script : Script) (image : List ℕ) (shards : ℕ) (report : Report) (left : List ℕ) (made : ℕ → List Entry) (orders : List (List Entry)) (journals : List (List Noted))

@@ -8,9 +8,10 @@ use Rattle.std.proofs.lemmas.Bool.{true≢false, eq-eqb, eqb-true, and_parts}
 use Rattle.bc_base.specs.Story.{own}
 use Rattle.bc_bio.specs.PlannedUnit.{PlannedUnit}
 use Rattle.bc_medium.specs.declared.unit_name.UnitName.{UnitName}
-use Rattle.bc_medium.specs.LawfulOrders.{name_of, is_same}
-use Rattle.bc_compose.proofs.Lists.{In, all_at, all_from_in, in_of_filter, in_filter, in_append_cases, in_append_left, in_append_right}
+use Rattle.bc_medium.specs.LawfulOrders.{unit_name_of, is_same}
+use Rattle.bc_compose.proofs.Lists.{in_filter}
 use Rattle.bc_compose.proofs.Names.{Apart, shares}
+use Rattle.bc_base.proofs.Members.{In, in_append_left, in_append_right, in_append_cases, in_of_filter, all_at, all_from_in}
 
 -- no two elements have one name
 abbrev pub Distinct : {X N : Type 0} → (X → N) → List X → Type 0
@@ -54,10 +55,10 @@ distinct_same f (z ∷ zs) x y all a b same =
     a
 
 -- units that are apart
-pub distinct_units : (thread : ℕ) (us : List PlannedUnit) → Apart us → Distinct (name_of thread) us
+pub distinct_units : (thread : ℕ) (us : List PlannedUnit) → Apart us → Distinct (unit_name_of thread) us
 distinct_units thread [] apart = tt
 distinct_units thread (u ∷ us) apart = (
-  all_from_in (λ v. name_of thread u ≡ name_of thread v → ⊥) us
+  all_from_in (λ v. unit_name_of thread u ≡ unit_name_of thread v → ⊥) us
       (λ v at same.
       let ops : u.tag ≡ v.tag = ap (λ (n : UnitName). n.op) same in
       let units : u.unit ≡ v.unit = ap (λ (n : UnitName). n.unit) same in

@@ -5,7 +5,7 @@ use Rattle.std.specs.List.{AllZip, enumerate_from}
 use Rattle.std.proofs.Math.Logic.{⊎_elim}
 use Rattle.std.proofs.lemmas.Option.{none-some, same_Some}
 use Rattle.bc_base.specs.Lists.{list_at}
-use Rattle.bc_compose.proofs.Lists.{In, in_append_left, in_append_right, in_append_cases}
+use Rattle.bc_base.proofs.Members.{In, in_append_left, in_append_right, in_append_cases}
 
 -- ---- lists that go beside one another
 

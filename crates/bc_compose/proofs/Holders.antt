@@ -1,7 +1,7 @@
 -- The journal of one caller's uses: no slot is found with references, and at the end every slot is idle.
 use Rattle.std.proofs.Common.{◌≡◌, ◌≢◌, ℕ, zero, suc, ◌+◌, ◌<◌, ◌≤◌, Bool, true, false, cond, List, [], ◌∷◌, ◌++◌, length, map, refl, sym, ap, subst, ◌∙◌, Option, Some, None, arith}
-use Rattle.std.specs.Prelude.{◌==◌, ◌||◌, ◌&&◌, not, is_some, unwrap_or}
-use Rattle.std.specs.List.{AllZip, enumerate_from, list_all, list_any, range_with_len}
+use Rattle.std.specs.Prelude.{◌==◌, ◌||◌, not, is_some, unwrap_or}
+use Rattle.std.specs.List.{AllZip, enumerate_from, list_any, range_with_len}
 use Rattle.std.specs.Option.{option_map_or}
 use Rattle.std.proofs.Math.Logic.{⊎_elim}
 use Rattle.std.proofs.lemmas.Bool.{eq-eqb, eqb-true, ne_eqb, cases_eq}
@@ -19,7 +19,8 @@ use Rattle.bc_script.specs.Script.{Script}
 use Rattle.bc_report.specs.Holders.{HasHolders, HaveHolders}
 use Rattle.bc_report.specs.LawfulRun.{EndIdle}
 use Rattle.bc_report.specs.SerialRun.{serial_journal, uses_of}
-use Rattle.bc_compose.specs.Composed.{SerialRunsHaveKnownHolders, FindsNone}
+use Rattle.bc_compose.specs.ComposedRun.{SerialRunsHaveKnownHolders, FindsNone}
+use Rattle.bc_profile.proofs.SoloLemmas.{all_true}
 
 -- ---- events one after the other
 
@@ -153,12 +154,6 @@ listed_in_range first (suc n) o low high =
 
 opening_idle : (count : ℕ) → AreIdle count (opening count)
 opening_idle count o inside = listed_in_range 0 count o (omega arith) (omega arith)
-
-all_true : (test : ℕ → Bool) (first n : ℕ) → ((k : ℕ) → k < first + n → test k ≡ true) → list_all test (range_with_len first n) ≡ true
-all_true test first zero each = refl
-all_true test first (suc n) each =
-    ap (λ (b : Bool). b && list_all test (range_with_len (first + 1) n)) (each first (omega arith))
-    ∙ all_true test (first + 1) n (λ k less. each k (omega (arith, less)))
 
 all_idle : (count : ℕ) (done : List Use) → AllIdle count (journal_of (opening count) done)
 all_idle count done =

@@ -19,11 +19,11 @@ use Rattle.bc_script.specs.Plan.{plan_of}
 use Rattle.bc_report.specs.Report.{Report}
 use Rattle.bc_report.specs.RunOf.{name_in, orders_of, run_of}
 use Rattle.bc_report.specs.SerialRun.{NamesHold, NamesHoldUnder, serial_order, IsSerial}
-use Rattle.bc_compose.specs.Closed.{line_of}
-use Rattle.bc_compose.specs.Composed.{AreSectionsOf, FollowOneAnother, NamesItsHold, AreUses}
-use Rattle.bc_compose.proofs.Lists.{all_at}
+use Rattle.bc_compose.specs.ClosedOrders.{report_line_of}
+use Rattle.bc_compose.specs.ComposedRun.{AreSectionsOf, FollowOneAnother, NamesItsHold, AreUses}
 use Rattle.bc_compose.proofs.Orders.{at_map, own_order}
 use Rattle.bc_compose.proofs.Whole.{few, has_made, the_run, run_is, orders_are, made_of, own_key_is, each_line}
+use Rattle.bc_base.proofs.Members.{all_at}
 
 module _ (sizes : UnitsHaveSizes) (blocks : UnitsLieInBlocks) (unrefused : UnrefusedIsAccepted)
     (script : Script) (image : List ℕ) (shards : ℕ) (report : Report) (left : List ℕ) (made : ℕ → List Entry) (orders : List (List Entry)) (journals : List (List Noted))
@@ -35,7 +35,7 @@ module _ (sizes : UnitsHaveSizes) (blocks : UnitsLieInBlocks) (unrefused : Unref
   plan = plan_of script
 
   count : length report.shards ≡ shards
-  count = ap length done.reported.shards ∙ length-map orders (map line_of) ∙ done.shards_closed.one_for_each
+  count = ap length done.reported.shards ∙ length-map orders (map report_line_of) ∙ done.shards_closed.one_for_each
 
   module _ (follow : FollowOneAnother shards callers made orders) where
     -- a thread's part of an order is its attempted units

@@ -6,7 +6,7 @@ use Rattle.bc_profile.specs.declared.noted.Noted.{Noted}
 use Rattle.bc_script.specs.Script.{Script}
 use Rattle.bc_report.specs.Report.{Report}
 use Rattle.bc_report.specs.LawfulRun.{LawfulButHolders}
-use Rattle.bc_compose.specs.Composed.{AreSectionsOf}
+use Rattle.bc_compose.specs.ComposedRun.{AreSectionsOf}
 use Rattle.bc_compose.proofs.Whole.{orders_hold, answers_hold, image_holds, ways_hold}
 use Rattle.bc_compose.proofs.Counted.{journals_hold, evictions_hold, busy_answers_hold, counts_hold}
 use Rattle.bc_compose.proofs.Programmed.{programmings_hold}

@@ -12,15 +12,16 @@ use Rattle.bc_base.specs.Lists.{list_at}
 use Rattle.bc_bio.specs.declared.extent.Extent.{Extent}
 use Rattle.bc_bio.specs.PlannedUnit.{PlannedUnit}
 use Rattle.bc_medium.specs.declared.unit_name.UnitName.{UnitName}
-use Rattle.bc_medium.specs.Places.{shard_of}
-use Rattle.bc_medium.specs.LawfulOrders.{name_of, is_attempted, is_earlier, at_place, faulted, attempted_on}
+use Rattle.bc_medium.specs.Layout.{shard_of}
+use Rattle.bc_medium.specs.LawfulOrders.{unit_name_of, is_attempted, is_earlier, at_place, faulted, attempted_on}
 use Rattle.bc_script.specs.declared.op.Op.{Op}
 use Rattle.bc_script.specs.Script.{Script, keys_of}
 use Rattle.bc_script.specs.Plan.{unit_at, units_of, units_of_section, plan_of}
-use Rattle.bc_compose.proofs.Lists.{In, in_at, all_at, all_from_in, in_of_filter, in_of_map, any_in, any_from, same_tests, filter-map, map-map, slice_get_append}
+use Rattle.bc_compose.proofs.Lists.{in_at, filter-map, slice_get_append}
 use Rattle.bc_compose.proofs.Distinct.{in_of_range}
-use Rattle.bc_compose.proofs.Units.{all_of, all_append, all_map, by_bio, ops_of, later_ops, later_units}
+use Rattle.bc_compose.proofs.Units.{all_map, by_bio, ops_of, later_ops, later_units}
 use Rattle.bc_compose.proofs.Orders.{in_filter_map, in_of_filter_map, at_is, within_of}
+use Rattle.bc_base.proofs.Members.{map-map, In, in_of_map, in_of_filter, any_in, any_from, same_tests, all_at, all_from_in, all_append, all_of}
 
 -- ---- items that have a name and lie in a shard
 
@@ -166,38 +167,38 @@ in_turn_map f name [] turn = tt
 in_turn_map f name (x ∷ xs) turn = (all_map (λ y. is_earlier (name y) (name (f x)) ≡ false) f xs turn.0, in_turn_map f name xs turn.1)
 
 module _ (script : Script) (thread : ℕ) where
-  turn_bio : (op : ℕ) (operation : Op) (bio : Extent) (first n : ℕ) → InTurn (name_of thread) (map (unit_at (keys_of script) op operation bio) (range_with_len first n))
+  turn_bio : (op : ℕ) (operation : Op) (bio : Extent) (first n : ℕ) → InTurn (unit_name_of thread) (map (unit_at (keys_of script) op operation bio) (range_with_len first n))
   turn_bio op operation bio first zero = tt
   turn_bio op operation bio first (suc n) =
       let u = unit_at (keys_of script) op operation bio first in
       let rest = map (unit_at (keys_of script) op operation bio) (range_with_len (first + 1) n) in (
-        all_of (λ (v : PlannedUnit). first + 1 ≤ v.unit) (λ (v : PlannedUnit). is_earlier (name_of thread v) (name_of thread u) ≡ false) rest
+        all_of (λ (v : PlannedUnit). first + 1 ≤ v.unit) (λ (v : PlannedUnit). is_earlier (unit_name_of thread v) (unit_name_of thread u) ≡ false) rest
             (λ v low. and_right ((thread == thread) && (v.tag == op)) (nat_lt v.unit first) (le-ltb v.unit first (omega arith)))
             (later_units (keys_of script) op operation bio (first + 1) n),
         turn_bio op operation bio (first + 1) n,
       )
 
-  turn_from : (op : ℕ) (section : List Op) → InTurn (name_of thread) (flat_map (units_of script) (enumerate_from op section))
+  turn_from : (op : ℕ) (section : List Op) → InTurn (unit_name_of thread) (flat_map (units_of script) (enumerate_from op section))
   turn_from op [] = tt
   turn_from op (operation ∷ section) =
       let rest = flat_map (units_of script) (enumerate_from (op + 1) section) in
-      in_turn_append (name_of thread) (units_of script (op, operation)) rest
-      (by_bio (InTurn (name_of thread)) script op operation tt (λ bio _ _. turn_bio op operation bio 0 bio.units))
+      in_turn_append (unit_name_of thread) (units_of script (op, operation)) rest
+      (by_bio (InTurn (unit_name_of thread)) script op operation tt (λ bio _ _. turn_bio op operation bio 0 bio.units))
       (turn_from (op + 1) section)
-      (all_of (λ (u : PlannedUnit). u.tag ≡ op) (λ (u : PlannedUnit). AllByRecursion (λ v. is_earlier (name_of thread v) (name_of thread u) ≡ false) rest) (units_of script (op, operation))
-      (λ u here. all_of (λ (v : PlannedUnit). op + 1 ≤ v.tag) (λ (v : PlannedUnit). is_earlier (name_of thread v) (name_of thread u) ≡ false) rest
+      (all_of (λ (u : PlannedUnit). u.tag ≡ op) (λ (u : PlannedUnit). AllByRecursion (λ v. is_earlier (unit_name_of thread v) (unit_name_of thread u) ≡ false) rest) (units_of script (op, operation))
+      (λ u here. all_of (λ (v : PlannedUnit). op + 1 ≤ v.tag) (λ (v : PlannedUnit). is_earlier (unit_name_of thread v) (unit_name_of thread u) ≡ false) rest
       (λ v low. and_left ((thread == thread) && (v.tag == u.tag)) (nat_lt v.unit u.unit) (and_right (thread == thread) (v.tag == u.tag) (ne_eqb v.tag u.tag (λ e. omega arith))))
       (later_ops script (op + 1) section))
       (ops_of script op operation))
 
-  turn_at : (sections : List (List Op)) (t : ℕ) → InTurn (name_of thread) (list_at (map (units_of_section script) sections) t)
+  turn_at : (sections : List (List Op)) (t : ℕ) → InTurn (unit_name_of thread) (list_at (map (units_of_section script) sections) t)
   turn_at [] t = tt
   turn_at (section ∷ sections) zero = turn_from 0 section
   turn_at (section ∷ sections) (suc t) = turn_at sections t
 
 -- a unit of a thread, by name
 abbrev pub name_in_plan : ℕ × PlannedUnit → UnitName
-name_in_plan item = name_of item.0 item.1
+name_in_plan item = unit_name_of item.0 item.1
 
 -- the shard of its sectors
 abbrev pub lies_on : ℕ → ℕ × PlannedUnit → ℕ
@@ -237,7 +238,7 @@ sections_are shards plan faults orders shard first (suc n) =
     let pair : PlannedUnit → ℕ × PlannedUnit = λ u. (first, u) in
     let us = list_at plan first in
     let on = λ (u : PlannedUnit). shard_of shards u.sector == shard in
-    let mine : filter (is_attempted met) (map (name_of first) (filter on us)) ≡ part name_in_plan (lies_on shards) met shard (map pair us) =
+    let mine : filter (is_attempted met) (map (unit_name_of first) (filter on us)) ≡ part name_in_plan (lies_on shards) met shard (map pair us) =
     sym (ap (λ (l : List (ℕ × PlannedUnit)). filter (is_attempted met) (map name_in_plan l)) (filter-map pair (λ x. lies_on shards x == shard) us)
     ∙ ap (filter (is_attempted met)) (map-map pair name_in_plan (filter on us))) in
     ap (λ (l : List UnitName). l ++ flat_map (attempted_on shards plan faults orders shard) (range_with_len (first + 1) n)) mine

@@ -33,11 +33,10 @@ use Rattle.bc_report.specs.Answers.{IsAnswerTo, AreAnswersTo, HasAnswers}
 use Rattle.bc_report.specs.Evictions.{Eviction, eviction_in, evictions_in, evictions_of, is_busy_with, names_busy, count_answered, IsEvictionAnswer, BusyAnswersHold}
 use Rattle.bc_report.specs.Ways.{HasWay, HaveWays, way_in}
 use Rattle.bc_report.specs.SerialRun.{uses_of, journal_by, serial_journal, uses_through, NamesHoldUnder, NamesHold, IsSerialRun}
-use Rattle.bc_compose.specs.Composed.{SerialRunsAgree, FindsNone}
-use Rattle.bc_compose.proofs.Lists.{In, all_at, in_append_left, in_append_right}
+use Rattle.bc_compose.specs.ComposedRun.{SerialRunsAgree, FindsNone}
 use Rattle.bc_compose.proofs.Holders.{each_of_uses, use_finds_none}
-use Rattle.bc_compose.proofs.Units.{all_of}
 use Rattle.bc_compose.proofs.OneOrder.{InSections, one_order}
+use Rattle.bc_base.proofs.Members.{In, in_append_left, in_append_right, all_at, all_of}
 
 -- ---- counts and lists
 

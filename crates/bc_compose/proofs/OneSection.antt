@@ -16,8 +16,8 @@ use Rattle.bc_script.specs.Script.{Script}
 use Rattle.bc_script.specs.Plan.{plan_of, units_of_section}
 use Rattle.bc_report.specs.Holders.{touches, evicts, count_others, may_refuse, may_skip, HasHolders}
 use Rattle.bc_report.specs.LawfulRun.{HaveLawfulJournals}
-use Rattle.bc_compose.specs.Composed.{FindsNone, OneSectionFindsNone}
-use Rattle.bc_compose.proofs.Lists.{In, any_in}
+use Rattle.bc_compose.specs.ComposedRun.{FindsNone, OneSectionFindsNone}
+use Rattle.bc_base.proofs.Members.{In, any_in}
 
 -- of a list of one element every element has number 0
 numbered_0 : {X : Type 0} (xs : List X) (at' : ℕ × X) → length xs ≡ 1 → In at' (enumerate_from 0 xs) → at'.0 ≡ 0

@@ -11,14 +11,15 @@ use Rattle.bc_base.specs.Story.{own}
 use Rattle.bc_bio.specs.PlannedUnit.{PlannedUnit}
 use Rattle.bc_medium.specs.declared.entry.Entry.{Entry}
 use Rattle.bc_medium.specs.declared.unit_name.UnitName.{UnitName}
-use Rattle.bc_medium.specs.Places.{shard_of}
+use Rattle.bc_medium.specs.Layout.{shard_of}
 use Rattle.bc_medium.specs.KeyedDisk.{meets_fault}
 use Rattle.bc_medium.specs.Entries.{caller_of, name_of_entry}
-use Rattle.bc_medium.specs.LawfulOrders.{name_of, is_attempted, is_earlier, at_place, faulted, attempted_on, entries_of, LawfulOrders}
+use Rattle.bc_medium.specs.LawfulOrders.{unit_name_of, is_attempted, is_earlier, at_place, faulted, attempted_on, entries_of, LawfulOrders}
 use Rattle.bc_base.specs.Lists.{list_at}
 use Rattle.bc_medium.specs.Growth.{IsEntryOf, failed_names, attempted_by, lies_in}
-use Rattle.bc_compose.specs.Closed.{ShardsClosed}
-use Rattle.bc_compose.proofs.Lists.{In, in_at, place_of, in_map, in_of_map, in_filter, in_of_filter, any_in, any_from, same_tests, filter-map, filter_same_in, filter_swap, filter_beside, map_beside, own_seen, all_at}
+use Rattle.bc_compose.specs.ClosedOrders.{ShardsClosed}
+use Rattle.bc_compose.proofs.Lists.{in_at, place_of, in_map, in_filter, filter-map, filter_swap, filter_beside, map_beside, own_seen}
+use Rattle.bc_base.proofs.Members.{In, in_of_map, in_of_filter, any_in, any_from, same_tests, filter_same_in, all_at}
 
 -- what each thread has made: the part of `SectionDone` that the orders stand on
 pub record HasMade (shards thread : ℕ) (issued : List PlannedUnit) (seen : List (List Entry)) (made : List Entry) : Type 0 where
@@ -26,7 +27,7 @@ pub record HasMade (shards thread : ℕ) (issued : List PlannedUnit) (seen : Lis
   pub entries : (shard : ℕ) → shard < shards → own caller_of thread (list_at seen shard) ≡ filter (lies_in shards shard) made
 
 -- an entry has its unit's name, sector and caller
-pub named : (thread : ℕ) (u : PlannedUnit) (e : Entry) → IsEntryOf thread u e → name_of_entry e ≡ name_of thread u
+pub named : (thread : ℕ) (u : PlannedUnit) (e : Entry) → IsEntryOf thread u e → name_of_entry e ≡ unit_name_of thread u
 named thread u e is = ap (λ at'. record { thread = at'.caller; op = at'.tag; unit = at'.unit }) is.unit
 
 pub by_thread : (thread : ℕ) (u : PlannedUnit) (e : Entry) → IsEntryOf thread u e → caller_of e ≡ thread
@@ -137,14 +138,14 @@ module _ (faults : List (ℕ × ℕ)) (shards callers : ℕ) (some : 1 ≤ shard
   shard_within s = mod_below (s / 8) shards (omega (arith, some))
 
   -- the names at planned places are, of one thread, those of its failed entries
-  pub same_attempted : (thread : ℕ) (u : PlannedUnit) → thread < callers → is_attempted (faulted faults names) (name_of thread u) ≡ is_attempted (failed_names (made thread)) (name_of thread u)
+  pub same_attempted : (thread : ℕ) (u : PlannedUnit) → thread < callers → is_attempted (faulted faults names) (unit_name_of thread u) ≡ is_attempted (failed_names (made thread)) (unit_name_of thread u)
   same_attempted thread u there =
       ap not
       (same_tests
-      (list_any (λ f. is_earlier f (name_of thread u)) (faulted faults names))
-      (list_any (λ f. is_earlier f (name_of thread u)) (failed_names (made thread)))
+      (list_any (λ f. is_earlier f (unit_name_of thread u)) (faulted faults names))
+      (list_any (λ f. is_earlier f (unit_name_of thread u)) (failed_names (made thread)))
       (λ any.
-      let r = any_in (λ f. is_earlier f (name_of thread u)) (faulted faults names) any in
+      let r = any_in (λ f. is_earlier f (unit_name_of thread u)) (faulted faults names) any in
       let f = r.0 in
       let by : f.thread ≡ thread = eqb-true f.thread thread (and_parts (f.thread == thread) (f.op == u.tag) (and_parts ((f.thread == thread) && (f.op == u.tag)) (nat_lt f.unit u.unit) r.2).0).0 in
       let g = in_of_filter_map (at_place names) faults f r.1 in
@@ -153,13 +154,13 @@ module _ (faults : List (ℕ × ℕ)) (shards callers : ℕ) (some : 1 ≤ shard
       let m = made_by g.0.0 e stood.1 (in_at (list_at orders g.0.0) g.0.1 e stood.2) in
       let failed : e.failed ≡ true = closed.planned g.0.0 g.0.1 e stood.1 stood.2 ∙ fault_meets faults g.0.0 g.0.1 g.1 in
       let mine : caller_of e ≡ thread = ap (λ (n : UnitName). n.thread) stood.3 ∙ by in
-      any_from (λ h. is_earlier h (name_of thread u)) (failed_names (made thread)) f
+      any_from (λ h. is_earlier h (unit_name_of thread u)) (failed_names (made thread)) f
       (subst (λ n. In n (failed_names (made thread))) stood.3
       (in_map name_of_entry (filter (λ x. x.failed) (made thread)) e
       (in_filter (λ x. x.failed) (made thread) e (subst (λ t. In e (made t)) mine m.1) failed)))
       r.2)
       (λ any.
-      let r = any_in (λ f. is_earlier f (name_of thread u)) (failed_names (made thread)) any in
+      let r = any_in (λ f. is_earlier f (unit_name_of thread u)) (failed_names (made thread)) any in
       let g = in_of_map name_of_entry (filter (λ x. x.failed) (made thread)) r.0 r.1 in
       let e = g.0 in
       let both = in_of_filter (λ x. x.failed) (made thread) e g.1 in
@@ -168,11 +169,11 @@ module _ (faults : List (ℕ × ℕ)) (shards callers : ℕ) (some : 1 ≤ shard
       let here = stands thread e there both.0 shard within (eq-eqb shard shard refl) in
       let p = place_of (list_at orders shard) e here in
       let planned : meets_fault faults shard p.0 ≡ true = sym (closed.planned shard p.0 e within p.1) ∙ both.1 in
-      any_from (λ h. is_earlier h (name_of thread u)) (faulted faults names) r.0
+      any_from (λ h. is_earlier h (unit_name_of thread u)) (faulted faults names) r.0
       (in_filter_map (at_place names) faults (shard, p.0) r.0 (fault_in faults shard p.0 planned) (place_is shard p.0 e within p.1 ∙ ap (λ n. Some n) g.2))
       r.2))
     where
-      -- the entry behind a name at a place
+      -- the entry of a name at a place
       entry_at : (shard place : ℕ) (f : UnitName) → at_place names (shard, place) ≡ Some f
           → (e : Entry) × (shard < shards) × (slice_get (list_at orders shard) place ≡ Some e) × (name_of_entry e ≡ f)
       entry_at shard place f is =
@@ -203,13 +204,13 @@ module _ (faults : List (ℕ × ℕ)) (shards callers : ℕ) (some : 1 ≤ shard
       ap (entries_of thread) (at_map name_of_entry orders shard)
       ∙ filter-map name_of_entry (λ (n : UnitName). n.thread == thread) (list_at orders shard)
       ∙ ap (map name_of_entry) ((closed.fronts thread shard there within).own_entries ∙ mine.entries shard within)
-      ∙ sym (map_beside (IsEntryOf thread) (name_of thread) name_of_entry (filter on (attempted_by thread met issued)) (filter (lies_in shards shard) (made thread))
+      ∙ sym (map_beside (IsEntryOf thread) (unit_name_of thread) name_of_entry (filter on (attempted_by thread met issued)) (filter (lies_in shards shard) (made thread))
       (λ u e is. sym (named thread u e is))
       (filter_beside (IsEntryOf thread) on (lies_in shards shard) (attempted_by thread met issued) (made thread)
       (λ u e is. ap (λ s. shard_of shards s == shard) (sym (placed thread u e is))) mine.attempts))
-      ∙ ap (map (name_of thread)) (filter_swap on (λ u. is_attempted met (name_of thread u)) issued)
-      ∙ ap (map (name_of thread)) (sym (filter_same_in (λ u. is_attempted (faulted faults names) (name_of thread u)) (λ u. is_attempted met (name_of thread u)) (filter on issued) (λ u _. same_attempted thread u there)))
-      ∙ sym (filter-map (name_of thread) (is_attempted (faulted faults names)) (filter on issued))
+      ∙ ap (map (unit_name_of thread)) (filter_swap on (λ u. is_attempted met (unit_name_of thread u)) issued)
+      ∙ ap (map (unit_name_of thread)) (sym (filter_same_in (λ u. is_attempted (faulted faults names) (unit_name_of thread u)) (λ u. is_attempted met (unit_name_of thread u)) (filter on issued) (λ u _. same_attempted thread u there)))
+      ∙ sym (filter-map (unit_name_of thread) (is_attempted (faulted faults names)) (filter on issued))
 
   -- there are no entries of a thread that there isn't
   no_order : (shard thread : ℕ) → shard < shards → callers ≤ thread → entries_of thread (list_at names shard) ≡ []
@@ -232,6 +233,6 @@ module _ (faults : List (ℕ × ℕ)) (shards callers : ℕ) (some : 1 ≤ shard
         ⊎_elim
         (λ (there : thread < callers). own_order shard thread within there)
         (λ (past : callers ≤ thread). no_order shard thread within past
-        ∙ sym (ap (λ (us : List PlannedUnit). filter (is_attempted (faulted faults names)) (map (name_of thread) (filter (λ u. shard_of shards u.sector == shard) us))) (get_or_past plan thread [] (omega (arith, few)))))
+        ∙ sym (ap (λ (us : List PlannedUnit). filter (is_attempted (faulted faults names)) (map (unit_name_of thread) (filter (λ u. shard_of shards u.sector == shard) us))) (get_or_past plan thread [] (omega (arith, few)))))
         (cases_lt thread callers);
   }

@@ -16,14 +16,14 @@ use Rattle.bc_bio.specs.PlannedUnit.{PlannedUnit}
 use Rattle.bc_bio.specs.Check.{check_of}
 use Rattle.bc_bio.specs.Conditions.{HasKey}
 use Rattle.bc_bio.specs.Laws.{UnitsHaveSizes, UnitsLieInBlocks, UnrefusedIsAccepted}
-use Rattle.bc_medium.specs.Places.{shard_of}
+use Rattle.bc_medium.specs.Layout.{shard_of}
 use Rattle.bc_script.specs.declared.op.Op.{Op}
 use Rattle.bc_script.specs.declared.op.Op.TheVariants as ops
 use Rattle.bc_script.specs.Script.{Script, IsScript, IsContext, IsOp, IsSection, device_count, keys_of, sectors_in}
 use Rattle.bc_script.specs.Bios.{bio_of, unsupported_of, refusal_of}
 use Rattle.bc_script.specs.Plan.{unit_at, units_of, units_of_section}
-use Rattle.bc_compose.proofs.Lists.{In, all_at}
-use Rattle.bc_compose.proofs.Units.{all_append, by_bio}
+use Rattle.bc_compose.proofs.Units.{by_bio}
+use Rattle.bc_base.proofs.Members.{In, all_at, all_append}
 
 -- a bio that isn't refused is well formed
 no_error : (o : Option BioError) (other : Option Refusal) → option_map_or (λ error. Some (refusals.Bio error)) o other ≡ None → o ≡ None
@@ -46,11 +46,11 @@ key_of_bio devices keys ops.Plug bio rule is = absurd (none-some bio is)
 key_of_bio devices keys ops.Unplug bio rule is = absurd (none-some bio is)
 
 -- the units of a context and of those that follow are of one size
-sectors_after : (keys : List KeyData) (context : Option Context) (i : ℕ) → unit_sectors keys (context_after i context) ≡ unit_sectors keys context
+pub sectors_after : (keys : List KeyData) (context : Option Context) (i : ℕ) → unit_sectors keys (context_after i context) ≡ unit_sectors keys context
 sectors_after keys None i = refl
 sectors_after keys (Some context) i = refl
 
-all_within : {A : Type 0} (P : A → Type 0) (f : ℕ → A) (first n bound : ℕ) → first + n ≤ bound → ((i : ℕ) → i < bound → P (f i)) → AllByRecursion P (map f (range_with_len first n))
+pub all_within : {A : Type 0} (P : A → Type 0) (f : ℕ → A) (first n bound : ℕ) → first + n ≤ bound → ((i : ℕ) → i < bound → P (f i)) → AllByRecursion P (map f (range_with_len first n))
 all_within P f first zero bound within each = tt
 all_within P f first (suc n) bound within each = (each first (omega arith), all_within P f (first + 1) n bound (omega arith) each)
 

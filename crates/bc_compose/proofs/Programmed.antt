@@ -17,10 +17,10 @@ use Rattle.bc_medium.specs.declared.entry.Entry.{Entry}
 use Rattle.bc_medium.specs.declared.unit_name.UnitName.{UnitName}
 use Rattle.bc_medium.specs.declared.via.Via.{Via}
 use Rattle.bc_medium.specs.declared.via.Via.TheVariants as vias
-use Rattle.bc_medium.specs.Places.{shard_of}
+use Rattle.bc_medium.specs.Layout.{shard_of}
 use Rattle.bc_medium.specs.Entries.{caller_of, name_of_entry}
 use Rattle.bc_medium.specs.Growth.{attempted_by, failed_names, IsEntryOf}
-use Rattle.bc_medium.specs.LawfulOrders.{name_of, is_same, is_attempted}
+use Rattle.bc_medium.specs.LawfulOrders.{unit_name_of, is_same, is_attempted}
 use Rattle.bc_medium.specs.Outcome.{Run}
 use Rattle.bc_profile.specs.declared.event.Event.{Event}
 use Rattle.bc_profile.specs.declared.noted.Noted.{Noted}
@@ -34,16 +34,17 @@ use Rattle.bc_report.specs.declared.line.Line.{Line}
 use Rattle.bc_report.specs.Report.{Report}
 use Rattle.bc_report.specs.RunOf.{name_in, run_of, own_key}
 use Rattle.bc_report.specs.Evictions.{Eviction, eviction_in, evictions_of}
-use Rattle.bc_report.specs.Programmings.{Programs, NamesProgramming, via_of, InlineEntry, entry_by, entry_of, entries_in_order, passes, InOrder, ProgrammingsHold}
+use Rattle.bc_report.specs.Programmings.{IsProgramming, NamesProgramming, via_of, InlineEntry, entry_by, entry_of, entries_in_order, passes, InOrder, ProgrammingsHold}
 use Rattle.bc_compose.specs.SectionDone.{key_of_entry, inline_of, NamesOwn}
-use Rattle.bc_compose.specs.Closed.{line_of}
-use Rattle.bc_compose.specs.Composed.{AreSectionsOf}
-use Rattle.bc_compose.proofs.Lists.{In, all_at, all_from_in, in_map, in_of_map, in_of_filter, beside, any_in, any_from, slice_get_append}
+use Rattle.bc_compose.specs.ClosedOrders.{report_line_of}
+use Rattle.bc_compose.specs.ComposedRun.{AreSectionsOf}
+use Rattle.bc_compose.proofs.Lists.{in_map, slice_get_append}
 use Rattle.bc_compose.proofs.Flat.{in_flat, in_of_flat, numbered}
 use Rattle.bc_compose.proofs.Distinct.{same_names, same_itself, distinct_same, find_some, find_none}
 use Rattle.bc_compose.proofs.Orders.{named, at_map, in_of_filter_map}
 use Rattle.bc_compose.proofs.Whole.{few, the_run, run_is, has_made, made_of, own_key_is, stands_there, made_distinct, each_line}
 use Rattle.bc_compose.proofs.Counted.{device_at_is, own_evictions, eviction_from}
+use Rattle.bc_base.proofs.Members.{In, in_of_map, in_of_filter, beside, any_in, any_from, all_at, all_from_in}
 
 module _ (sizes : UnitsHaveSizes) (blocks : UnitsLieInBlocks) (unrefused : UnrefusedIsAccepted)
     (script : Script) (image : List ℕ) (shards : ℕ) (report : Report) (left : List ℕ) (made : ℕ → List Entry) (orders : List (List Entry)) (journals : List (List Noted))
@@ -66,15 +67,15 @@ module _ (sizes : UnitsHaveSizes) (blocks : UnitsLieInBlocks) (unrefused : Unref
 
   names_it : (t : ℕ) (name : UnitName) (key : Option ℕ) (via : Via) → t < callers → own_key (the_run sizes blocks unrefused script image shards report left made orders journals done) name ≡ key → NamesOwn (done.noted t) key via → NamesProgramming (the_run sizes blocks unrefused script image shards report left made orders journals done) report.devices name via
   names_it t name key (vias.Inline d s ev) there is named' =
-      subst (λ (o : Option ℕ). IsSomeAnd o (λ k. IsSomeAnd (slice_get (list_at report.devices d) ev) (Programs s k))) (sym is)
+      subst (λ (o : Option ℕ). IsSomeAnd o (λ k. IsSomeAnd (slice_get (list_at report.devices d) ev) (IsProgramming s k))) (sym is)
       (go key named')
     where
-      go : (key : Option ℕ) → IsSomeAnd key (λ k. IsSomeAnd (slice_get (events_of (list_at (done.noted t) d)) ev) (Programs s k)) → IsSomeAnd key (λ k. IsSomeAnd (slice_get (list_at report.devices d) ev) (Programs s k))
+      go : (key : Option ℕ) → IsSomeAnd key (λ k. IsSomeAnd (slice_get (events_of (list_at (done.noted t) d)) ev) (IsProgramming s k)) → IsSomeAnd key (λ k. IsSomeAnd (slice_get (list_at report.devices d) ev) (IsProgramming s k))
       go None h = h
       go (Some k) h =
-          (elim (slice_get (events_of (list_at (done.noted t) d)) ev) as (λ (o : Option Event). slice_get (events_of (list_at (done.noted t) d)) ev ≡ o → IsSomeAnd o (Programs s k) → IsSomeAnd (slice_get (list_at report.devices d) ev) (Programs s k)) [
+          (elim (slice_get (events_of (list_at (done.noted t) d)) ev) as (λ (o : Option Event). slice_get (events_of (list_at (done.noted t) d)) ev ≡ o → IsSomeAnd o (IsProgramming s k) → IsSomeAnd (slice_get (list_at report.devices d) ev) (IsProgramming s k)) [
             | None ↦ λ _ h'. absurd h'
-            | Some n ↦ λ at' h'. subst (λ (o : Option Event). IsSomeAnd o (Programs s k)) (sym (noted_stays t d ev n there at')) h'
+            | Some n ↦ λ at' h'. subst (λ (o : Option Event). IsSomeAnd o (IsProgramming s k)) (sym (noted_stays t d ev n there at')) h'
           ]) refl h
   names_it t name key vias.Plain there is named' = tt
   names_it t name key vias.Soft there is named' = tt
@@ -92,51 +93,51 @@ module _ (sizes : UnitsHaveSizes) (blocks : UnitsLieInBlocks) (unrefused : Unref
   abbrev all_lines : List Line
   all_lines = flat_map (λ lines. lines) report.shards
 
-  line_in : (t : ℕ) (e : Entry) → t < callers → In e (made t) → In (line_of e) all_lines
+  line_in : (t : ℕ) (e : Entry) → t < callers → In e (made t) → In (report_line_of e) all_lines
   line_in t e there at' =
       let s = shard_of shards e.at.sector in
       let within : s < shards = mod_below (e.at.sector / 8) shards (omega (arith, done.some)) in
       let here = stands_there sizes blocks unrefused script image shards report left made orders journals done t e there at' s within (eq-eqb s s refl) in
-      in_flat report.shards s (line_of e) (subst (In (line_of e)) (sym (ap (λ l. list_at l s) done.reported.shards ∙ at_map line_of orders s)) (in_map line_of (list_at orders s) e here))
+      in_flat report.shards s (report_line_of e) (subst (In (report_line_of e)) (sym (ap (λ l. list_at l s) done.reported.shards ∙ at_map report_line_of orders s)) (in_map report_line_of (list_at orders s) e here))
 
-  line_from : (line : Line) → In line all_lines → (e : Entry) × (line_of e ≡ line) × (caller_of e < callers) × In e (made (caller_of e))
+  line_from : (line : Line) → In line all_lines → (e : Entry) × (report_line_of e ≡ line) × (caller_of e < callers) × In e (made (caller_of e))
   line_from line at' =
       let r = in_of_flat report.shards line at' in
-      let e = in_of_map line_of (list_at orders r.0) line (subst (In line) (ap (λ l. list_at l r.0) done.reported.shards ∙ at_map line_of orders r.0) r.2) in
-      let long : length report.shards ≡ shards = ap length done.reported.shards ∙ length-map orders (map line_of) ∙ done.shards_closed.one_for_each in
+      let e = in_of_map report_line_of (list_at orders r.0) line (subst (In line) (ap (λ l. list_at l r.0) done.reported.shards ∙ at_map report_line_of orders r.0) r.2) in
+      let long : length report.shards ≡ shards = ap length done.reported.shards ∙ length-map orders (map report_line_of) ∙ done.shards_closed.one_for_each in
       let lt = r.1 in
       let m = made_of sizes blocks unrefused script image shards report left made orders journals done r.0 e.0 (omega arith) e.1 in
       (e.0, e.2, m.0, m.1)
 
   -- a made entry's line is the one of its unit's name
-  via_is : (t : ℕ) (u : PlannedUnit) (e : Entry) → t < callers → In u (list_at plan t) → IsEntryOf t u e → In e (made t) → via_of report (name_of t u) ≡ Some e.via
+  via_is : (t : ℕ) (u : PlannedUnit) (e : Entry) → t < callers → In u (list_at plan t) → IsEntryOf t u e → In e (made t) → via_of report (unit_name_of t u) ≡ Some e.via
   via_is t u e there at' is at'' =
-      let test = λ (line : Line). is_same (name_in line) (name_of t u) in
-      let name : name_of_entry e ≡ name_of t u = named t u e is in
-      let r = find_some test all_lines (line_of e) (line_in t e there at'') (subst (λ n. is_same n (name_of t u) ≡ true) (sym name) (same_itself (name_of t u))) in
+      let test = λ (line : Line). is_same (name_in line) (unit_name_of t u) in
+      let name : name_of_entry e ≡ unit_name_of t u = named t u e is in
+      let r = find_some test all_lines (report_line_of e) (line_in t e there at'') (subst (λ n. is_same n (unit_name_of t u) ≡ true) (sym name) (same_itself (unit_name_of t u))) in
       let f = line_from r.0 r.1 in
-      let same : name_of_entry f.0 ≡ name_of_entry e = ap name_in f.1 ∙ same_names (name_in r.0) (name_of t u) r.2 ∙ sym name in
+      let same : name_of_entry f.0 ≡ name_of_entry e = ap name_in f.1 ∙ same_names (name_in r.0) (unit_name_of t u) r.2 ∙ sym name in
       let mine : caller_of f.0 ≡ t = ap (λ (n : UnitName). n.thread) (same ∙ name) in
       let both : f.0 ≡ e = distinct_same name_of_entry (made t) f.0 e (made_distinct sizes blocks unrefused script image shards report left made orders journals done t there) (subst (λ c. In f.0 (made c)) mine f.3) at'' same in
       ap (option_map (λ (line : Line). line.via)) r.3
       ∙ ap (λ (line : Line). Some line.via) (sym f.1)
       ∙ ap (λ (x : Entry). Some x.via) both
 
-  no_via : (t : ℕ) (u : PlannedUnit) → t < callers → In u (list_at plan t) → is_attempted (failed_names (made t)) (name_of t u) ≡ false → via_of report (name_of t u) ≡ None
+  no_via : (t : ℕ) (u : PlannedUnit) → t < callers → In u (list_at plan t) → is_attempted (failed_names (made t)) (unit_name_of t u) ≡ false → via_of report (unit_name_of t u) ≡ None
   no_via t u there at' not' =
-      let test = λ (line : Line). is_same (name_in line) (name_of t u) in
+      let test = λ (line : Line). is_same (name_in line) (unit_name_of t u) in
       ap (option_map (λ (line : Line). line.via))
       (find_none test all_lines
       (λ line here. false_from_ne_true (test line)
       (λ passes.
       let f = line_from line here in
-      let name : name_of_entry f.0 ≡ name_of t u = ap name_in f.1 ∙ same_names (name_in line) (name_of t u) passes in
+      let name : name_of_entry f.0 ≡ unit_name_of t u = ap name_in f.1 ∙ same_names (name_in line) (unit_name_of t u) passes in
       let mine : caller_of f.0 ≡ t = ap (λ (n : UnitName). n.thread) name in
       let r = beside (IsEntryOf t) (attempted_by t (failed_names (made t)) (list_at plan t)) (made t) f.0 (has_made sizes blocks unrefused script image shards report left made orders journals done t there).attempts (subst (λ c. In f.0 (made c)) mine f.3) in
-      let b = in_of_filter (λ v. is_attempted (failed_names (made t)) (name_of t v)) (list_at plan t) r.0 r.1 in
+      let b = in_of_filter (λ v. is_attempted (failed_names (made t)) (unit_name_of t v)) (list_at plan t) r.0 r.1 in
       true≢false (sym b.1 ∙ ap (is_attempted (failed_names (made t))) (sym (named t r.0 f.0 r.2) ∙ name) ∙ not'))))
 
-  entry_is : (t : ℕ) (u : PlannedUnit) (e : Entry) → IsEntryOf t u e → via_of report (name_of t u) ≡ Some e.via → entry_of report t u ≡ inline_of e
+  entry_is : (t : ℕ) (u : PlannedUnit) (e : Entry) → IsEntryOf t u e → via_of report (unit_name_of t u) ≡ Some e.via → entry_of report t u ≡ inline_of e
   entry_is t u e is via =
       ap (option_and_then (λ via. option_and_then (λ (context : Context). entry_by u.tag context via) u.context)) via
       ∙ ap (λ (x : ℕ × Option Context). option_and_then (λ (context : Context). entry_by x.0 context e.via) x.1) (λ i. (sym (ap (λ x. x.tag) is.unit) i, sym (ap (λ x. x.context) is.unit) i))
@@ -145,20 +146,20 @@ module _ (sizes : UnitsHaveSizes) (blocks : UnitsLieInBlocks) (unrefused : Unref
   in_plans_order t there = go (list_at plan t) (made t) (λ u at'. at') (λ e at'. at') (has_made sizes blocks unrefused script image shards report left made orders journals done t there).attempts
     where
       first_made : (u : PlannedUnit) (us : List PlannedUnit) (es : List Entry) → In u (list_at plan t) → ((e : Entry) → In e es → In e (made t))
-          → ((rest : List Entry) → ((e : Entry) → In e rest → In e (made t)) → AllZip (IsEntryOf t) (filter (λ v. is_attempted (failed_names (made t)) (name_of t v)) us) rest → filter_map (entry_of report t) us ≡ filter_map inline_of rest)
-          → AllZip (IsEntryOf t) (u ∷ filter (λ v. is_attempted (failed_names (made t)) (name_of t v)) us) es → filter_map (entry_of report t) (u ∷ us) ≡ filter_map inline_of es
+          → ((rest : List Entry) → ((e : Entry) → In e rest → In e (made t)) → AllZip (IsEntryOf t) (filter (λ v. is_attempted (failed_names (made t)) (unit_name_of t v)) us) rest → filter_map (entry_of report t) us ≡ filter_map inline_of rest)
+          → AllZip (IsEntryOf t) (u ∷ filter (λ v. is_attempted (failed_names (made t)) (unit_name_of t v)) us) es → filter_map (entry_of report t) (u ∷ us) ≡ filter_map inline_of es
       first_made u us [] here made' later all = absurd all
       first_made u us (e ∷ es) here made' later all =
           ap (λ (o : Option _). cons_option o (filter_map (entry_of report t) us)) (entry_is t u e all.0 (via_is t u e there here all.0 (made' e (inl refl))))
           ∙ ap (cons_option (inline_of e)) (later es (λ x at'. made' x (inr at')) all.1)
 
       go : (us : List PlannedUnit) (es : List Entry) → ((u : PlannedUnit) → In u us → In u (list_at plan t)) → ((e : Entry) → In e es → In e (made t))
-          → AllZip (IsEntryOf t) (filter (λ u. is_attempted (failed_names (made t)) (name_of t u)) us) es → filter_map (entry_of report t) us ≡ filter_map inline_of es
+          → AllZip (IsEntryOf t) (filter (λ u. is_attempted (failed_names (made t)) (unit_name_of t u)) us) es → filter_map (entry_of report t) us ≡ filter_map inline_of es
       go [] [] planned' made' all = refl
       go [] (e ∷ es) planned' made' all = absurd all
       go (u ∷ us) es planned' made' all =
-          (elim (is_attempted (failed_names (made t)) (name_of t u)) as (λ (b : Bool). is_attempted (failed_names (made t)) (name_of t u) ≡ b
-          → AllZip (IsEntryOf t) (cond b (u ∷ filter (λ v. is_attempted (failed_names (made t)) (name_of t v)) us) (filter (λ v. is_attempted (failed_names (made t)) (name_of t v)) us)) es → filter_map (entry_of report t) (u ∷ us) ≡ filter_map inline_of es) [
+          (elim (is_attempted (failed_names (made t)) (unit_name_of t u)) as (λ (b : Bool). is_attempted (failed_names (made t)) (unit_name_of t u) ≡ b
+          → AllZip (IsEntryOf t) (cond b (u ∷ filter (λ v. is_attempted (failed_names (made t)) (unit_name_of t v)) us) (filter (λ v. is_attempted (failed_names (made t)) (unit_name_of t v)) us)) es → filter_map (entry_of report t) (u ∷ us) ≡ filter_map inline_of es) [
             | true ↦ λ _ all'. first_made u us es (planned' u (inl refl)) made' (λ rest made'' all''. go us rest (λ v at'. planned' v (inr at')) made'' all'') all'
             | false ↦ λ is all'.
                 ap (λ (o : Option _). cons_option o (filter_map (entry_of report t) us))

@@ -8,7 +8,7 @@ use Rattle.std.proofs.lemmas.Bool.{eq-eqb, ne_eqb}
 use Rattle.std.proofs.lemmas.List.Sums.{sum_by-cons, sum_by-append}
 use Rattle.bc_base.specs.Story.{own}
 use Rattle.bc_base.specs.Lists.{list_at}
-use Rattle.bc_compose.proofs.Lists.{In}
+use Rattle.bc_base.proofs.Members.{In}
 
 pub sum_plus : {X : Type 0} (f g : X → ℕ) (xs : List X) → sum_by (λ x. f x + g x) xs ≡ sum_by f xs + sum_by g xs
 sum_plus f g [] = omega arith

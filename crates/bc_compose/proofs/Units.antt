@@ -15,18 +15,10 @@ use Rattle.bc_script.specs.declared.op.Op.TheVariants as ops
 use Rattle.bc_script.specs.Bios.{bio_of, refusal_of}
 use Rattle.bc_script.specs.Script.{Script, keys_of}
 use Rattle.bc_script.specs.Plan.{unit_at, units_of, units_of_bio, units_of_section}
-use Rattle.bc_compose.proofs.Lists.{In}
 use Rattle.bc_compose.proofs.Names.{Apart, shares}
+use Rattle.bc_base.proofs.Members.{In, all_append, all_of}
 
 -- ---- facts of each element
-
-pub all_of : {A : Type 0} (P Q : A → Type 0) (xs : List A) → ((x : A) → P x → Q x) → AllByRecursion P xs → AllByRecursion Q xs
-all_of P Q [] f all = tt
-all_of P Q (x ∷ xs) f all = (f x all.0, all_of P Q xs f all.1)
-
-pub all_append : {A : Type 0} (P : A → Type 0) (xs ys : List A) → AllByRecursion P xs → AllByRecursion P ys → AllByRecursion P (xs ++ ys)
-all_append P [] ys ps qs = qs
-all_append P (x ∷ xs) ys ps qs = (ps.0, all_append P xs ys ps.1 qs)
 
 pub all_map : {A B : Type 0} (P : B → Type 0) (f : A → B) (xs : List A) → AllByRecursion (λ x. P (f x)) xs → AllByRecursion P (map f xs)
 all_map P f [] ps = tt

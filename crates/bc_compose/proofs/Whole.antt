@@ -16,7 +16,7 @@ use Rattle.bc_bio.specs.PlannedUnit.{PlannedUnit}
 use Rattle.bc_bio.specs.Laws.{UnitsHaveSizes, UnitsLieInBlocks, UnrefusedIsAccepted}
 use Rattle.bc_medium.specs.declared.entry.Entry.{Entry}
 use Rattle.bc_medium.specs.declared.unit_name.UnitName.{UnitName}
-use Rattle.bc_medium.specs.Places.{shard_of}
+use Rattle.bc_medium.specs.Layout.{shard_of}
 use Rattle.bc_medium.specs.KeyedDisk.{Sectors}
 use Rattle.bc_medium.specs.Entries.{caller_of, name_of_entry}
 use Rattle.bc_medium.specs.Growth.{attempted_by, failed_names, IsEntryOf, lies_in}
@@ -37,9 +37,8 @@ use Rattle.bc_report.specs.RunOf.{name_in, orders_of, run_of, own_key}
 use Rattle.bc_report.specs.Answers.{answer_of_outcome, answer_of_bio, IsAnswerTo, AreAnswersTo, HasAnswers}
 use Rattle.bc_report.specs.Ways.{way_in, HasWay, HaveWays}
 use Rattle.bc_compose.specs.SectionDone.{key_of_entry, IsReply, IsBioAnswer, SaysItsWay}
-use Rattle.bc_compose.specs.Closed.{line_of}
-use Rattle.bc_compose.specs.Composed.{AreSectionsOf}
-use Rattle.bc_compose.proofs.Lists.{In, all_at, all_from_in, in_of_map, map-map}
+use Rattle.bc_compose.specs.ClosedOrders.{report_line_of}
+use Rattle.bc_compose.specs.ComposedRun.{AreSectionsOf}
 use Rattle.bc_compose.proofs.Flat.{zip_from_each, zip_weaker, stands_at}
 use Rattle.bc_compose.proofs.Names.{Apart}
 use Rattle.bc_compose.proofs.Distinct.{Distinct}
@@ -48,6 +47,7 @@ use Rattle.bc_compose.proofs.Placed.{one_shard}
 use Rattle.bc_compose.proofs.Along.{Known}
 use Rattle.bc_compose.proofs.Orders.{HasMade, lawful_orders, made_by, stands}
 use Rattle.bc_compose.proofs.Answered.{known, distinct_made, bio_answered, image_left}
+use Rattle.bc_base.proofs.Members.{map-map, In, in_of_map, all_at, all_from_in}
 
 module _ (sizes : UnitsHaveSizes) (blocks : UnitsLieInBlocks) (unrefused : UnrefusedIsAccepted)
     (script : Script) (image : List ℕ) (shards : ℕ) (report : Report) (left : List ℕ) (made : ℕ → List Entry) (orders : List (List Entry)) (journals : List (List Noted))
@@ -95,8 +95,8 @@ module _ (sizes : UnitsHaveSizes) (blocks : UnitsLieInBlocks) (unrefused : Unref
   pub orders_are : orders_of report ≡ map (map name_of_entry) orders
   orders_are =
       ap (map (map name_in)) done.reported.shards
-      ∙ map-map (map line_of) (map name_in) orders
-      ∙ (λ i. map (λ order. map-map line_of name_in order i) orders)
+      ∙ map-map (map report_line_of) (map name_in) orders
+      ∙ (λ i. map (λ order. map-map report_line_of name_in order i) orders)
 
   pub run_is : the_run ≡ run_of script image report
   run_is = ap (λ (os : List (List UnitName)). record { image = image; keys = keys_of script; plan = plan_of script; faults = script.faults; orders = os }) (sym orders_are)
@@ -180,19 +180,19 @@ module _ (sizes : UnitsHaveSizes) (blocks : UnitsLieInBlocks) (unrefused : Unref
   made_distinct t there = distinct_made script script.faults shards callers done.some plan few seen made orders done.shards_closed has_made image base done.stores_closed.opening apart one t there
 
   -- what holds of the line of each entry holds of each line
-  pub each_line : (P : Line → Type 0) → ((s : ℕ) (e : Entry) → s < shards → In e (list_at orders s) → P (line_of e)) → All (All P) report.shards
+  pub each_line : (P : Line → Type 0) → ((s : ℕ) (e : Entry) → s < shards → In e (list_at orders s) → P (report_line_of e)) → All (All P) report.shards
   each_line P f =
       subst (All (All P)) (sym done.reported.shards)
-      (All-from_recursion (All P) (map (map line_of) orders)
-      (all_from_in (All P) (map (map line_of) orders)
+      (All-from_recursion (All P) (map (map report_line_of) orders)
+      (all_from_in (All P) (map (map report_line_of) orders)
       (λ lines at'.
-      let r = in_of_map (map line_of) orders lines at' in
+      let r = in_of_map (map report_line_of) orders lines at' in
       let l = stands_at orders r.0 r.1 in
       subst (All P) r.2
-      (All-from_recursion P (map line_of r.0)
-      (all_from_in P (map line_of r.0)
+      (All-from_recursion P (map report_line_of r.0)
+      (all_from_in P (map report_line_of r.0)
       (λ line at''.
-      let e = in_of_map line_of r.0 line at'' in
+      let e = in_of_map report_line_of r.0 line at'' in
       subst P e.2 (f l.0 e.0 (subst (λ n. l.0 < n) done.shards_closed.one_for_each l.1) (subst (In e.0) (sym l.2) e.1))))))))
 
   -- ---- ways

@@ -1,5 +1,5 @@
 pub mod SectionDone
-pub mod Ordered
-pub mod Acted
-pub mod Closed
-pub mod Composed
+pub mod OrderedHolds
+pub mod ThreadWork
+pub mod ClosedOrders
+pub mod ComposedRun

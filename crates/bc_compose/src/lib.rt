@@ -1,6 +1,7 @@
-//! Laws of runs that are put together from their sections. Each thread knows of its own operations, entries and events alone;
-//! the closed shards and devices tell how these stand together. Such a run is lawful but for who held a slot, and where its
-//! sections follow one another it is the one serial run of its script, which is lawful whole.
+//! Laws of runs that are put together from their sections. Each thread knows of its own operations,
+//! entries and events alone; the closed shards and devices tell how these stand together. Such a
+//! run is lawful but for who held a slot, and where its sections follow one another it is the one
+//! serial run of its script, which is lawful whole.
 #![tactic(auto)]
 
 mod laws;

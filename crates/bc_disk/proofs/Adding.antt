@@ -17,11 +17,12 @@ use Rattle.bc_profile.specs.declared.noted.Noted.{Noted}
 use Rattle.bc_profile.specs.Story.{author_of}
 use Rattle.bc_profile.specs.Laws.{HoldsNameProgrammings, LaterHoldsNameLater}
 use Rattle.bc_stack.specs.declared.target.Target.{Target}
-use Rattle.bc_queue.proofs.Lists.{zip_append}
 use Rattle.bc_pieces.specs.Pieces.{DeviceFacts, NotesOn, SameDisk, at_device, pieces_on, is_piece_on}
-use Rattle.bc_pieces.specs.Told.{IsHoldOf, NamesNoEarlier, OneHold, events_on}
-use Rattle.bc_pieces.proofs.Telling.{across_holds, begins_itself, each_append, each_more, grows_append, grows_none, held_more, notes_append, rise_append}
+use Rattle.bc_pieces.specs.PieceEffects.{IsHoldOf, NamesNoEarlier, OneHold, events_on}
+use Rattle.bc_pieces.proofs.Telling.{across_holds, each_append, each_more, held_more, notes_append, rise_append}
 use Rattle.bc_disk.specs.Submissions.{Adds, GoesItsWay, HasItsHold, IsInline}
+use Rattle.bc_base.proofs.Members.{zip_append}
+use Rattle.bc_medium.proofs.Growing.{begins_itself, grows_append, grows_none}
 
 pub inline_of : (via : Via) (device slot event : ℕ) → via ≡ ways.Inline device slot event → IsInline via
 inline_of via device slot event is = subst IsInline (sym is) tt

@@ -7,7 +7,7 @@ use Rattle.bc_bio.specs.declared.context.Context.{Context}
 use Rattle.bc_bio.specs.declared.marked_bio.MarkedBio.{MarkedBio}
 use Rattle.bc_bio.specs.Requests.{RequestParts, tagged_bios, tagged_of}
 use Rattle.bc_bio.specs.Windows.{IsRequest, count_units}
-use Rattle.bc_turn.specs.Parts.{Pass}
+use Rattle.bc_turn.specs.PassParts.{Pass}
 use Rattle.bc_medium.specs.declared.entry.Entry.{Entry}
 use Rattle.bc_medium.specs.declared.via.Via.{Via}
 use Rattle.bc_medium.specs.declared.via.Via.TheVariants as ways

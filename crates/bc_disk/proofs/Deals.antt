@@ -4,10 +4,6 @@ use Rattle.std.proofs.lemmas.Option.{none-some, same_Some}
 use Rattle.bc_base.specs.Lists.{Each, At}
 use Rattle.bc_disk.specs.Dealing.{dealt}
 
-pub each_weaken : {A : Type 0} (P Q : A → Type 0) (xs : List A) → ((x : A) → P x → Q x) → Each P xs → Each Q xs
-each_weaken P Q [] f e = tt
-each_weaken P Q (x ∷ xs) f e = (f x e.0, each_weaken P Q xs f e.1)
-
 pub replicate_push : {A : Type 0} (n : ℕ) (x : A) → replicate (n + 1) x ≡ replicate n x ++ x ∷ []
 replicate_push n x = let z : n + 1 ≡ suc n = omega arith in ap (λ k. replicate k x) z ∙ more n
   where

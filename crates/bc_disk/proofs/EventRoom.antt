@@ -7,7 +7,7 @@ use Rattle.std.proofs.lemmas.Option.{none-some}
 use Rattle.bc_base.specs.Lists.{At, list_at}
 use Rattle.bc_base.specs.Story.{own}
 use Rattle.bc_base.proofs.Lists.{each_at}
-use Rattle.bc_turn.specs.Parts.{Pass}
+use Rattle.bc_turn.specs.PassParts.{Pass}
 use Rattle.bc_medium.specs.declared.entry.Entry.{Entry}
 use Rattle.bc_medium.specs.Medium.{OpeningData}
 use Rattle.bc_profile.specs.declared.event.Event.{Event}
@@ -17,11 +17,11 @@ use Rattle.bc_profile.specs.Story.{author_of, note, notes}
 use Rattle.bc_ufs.specs.Controllers.{ControllerData}
 use Rattle.bc_queue.specs.Queues.{HasEvents, QueueData}
 use Rattle.bc_queue.proofs.Lists.{get_or_map}
-use Rattle.bc_queue.proofs.Queues.{zip_length}
 use Rattle.bc_pieces.specs.ManyCallers.{IsReady}
 use Rattle.bc_pieces.specs.Pieces.{NotesOn}
 use Rattle.bc_pieces.proofs.Units.{at_within}
 use Rattle.bc_disk.specs.Disks.{DiskData, events_left, pass_by}
+use Rattle.bc_base.proofs.Members.{zip_length}
 
 below : {X : Type 0} (xs : List X) (k : ℕ) (x : X) → At xs k x → k < length xs
 below [] k x at = absurd (none-some x at)

@@ -6,28 +6,30 @@ use Rattle.std.specs.Result.{result_err}
 use Rattle.std.proofs.Math.Logic.{⊎_elim}
 use Rattle.std.proofs.lemmas.Bool.{eq-eqb, ne_eqb, cases_eq, cases_lt}
 use Rattle.std.proofs.lemmas.Option.{slice_get_within}
-use Rattle.std.proofs.lemmas.List.{length-append, length-map}
 use Rattle.bc_base.specs.Lists.{At, list_at}
 use Rattle.bc_base.specs.Sectors.{Sectors}
 use Rattle.bc_base.specs.Story.{own}
 use Rattle.bc_base.proofs.Lists.{at_one, at_read, each_at, each_set}
 use Rattle.bc_key.specs.declared.keys.KeyNo.{KeyNo}
 use Rattle.bc_key.specs.KeyData.{KeyData}
-use Rattle.bc_profile.specs.declared.book.Busy.{Busy as Found}
 use Rattle.bc_profile.specs.declared.event.Event.{Event}
 use Rattle.bc_profile.specs.declared.event.Event.TheVariants as events
 use Rattle.bc_profile.specs.declared.noted.Noted.{Noted}
-use Rattle.bc_profile.specs.Passes.{SlotFacts, Evicts, HasSpare, IsOf, Noticed, Refuses, TakesOutOf, base_in, made_by, quota_of, slots_in}
-use Rattle.bc_profile.specs.Story.{IsGone, author_of, note, notes}
+use Rattle.bc_profile.specs.Passes.{SlotFacts, Evicts, HasSpare, IsOf, Noticed, RefusesEviction, TakesOutOf, base_in, made_by, quota_of, slots_in}
+use Rattle.bc_profile.specs.Story.{IsGone, author_of, notes}
 use Rattle.bc_ufs.specs.Controllers.{ControllerData}
 use Rattle.bc_queue.specs.Queues.{AreControllers, IsController}
-use Rattle.bc_queue.proofs.Lists.{at_set, get_or_map, get_or_set_other, get_set_other, map-set}
-use Rattle.bc_queue.proofs.Queues.{from_start, rows_length, zip_at, zip_length, zip_set}
+use Rattle.bc_queue.proofs.Lists.{get_or_map, get_or_set_other, get_set_other, map-set}
+use Rattle.bc_queue.proofs.Queues.{from_start, rows_length, zip_at, zip_set}
 use Rattle.bc_pieces.specs.Pieces.{DeviceFacts, NotesOn, at_device}
-use Rattle.bc_pieces.proofs.Telling.{begins_itself, begins_trans, notes_append}
+use Rattle.bc_pieces.proofs.Telling.{notes_append}
 use Rattle.bc_disk.specs.declared.eviction.Busy.{Busy}
 use Rattle.bc_disk.specs.Disks.{DiskData, IsPassOf, PassData, events_left, facts_on, goes_inline, keys_in, pass_by}
-use Rattle.bc_disk.specs.Evictions.{AddsAt, AddsEvents, AsksFirst, AsksOne, Empties, HasAskedFor, IsBefore, IsRefusedBy, asks}
+use Rattle.bc_disk.specs.Evictions.{AddsAt, AddsEvents, AsksFirst, AsksOne, EmptiesSlot, HasAskedFor, IsBefore, IsRefusedBy, asks}
+use Rattle.bc_base.proofs.Members.{at_set, zip_length}
+use Rattle.bc_medium.proofs.Growing.{begins_itself, begins_trans}
+use Rattle.bc_pieces.proofs.ManyCallers.{noticed_made}
+use Rattle.bc_profile.specs.declared.book.Busy.{Busy as Found}
 
 -- a controller has a row of each key
 pub rows_here : (keys : List KeyData) (controllers : List ControllerData) (device : ℕ) (controller : ControllerData) → AreControllers keys controllers → At controllers device controller → length controller.profile.rows ≡ length keys
@@ -42,13 +44,6 @@ noticed_notes caller old new es is n = record {
       subst (λ c. own author_of c new.seen ≡ own author_of c old.seen ++ notes c es) is
       (sym (ap (λ c. own author_of c new.seen) n.caller) ∙ n.own_events);
 }
-
-noticed_made : (old new : SlotFacts) (es : List Event) → Noticed old new es → length (made_by new) ≡ length (made_by old) + length es
-noticed_made old new es n =
-    let many = ap length n.own_events in
-    let both = length-append (made_by old) (notes old.caller es) in
-    let mapped = length-map es (note old.caller) in
-    omega (arith, many, both, mapped)
 
 notes_none : (caller : ℕ) (seen : List Noted) → NotesOn caller seen seen []
 notes_none caller seen = record { front = begins_itself seen; adds = sym (append-nil (own author_of caller seen)) }
@@ -186,7 +181,7 @@ module _ {S : Type 0} (contents : S → Option Sectors) (disk : DiskData S) (pas
   slots_here part = ap (λ o. option_map_or (λ (c : ControllerData). slots_in c.profile) o 0) part.controller_at
 
   -- whichever way an eviction ends, it made an event at most
-  pub goes_by : {T : Type 0} (after : SlotFacts) (key : ℕ) (r : Result T Found) → MatchResult r (λ x. Evicts (slots_in controller.profile) before after key) (λ busy. Refuses (slots_in controller.profile) before after key busy.slot busy.refs) → Goes after
+  pub goes_by : {T : Type 0} (after : SlotFacts) (key : ℕ) (r : Result T Found) → MatchResult r (λ x. Evicts (slots_in controller.profile) before after key) (λ busy. RefusesEviction (slots_in controller.profile) before after key busy.slot busy.refs) → Goes after
   goes_by after key (Ok x) evicts =
       ⊎_elim
       (λ (n : Noticed before after []). record { made = []; few = omega arith; noticed = n })
@@ -211,7 +206,7 @@ module _ {S : Type 0} (contents : S → Option Sectors) (disk : DiskData S) (pas
       with_made made few n is = record { made = made; adds = adds_at part after (record { made = made; few = few; noticed = n }); answer = record { events = is; gone = gone } }
 
   -- a device that was asked and refused
-  pub refused : (after : SlotFacts) (key : ℕ) (busy : Busy) → HasPart → busy.device ≡ device → Refuses (slots_in controller.profile) before after key busy.slot busy.refs
+  pub refused : (after : SlotFacts) (key : ℕ) (busy : Busy) → HasPart → busy.device ≡ device → RefusesEviction (slots_in controller.profile) before after key busy.slot busy.refs
       → AsksOne (facts_on contents disk pass) (facts_on contents disk (now_with after)) device key (Some busy)
   refused after key busy part is r = record {
     made = events.Busy busy.slot key busy.refs ∷ [];
@@ -250,19 +245,19 @@ module _ (count key : ℕ) (old mid new : DeviceFacts) (refused answer : Option 
   below_differs : (device : ℕ) → device < count → device ≢ count
   below_differs device below = λ same. absurd (omega (arith, below, same))
 
-  -- what a device told before stays
-  empties_still : (device : ℕ) → device < count → Empties (old.slots device) (list_at mid.noted device) key (so_far.made device) → Empties (old.slots device) (list_at new.noted device) key (all_made device)
+  -- what a device reported before stays
+  empties_still : (device : ℕ) → device < count → EmptiesSlot (old.slots device) (list_at mid.noted device) key (so_far.made device) → EmptiesSlot (old.slots device) (list_at new.noted device) key (all_made device)
   empties_still device below is =
-      subst (λ es. Empties (old.slots device) (list_at new.noted device) key es) (made_elsewhere device (below_differs device below))
-      (subst (λ l. Empties (old.slots device) l key (so_far.made device)) (sym (one.adds.others device (below_differs device below))) is)
+      subst (λ es. EmptiesSlot (old.slots device) (list_at new.noted device) key es) (made_elsewhere device (below_differs device below))
+      (subst (λ l. EmptiesSlot (old.slots device) l key (so_far.made device)) (sym (one.adds.others device (below_differs device below))) is)
 
   refused_still : (device slot refs : ℕ) → device < count → IsRefusedBy key slot refs (so_far.made device) → IsRefusedBy key slot refs (all_made device)
   refused_still device slot refs below is = subst (IsRefusedBy key slot refs) (made_elsewhere device (below_differs device below)) is
 
-  empties_here : Empties (mid.slots count) (list_at new.noted count) key one.made → Empties (old.slots count) (list_at new.noted count) key (all_made count)
+  empties_here : EmptiesSlot (mid.slots count) (list_at new.noted count) key one.made → EmptiesSlot (old.slots count) (list_at new.noted count) key (all_made count)
   empties_here is =
-      subst (λ es. Empties (old.slots count) (list_at new.noted count) key es) made_here
-      (subst (λ (f : ℕ → ℕ). Empties (f count) (list_at new.noted count) key one.made) so_far.adds.same.slots is)
+      subst (λ es. EmptiesSlot (old.slots count) (list_at new.noted count) key es) made_here
+      (subst (λ (f : ℕ → ℕ). EmptiesSlot (f count) (list_at new.noted count) key one.made) so_far.adds.same.slots is)
 
   refused_here : (slot refs : ℕ) → IsRefusedBy key slot refs one.made → IsRefusedBy key slot refs (all_made count)
   refused_here slot refs is = subst (IsRefusedBy key slot refs) made_here is
@@ -289,29 +284,29 @@ module _ (count key : ℕ) (old mid new : DeviceFacts) (refused answer : Option 
   }
 
   abbrev Tells : ℕ → Type 0
-  Tells device = Empties (old.slots device) (list_at new.noted device) key (all_made device) ⊎ ((slot refs : ℕ) × IsRefusedBy key slot refs (all_made device))
+  Tells device = EmptiesSlot (old.slots device) (list_at new.noted device) key (all_made device) ⊎ ((slot refs : ℕ) × IsRefusedBy key slot refs (all_made device))
 
   each_all : (device : ℕ) → device < count + 1 → Tells device
   each_all =
       at_end Tells
       (λ device below. ⊎_elim
-      (λ (is : Empties (old.slots device) (list_at mid.noted device) key (so_far.made device)). inl (empties_still device below is))
+      (λ (is : EmptiesSlot (old.slots device) (list_at mid.noted device) key (so_far.made device)). inl (empties_still device below is))
       (λ (is : (slot refs : ℕ) × IsRefusedBy key slot refs (so_far.made device)). inr (is.0, is.1, refused_still device is.0 is.1 below is.2))
       (so_far.each device below))
       (last answer one.answer)
     where
-      last : (a : Option Busy) → MatchOption a (Empties (mid.slots count) (list_at new.noted count) key one.made) (λ busy. (busy.device ≡ count) × IsRefusedBy key busy.slot busy.refs one.made) → Tells count
+      last : (a : Option Busy) → MatchOption a (EmptiesSlot (mid.slots count) (list_at new.noted count) key one.made) (λ busy. (busy.device ≡ count) × IsRefusedBy key busy.slot busy.refs one.made) → Tells count
       last None is = inl (empties_here is)
       last (Some busy) is = inr (busy.slot, busy.refs, refused_here busy.slot busy.refs is.1)
 
-  before_all : (device : ℕ) → device < count + 1 → IsBefore device (option_or refused answer) → Empties (old.slots device) (list_at new.noted device) key (all_made device)
+  before_all : (device : ℕ) → device < count + 1 → IsBefore device (option_or refused answer) → EmptiesSlot (old.slots device) (list_at new.noted device) key (all_made device)
   before_all = go refused answer so_far.before so_far.first one.answer
     where
-      go : (r a : Option Busy) → ((device : ℕ) → device < count → IsBefore device r → Empties (old.slots device) (list_at mid.noted device) key (so_far.made device)) → IfSome r (λ busy. (busy.device < count) × IsRefusedBy key busy.slot busy.refs (so_far.made busy.device))
-          → MatchOption a (Empties (mid.slots count) (list_at new.noted count) key one.made) (λ busy. (busy.device ≡ count) × IsRefusedBy key busy.slot busy.refs one.made)
-          → (device : ℕ) → device < count + 1 → IsBefore device (option_or r a) → Empties (old.slots device) (list_at new.noted device) key (all_made device)
+      go : (r a : Option Busy) → ((device : ℕ) → device < count → IsBefore device r → EmptiesSlot (old.slots device) (list_at mid.noted device) key (so_far.made device)) → IfSome r (λ busy. (busy.device < count) × IsRefusedBy key busy.slot busy.refs (so_far.made busy.device))
+          → MatchOption a (EmptiesSlot (mid.slots count) (list_at new.noted count) key one.made) (λ busy. (busy.device ≡ count) × IsRefusedBy key busy.slot busy.refs one.made)
+          → (device : ℕ) → device < count + 1 → IsBefore device (option_or r a) → EmptiesSlot (old.slots device) (list_at new.noted device) key (all_made device)
       go None None before first is device below earlier =
-          at_end (λ d. Empties (old.slots d) (list_at new.noted d) key (all_made d)) (λ d under. empties_still d under (before d under tt)) (empties_here is) device below
+          at_end (λ d. EmptiesSlot (old.slots d) (list_at new.noted d) key (all_made d)) (λ d under. empties_still d under (before d under tt)) (empties_here is) device below
       go None (Some busy) before first is device below earlier =
           let under : device < count = omega (arith, earlier, is.0) in
           empties_still device under (before device under tt)
@@ -322,7 +317,7 @@ module _ (count key : ℕ) (old mid new : DeviceFacts) (refused answer : Option 
   first_all : IfSome (option_or refused answer) (λ busy. (busy.device < count + 1) × IsRefusedBy key busy.slot busy.refs (all_made busy.device))
   first_all = go refused answer so_far.first one.answer
     where
-      go : (r a : Option Busy) → IfSome r (λ busy. (busy.device < count) × IsRefusedBy key busy.slot busy.refs (so_far.made busy.device)) → MatchOption a (Empties (mid.slots count) (list_at new.noted count) key one.made) (λ busy. (busy.device ≡ count) × IsRefusedBy key busy.slot busy.refs one.made)
+      go : (r a : Option Busy) → IfSome r (λ busy. (busy.device < count) × IsRefusedBy key busy.slot busy.refs (so_far.made busy.device)) → MatchOption a (EmptiesSlot (mid.slots count) (list_at new.noted count) key one.made) (λ busy. (busy.device ≡ count) × IsRefusedBy key busy.slot busy.refs one.made)
           → IfSome (option_or r a) (λ busy. (busy.device < count + 1) × IsRefusedBy key busy.slot busy.refs (all_made busy.device))
       go None None first is = tt
       go None (Some busy) first is = (omega (arith, is.0), subst (λ d. IsRefusedBy key busy.slot busy.refs (all_made d)) (sym is.0) (refused_here busy.slot busy.refs is.1))

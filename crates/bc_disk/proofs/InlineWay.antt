@@ -10,7 +10,7 @@ use Rattle.bc_bio.specs.declared.context.Context.{Context}
 use Rattle.bc_bio.specs.declared.marked_bio.MarkedBio.{MarkedBio}
 use Rattle.bc_bio.specs.Requests.{RequestParts, is_over, tagged_bios, tagged_of}
 use Rattle.bc_bio.specs.Windows.{IsRequest, NamedUnit, count_units}
-use Rattle.bc_turn.specs.Parts.{Pass}
+use Rattle.bc_turn.specs.PassParts.{Pass}
 use Rattle.bc_medium.specs.declared.entry.Entry.{Entry}
 use Rattle.bc_medium.specs.declared.unit_at.UnitAt.{UnitAt}
 use Rattle.bc_medium.specs.declared.via.Via.{Via}
@@ -20,11 +20,11 @@ use Rattle.bc_stack.specs.declared.target.Target.{Target}
 use Rattle.bc_queue.specs.RequestUnits.{attempted_in, named_at}
 use Rattle.bc_queue.proofs.Lists.{each_filter, each_range}
 use Rattle.bc_queue.proofs.Queues.{zip_right}
-use Rattle.bc_pieces.specs.Attempted.{CarriesWhole, IsCarriedItsWay}
+use Rattle.bc_pieces.specs.AttemptedRequest.{CarriesWhole, IsCarriedItsWay}
 use Rattle.bc_pieces.specs.Laws.{PlannedByBios}
 use Rattle.bc_pieces.specs.ManyCallers.{IsReady, devices_of}
 use Rattle.bc_pieces.specs.Pieces.{DeviceFacts, pieces_in, pieces_on}
-use Rattle.bc_pieces.specs.Told.{GoesByDevice, HasHoldBetween, IsHoldOf, events_on}
+use Rattle.bc_pieces.specs.PieceEffects.{GoesByDevice, HasHoldBetween, IsHoldOf, events_on}
 use Rattle.bc_pieces.proofs.Telling.{each_more}
 use Rattle.bc_disk.specs.Disks.{DiskData, events_left, facts_on, goes_inline, keys_in, pass_by}
 use Rattle.bc_disk.specs.Inline.{HasRoomOn}

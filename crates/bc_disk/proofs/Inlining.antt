@@ -12,7 +12,7 @@ use Rattle.bc_bio.specs.Requests.{tagged_bios}
 use Rattle.bc_bio.specs.Windows.{TaggedBio, count_units, units_of_request}
 use Rattle.bc_stack.specs.declared.target.Target.{Target}
 use Rattle.bc_stack.specs.Pieces.{pieces_of}
-use Rattle.bc_queue.specs.RequestUnits.{planned_part, units_on}
+use Rattle.bc_queue.specs.RequestUnits.{planned_part, count_units_on}
 use Rattle.bc_pieces.specs.Laws.{PlannedByBios}
 use Rattle.bc_pieces.specs.Pieces.{DeviceFacts}
 use Rattle.bc_pieces.specs.Becoming.{planned_units}
@@ -44,8 +44,8 @@ module _ (by_bios : PlannedByBios) (bios : List MarkedBio) where
   planned_is keys = by_bios keys bios ∙ sym (flat_map-map (planned_units keys) (λ (marked : MarkedBio). marked.bio) bios)
 
   -- the room for the bios is that for the units of the request
-  pub entries_for : (facts : DeviceFacts) → HasEntriesFor facts (bare_bios bios) → (shard : ℕ) → units_on facts.access.shards shard (planned_part facts.access.keys bios 0 (count_units (tagged_bios bios))) ≤ facts.access.spare shard
-  entries_for facts has shard = subst (λ (us : List PlannedUnit). units_on facts.access.shards shard us ≤ facts.access.spare shard) (sym (planned_is facts.access.keys)) (has shard)
+  pub entries_for : (facts : DeviceFacts) → HasEntriesFor facts (bare_bios bios) → (shard : ℕ) → count_units_on facts.access.shards shard (planned_part facts.access.keys bios 0 (count_units (tagged_bios bios))) ≤ facts.access.spare shard
+  entries_for facts has shard = subst (λ (us : List PlannedUnit). count_units_on facts.access.shards shard us ≤ facts.access.spare shard) (sym (planned_is facts.access.keys)) (has shard)
 
-  pub leaves_entries : (old new : DeviceFacts) → ((shard : ℕ) → old.access.spare shard ≤ new.access.spare shard + units_on old.access.shards shard (planned_part old.access.keys bios 0 (count_units (tagged_bios bios)))) → LeavesEntries old new (bare_bios bios)
-  leaves_entries old new less shard = subst (λ (us : List PlannedUnit). old.access.spare shard ≤ new.access.spare shard + units_on old.access.shards shard us) (planned_is old.access.keys) (less shard)
+  pub leaves_entries : (old new : DeviceFacts) → ((shard : ℕ) → old.access.spare shard ≤ new.access.spare shard + count_units_on old.access.shards shard (planned_part old.access.keys bios 0 (count_units (tagged_bios bios)))) → LeavesEntries old new (bare_bios bios)
+  leaves_entries old new less shard = subst (λ (us : List PlannedUnit). old.access.spare shard ≤ new.access.spare shard + count_units_on old.access.shards shard us) (planned_is old.access.keys) (less shard)

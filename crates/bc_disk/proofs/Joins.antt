@@ -6,16 +6,17 @@ use Rattle.std.proofs.lemmas.List.{map-append, reverse-append}
 use Rattle.std.proofs.lemmas.Option.{none-some, same_Some}
 use mathlib.Core.List.{reverse}
 use Rattle.bc_base.specs.Lists.{At, AllAt}
-use Rattle.bc_turn.specs.Parts.{Pass}
+use Rattle.bc_turn.specs.PassParts.{Pass}
 use Rattle.bc_medium.specs.declared.entry.Entry.{Entry}
-use Rattle.bc_medium.specs.Medium.{OpeningData, column}
+use Rattle.bc_medium.specs.Medium.{OpeningData, quotas_of_shard}
 use Rattle.bc_profile.specs.Passes.{ProfileData, SlotFacts, new_pass}
 use Rattle.bc_ufs.specs.Controllers.{ControllerData}
 use Rattle.bc_disk.specs.Disks.{PassData, pass_by}
 use Rattle.bc_disk.specs.Dealing.{dealt, new_slots, passes_with}
 use Rattle.bc_disk.specs.Closings.{devices_with}
+use Rattle.bc_medium.proofs.Openings.{there}
 
--- one more went from the end of what is joined to the front of what was turned round
+-- one more went from the end of what is joined to the beginning of what was turned round
 pub moved_back : {A : Type 0} (all front done done' whole : List A) (x : A) → all ≡ front ++ x ∷ [] → done' ≡ done ++ x ∷ [] → all ++ reverse done ≡ whole → front ++ reverse done' ≡ whole
 moved_back all front done done' whole x split push was =
     ap (λ l. front ++ l) (ap reverse push ∙ reverse-append done (x ∷ []))
@@ -72,7 +73,7 @@ map_take_push f xs n x at = let z : n + 1 ≡ suc n = omega arith in ap (λ k. m
     more f (y ∷ xs) (suc n) x at = ap (λ l. f y ∷ l) (more f xs n x at)
 
 -- a column of rows, read row by row
-pub column_is : {V : Type 0} (items : V → List ℕ) (rows : List V) (place : ℕ) → column place (map items rows) ≡ map (λ row. slice_index_or (items row) place 0) rows
+pub column_is : {V : Type 0} (items : V → List ℕ) (rows : List V) (place : ℕ) → quotas_of_shard place (map items rows) ≡ map (λ row. slice_index_or (items row) place 0) rows
 column_is items [] place = refl
 column_is items (row ∷ rows) place = ap (λ l. slice_index_or (items row) place 0 ∷ l) (column_is items rows place)
 
@@ -90,11 +91,6 @@ pub all_push : {A : Type 0} (R : ℕ → A → Type 0) (xs : List A) (x : A) →
 all_push R xs x each is k y at =
     let e : 0 + k ≡ k = omega arith in let f : length xs ≡ 0 + length xs = omega arith in
     subst (λ n. R n y) e (push_from R 0 xs x (λ j w there. let z : j ≡ 0 + j = omega arith in subst (λ n. R n w) z (each j w there)) (subst (λ n. R n x) f is) k y at)
-
-pub there : {A : Type 0} (xs : List A) (k : ℕ) → k < length xs → (x : A) × At xs k x
-there [] k l = absurd (omega arith)
-there (x ∷ xs) zero l = (x, refl)
-there (x ∷ xs) (suc k) l = there xs k (omega arith)
 
 pub below : {A : Type 0} (xs : List A) (k : ℕ) (x : A) → At xs k x → k < length xs
 below [] k x at = absurd (none-some x at)

@@ -19,7 +19,7 @@ use Rattle.bc_bio.specs.Windows.{IsRequest, NamedUnit, TaggedBio, count_units, j
 use Rattle.bc_bio.specs.Requests.{tagged_bios, tagged_of}
 use Rattle.bc_queue.specs.RequestUnits.{named_at, no_unit}
 use Rattle.bc_pieces.proofs.Units.{at_within}
-use Rattle.bc_pieces.proofs.Walk.{length-units_of_request}
+use Rattle.bc_stack.proofs.PieceLaws.{length-units_of_request}
 
 pub key_of : Option Context → Option ℕ
 key_of None = None

@@ -19,18 +19,14 @@ use Rattle.bc_queue.proofs.Lists.{each_filter, each_range}
 use Rattle.bc_queue.proofs.Queues.{zip_right}
 use Rattle.bc_pieces.specs.Laws.{OneWayIsWhole}
 use Rattle.bc_pieces.specs.Pieces.{DeviceFacts, access_by}
-use Rattle.bc_pieces.specs.Told.{IsHoldOf, NamesNoEarlier, Rise}
+use Rattle.bc_pieces.specs.PieceEffects.{IsHoldOf, NamesNoEarlier, Rise}
 use Rattle.bc_pieces.specs.Becoming.{Becomes, IsAnswered, IsStopped}
-use Rattle.bc_pieces.specs.Attempted.{IsWhole, by_way}
-use Rattle.bc_pieces.proofs.Telling.{begins_itself, each_more}
+use Rattle.bc_pieces.specs.AttemptedRequest.{IsWholeRequest, by_way}
+use Rattle.bc_pieces.proofs.Telling.{each_more}
 use Rattle.bc_disk.specs.Submissions.{CarriesRequest, GoesItsWay, HasItsHold, IsInline, IsWayOf, inline_pieces}
 use Rattle.bc_disk.proofs.Adding.{inline_of}
-
-pub zip_each : {X Y : Type 0} (R S : X → Y → Type 0) (xs : List X) (ys : List Y) → ((x : X) (y : Y) → R x y → S x y) → AllZip R xs ys → AllZip S xs ys
-zip_each R S [] [] f all = tt
-zip_each R S [] (y ∷ ys) f all = absurd all
-zip_each R S (x ∷ xs) [] f all = absurd all
-zip_each R S (x ∷ xs) (y ∷ ys) f all = (f x y all.0, zip_each R S xs ys f all.1)
+use Rattle.bc_medium.proofs.Growing.{begins_itself}
+use Rattle.bc_pieces.proofs.Whole.{zip_each}
 
 -- ---- what became of a bio says nothing of the way, of what else was seen, or of room
 
@@ -71,7 +67,7 @@ module _ (via : Via) (fronts : List (List Entry)) (room : ℕ → ℕ) (facts : 
     known = b.known;
   }
 
-pub whole_by : (via : Via) (old new : AccessFacts) (before after : RequestParts) (made : List Entry) → IsWhole (by_way via old) (by_way via new) before after made → IsWhole old new before after made
+pub whole_by : (via : Via) (old new : AccessFacts) (before after : RequestParts) (made : List Entry) → IsWholeRequest (by_way via old) (by_way via new) before after made → IsWholeRequest old new before after made
 whole_by via old new before after made w = record {
   attempts = w.attempts;
   marks = w.marks;

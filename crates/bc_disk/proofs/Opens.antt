@@ -10,11 +10,11 @@ use Rattle.bc_base.specs.Sectors.{Sectors}
 use Rattle.bc_base.specs.Story.{own}
 use Rattle.bc_base.proofs.Lists.{each_at, at_map}
 use Rattle.bc_key.specs.KeyData.{KeyData}
-use Rattle.bc_turn.specs.Parts.{CellData, Pass, new_part, new_pass as new_units}
+use Rattle.bc_turn.specs.PassParts.{CellData, Pass, new_part, new_pass as new_units}
 use Rattle.bc_medium.specs.declared.entry.Entry.{Entry}
 use Rattle.bc_medium.specs.Entries.{caller_of}
-use Rattle.bc_medium.specs.Medium.{Belongs, MediumData, OpeningData, column, openings, own_at, quota_of, seen_by, shards_of}
-use Rattle.bc_medium.specs.Places.{shard_of}
+use Rattle.bc_medium.specs.Medium.{Belongs, MediumData, OpeningData, quotas_of_shard, openings, own_at, quota_of, seen_by, shards_of}
+use Rattle.bc_medium.specs.Layout.{shard_of}
 use Rattle.bc_profile.specs.Passes.{IsOf, SlotFacts, base_in, new_pass}
 use Rattle.bc_stack.specs.declared.target.Target.{Target}
 use Rattle.bc_ufs.specs.Controllers.{ControllerData}
@@ -23,7 +23,8 @@ use Rattle.bc_disk.specs.Disks.{DiskData, IsDisk, PassData, pass_by}
 use Rattle.bc_disk.specs.Dealing.{new_slots, passes_with}
 use Rattle.bc_stack.specs.Targets.{StackParts}
 use Rattle.bc_disk.specs.Openings.{AreNewDevices, IsNewDevice, IsNewPass, IsOpened, quota_at}
-use Rattle.bc_disk.proofs.Joins.{there, below}
+use Rattle.bc_disk.proofs.Joins.{below}
+use Rattle.bc_medium.proofs.Openings.{there}
 
 each_of_places : {A : Type 0} (P : A → Type 0) (xs : List A) → ((k : ℕ) (x : A) → At xs k x → P x) → Each P xs
 each_of_places P [] f = tt
@@ -87,16 +88,16 @@ map_twice : {A B C : Type 0} (f : A → B) (g : B → C) (xs : List A) → map g
 map_twice f g [] = refl
 map_twice f g (x ∷ xs) = ap (λ l. g (f x) ∷ l) (map_twice f g xs)
 
-column_at : (rows : List (List ℕ)) (caller place : ℕ) → slice_index_or (column place rows) caller 0 ≡ quota_at rows caller place
+column_at : (rows : List (List ℕ)) (caller place : ℕ) → slice_index_or (quotas_of_shard place rows) caller 0 ≡ quota_at rows caller place
 column_at [] caller place = refl
 column_at (row ∷ rows) zero place = refl
 column_at (row ∷ rows) (suc caller) place = column_at rows caller place
 
-opening_at : {S : Type 0} (keys : List KeyData) (rows : List (List ℕ)) (first j : ℕ) (stores : List S) (o : OpeningData S) → At (openings keys rows first stores) j o → (o.quotas ≡ column (first + j) rows) × At stores j o.store
+opening_at : {S : Type 0} (keys : List KeyData) (rows : List (List ℕ)) (first j : ℕ) (stores : List S) (o : OpeningData S) → At (openings keys rows first stores) j o → (o.quotas ≡ quotas_of_shard (first + j) rows) × At stores j o.store
 opening_at keys rows first j [] o at = absurd (none-some o at)
-opening_at keys rows first zero (s ∷ stores) o at = let e = same_Some record { store = s; keys = keys; quotas = column first rows } o at in let z : first ≡ first + 0 = omega arith in
-    (sym (ap (λ (x : OpeningData _). x.quotas) e) ∙ ap (λ n. column n rows) z, ap (λ (x : OpeningData _). Some x.store) e)
-opening_at keys rows first (suc j) (s ∷ stores) o at = let r = opening_at keys rows (first + 1) j stores o at in let z : first + 1 + j ≡ first + suc j = omega arith in (r.0 ∙ ap (λ n. column n rows) z, r.1)
+opening_at keys rows first zero (s ∷ stores) o at = let e = same_Some record { store = s; keys = keys; quotas = quotas_of_shard first rows } o at in let z : first ≡ first + 0 = omega arith in
+    (sym (ap (λ (x : OpeningData _). x.quotas) e) ∙ ap (λ n. quotas_of_shard n rows) z, ap (λ (x : OpeningData _). Some x.store) e)
+opening_at keys rows first (suc j) (s ∷ stores) o at = let r = opening_at keys rows (first + 1) j stores o at in let z : first + 1 + j ≡ first + suc j = omega arith in (r.0 ∙ ap (λ n. quotas_of_shard n rows) z, r.1)
 
 pub stores_of : {S : Type 0} (keys : List KeyData) (rows : List (List ℕ)) (first : ℕ) (stores : List S) → map (λ o. o.store) (openings keys rows first stores) ≡ stores
 stores_of keys rows first [] = refl
@@ -122,7 +123,7 @@ module _ {S : Type 0} (contents : S → Option Sectors) where
         ∙ ap (λ l. quota_of cell.0.base.quotas caller - length (own caller_of caller l)) (none_of shard)
         ∙ less (quota_of cell.0.base.quotas caller)
         ∙ ap (λ q. slice_index_or q caller 0) o.0
-        ∙ (let z : 0 + shard ≡ shard = omega arith in ap (λ n. slice_index_or (column n units) caller 0) z)
+        ∙ (let z : 0 + shard ≡ shard = omega arith in ap (λ n. slice_index_or (quotas_of_shard n units) caller 0) z)
         ∙ column_at units caller shard;
     events_left = λ device l.
         let controller = there disk.queue.controllers device (omega (arith, count, l)) in

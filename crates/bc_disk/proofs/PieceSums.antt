@@ -11,17 +11,18 @@ use Rattle.bc_key.specs.KeyData.{KeyData}
 use Rattle.bc_bio.specs.Chunks.{chunk_by, chunks_with}
 use Rattle.bc_bio.specs.Requests.{RequestParts, tagged_bios}
 use Rattle.bc_bio.specs.Windows.{NamedUnit, count_units}
-use Rattle.bc_medium.specs.Places.{shard_of}
+use Rattle.bc_medium.specs.Layout.{shard_of}
 use Rattle.bc_profile.specs.declared.event.Event.{Event}
 use Rattle.bc_profile.specs.declared.event.Event.TheVariants as events
 use Rattle.bc_stack.specs.declared.target.Target.{Target}
 use Rattle.bc_stack.specs.Pieces.{same_device}
-use Rattle.bc_queue.specs.RequestUnits.{planned_part, units_on}
-use Rattle.bc_pieces.specs.Pieces.{AreOfOneHold, at_device, is_piece_on, named_on, part_of, pieces_in, pieces_on, units_in}
-use Rattle.bc_pieces.specs.Told.{IsHoldOf, OneHold, events_on}
+use Rattle.bc_queue.specs.RequestUnits.{planned_part, count_units_on}
+use Rattle.bc_pieces.specs.Pieces.{AreOfOneHold, at_device, is_piece_on, named_on, piece_part, pieces_in, pieces_on, request_units}
+use Rattle.bc_pieces.specs.PieceEffects.{IsHoldOf, OneHold, events_on}
 use Rattle.bc_pieces.proofs.Units.{part_on}
-use Rattle.bc_pieces.proofs.Walk.{length-units_of_request}
 use Rattle.bc_disk.proofs.Adding.{pieces_append}
+use Rattle.bc_pieces.proofs.ManyCallers.{length_one}
+use Rattle.bc_stack.proofs.PieceLaws.{length-units_of_request}
 
 -- ---- units
 
@@ -81,21 +82,16 @@ drop_none [] = refl
 drop_none (x ∷ xs) = refl
 
 -- the pieces of a request have its units on a shard
-pub pieces_shard : (keys : List KeyData) (targets : List Target) (request : RequestParts) (shards shard : ℕ) → sum_by (named_on shards shard) (pieces_in keys targets request) ≡ units_on shards shard (planned_part keys request.bios 0 (count_units (tagged_bios request.bios)))
+pub pieces_shard : (keys : List KeyData) (targets : List Target) (request : RequestParts) (shards shard : ℕ) → sum_by (named_on shards shard) (pieces_in keys targets request) ≡ count_units_on shards shard (planned_part keys request.bios 0 (count_units (tagged_bios request.bios)))
 pieces_shard keys targets request shards shard =
     let len = length-units_of_request keys (tagged_bios request.bios) in
     let count = count_units (tagged_bios request.bios) in
-    let whole : part_of keys request 0 count ≡ units_in keys request = ap (take count) (drop_none (units_in keys request)) ∙ take_all (units_in keys request) count (omega (arith, len)) in
-    all_chunks (λ (u : NamedUnit). shard_of shards u.sector == shard) (same_device targets) (units_in keys request)
+    let whole : piece_part keys request 0 count ≡ request_units keys request = ap (take count) (drop_none (request_units keys request)) ∙ take_all (request_units keys request) count (omega (arith, len)) in
+    all_chunks (λ (u : NamedUnit). shard_of shards u.sector == shard) (same_device targets) (request_units keys request)
     ∙ sym (ap (named_on shards shard) whole)
     ∙ sym (part_on keys request shards shard 0 count (omega arith))
 
 -- ---- events
-
-length_one : {X : Type 0} (n : ℕ) (x : X) → n ≤ 1 → length (take n (x ∷ [])) ≤ 1
-length_one zero x few = omega arith
-length_one (suc zero) x few = omega arith
-length_one (suc (suc n)) x few = absurd (omega (arith, few))
 
 -- one hold adds two events at most
 hold_two : (key slot : ℕ) (made : List Event) → AreOfOneHold key slot made → length made ≤ 2

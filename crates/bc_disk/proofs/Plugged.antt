@@ -16,14 +16,14 @@ use Rattle.bc_bio.specs.declared.marked_bio.MarkedBio.{MarkedBio}
 use Rattle.bc_bio.specs.PlannedUnit.{PlannedUnit}
 use Rattle.bc_bio.specs.Requests.{RequestParts, reply_of, tagged_bios, tagged_of}
 use Rattle.bc_bio.specs.Windows.{IsRequest, NamedUnit, TaggedBio}
-use Rattle.bc_medium.specs.Places.{shard_of}
+use Rattle.bc_medium.specs.Layout.{shard_of}
 use Rattle.bc_medium.specs.Medium.{shards_of}
 use Rattle.bc_profile.specs.Laws.{HoldsNameProgrammings, LaterHoldsNameLater}
-use Rattle.bc_queue.specs.Carrying.{AccessFacts, GoesOn}
-use Rattle.bc_queue.specs.Plugs.{IsOfWindow, IsPlug, IsWaiting, PlugParts, bios_of, count_bios}
-use Rattle.bc_queue.specs.RequestUnits.{units_on}
+use Rattle.bc_queue.specs.Carrying.{AccessFacts, HasSameWay}
+use Rattle.bc_queue.specs.Plugs.{IsOfWindow, IsPlug, IsWaiting, PlugParts, bios_in, count_bios}
+use Rattle.bc_queue.specs.RequestUnits.{count_units_on}
 use Rattle.bc_pieces.specs.Laws.{BecomesStays, PlannedByBios}
-use Rattle.bc_pieces.specs.Attempted.{HasNoFault}
+use Rattle.bc_pieces.specs.AttemptedRequest.{HasNoFault}
 use Rattle.bc_pieces.specs.Pieces.{pieces_on}
 use Rattle.bc_pieces.proofs.Telling.{each_more}
 use Rattle.bc_disk.specs.Disks.{DiskData, IsPassOf, PassData, events_left, facts_on, keys_in}
@@ -53,21 +53,21 @@ set_at (w ∷ xs) ys (suc k) x y long = ap (λ l. w ∷ l) (set_at xs ys k x y (
 abbrev pub all_pieces : {S : Type 0} → DiskData S → List RequestParts → List (List NamedUnit)
 all_pieces disk requests = flat_map (λ (r : RequestParts). inline_pieces disk.targets (keys_in disk) (tagged_bios r.bios)) requests
 
-bios_cons : (r : RequestParts) (requests : List RequestParts) → bios_of (r ∷ requests) ≡ r.bios ++ bios_of requests
+bios_cons : (r : RequestParts) (requests : List RequestParts) → bios_in (r ∷ requests) ≡ r.bios ++ bios_in requests
 bios_cons r requests = flat_map-cons (λ (x : RequestParts). x.bios) r requests
 
-bios_append : (xs ys : List RequestParts) → bios_of (xs ++ ys) ≡ bios_of xs ++ bios_of ys
+bios_append : (xs ys : List RequestParts) → bios_in (xs ++ ys) ≡ bios_in xs ++ bios_in ys
 bios_append xs ys = flat_map-append (λ (x : RequestParts). x.bios) xs ys
 
-bios_push : (xs : List RequestParts) (r : RequestParts) → bios_of (xs ++ r ∷ []) ≡ bios_of xs ++ r.bios
-bios_push xs r = bios_append xs (r ∷ []) ∙ ap (λ l. bios_of xs ++ l) (bios_cons r [] ∙ append-nil r.bios)
+bios_push : (xs : List RequestParts) (r : RequestParts) → bios_in (xs ++ r ∷ []) ≡ bios_in xs ++ r.bios
+bios_push xs r = bios_append xs (r ∷ []) ∙ ap (λ l. bios_in xs ++ l) (bios_cons r [] ∙ append-nil r.bios)
 
-bios_split : (xs ys : List RequestParts) (r : RequestParts) → bios_of (xs ++ r ∷ ys) ≡ bios_of xs ++ (r.bios ++ bios_of ys)
-bios_split xs ys r = bios_append xs (r ∷ ys) ∙ ap (λ l. bios_of xs ++ l) (bios_cons r ys)
+bios_split : (xs ys : List RequestParts) (r : RequestParts) → bios_in (xs ++ r ∷ ys) ≡ bios_in xs ++ (r.bios ++ bios_in ys)
+bios_split xs ys r = bios_append xs (r ∷ ys) ∙ ap (λ l. bios_in xs ++ l) (bios_cons r ys)
 
-units_split : (keys : List Rattle.bc_key.specs.KeyData.KeyData) (shards shard : ℕ) (xs ys : List MarkedBio) → units_on shards shard (units_planned keys (xs ++ ys)) ≡ units_on shards shard (units_planned keys xs) + units_on shards shard (units_planned keys ys)
+units_split : (keys : List Rattle.bc_key.specs.KeyData.KeyData) (shards shard : ℕ) (xs ys : List MarkedBio) → count_units_on shards shard (units_planned keys (xs ++ ys)) ≡ count_units_on shards shard (units_planned keys xs) + count_units_on shards shard (units_planned keys ys)
 units_split keys shards shard xs ys =
-    ap (units_on shards shard) (planned_append keys xs ys)
+    ap (count_units_on shards shard) (planned_append keys xs ys)
     ∙ ap length (filter-append (λ (u : PlannedUnit). Rattle.std.specs.Prelude.◌==◌ (shard_of shards u.sector) shard) (units_planned keys xs) (units_planned keys ys))
     ∙ length-append (filter (λ (u : PlannedUnit). Rattle.std.specs.Prelude.◌==◌ (shard_of shards u.sector) shard) (units_planned keys xs)) (filter (λ (u : PlannedUnit). Rattle.std.specs.Prelude.◌==◌ (shard_of shards u.sector) shard) (units_planned keys ys))
 
@@ -96,10 +96,10 @@ module _ {S : Type 0} (contents : S → Option Sectors) (disk : DiskData S) (sta
     pub many : length done ≡ number
     pub many_after : length after ≡ number
     pub ready : IsPassOf disk pass
-    pub sent : Sent (facts_on contents disk start) (facts_on contents disk pass) (bios_of done) (bios_of after) (all_pieces disk done)
+    pub sent : Sent (facts_on contents disk start) (facts_on contents disk pass) (bios_in done) (bios_in after) (all_pieces disk done)
     pub waiting : Each IsWaiting after
     pub count : count_bios after ≡ count_bios done
-    pub entries : LeavesEntries (facts_on contents disk start) (facts_on contents disk pass) (bare_bios (bios_of done))
+    pub entries : LeavesEntries (facts_on contents disk start) (facts_on contents disk pass) (bare_bios (bios_in done))
     pub left : (device : ℕ) → events_left disk start device ≤ events_left disk pass device + 2 * pieces_on disk.targets device (all_pieces disk done)
 
   pub sending_none : (requests : List RequestParts) → IsPassOf disk start → Sending start requests requests 0
@@ -136,18 +136,18 @@ module _ {S : Type 0} (contents : S → Option Sectors) (disk : DiskData S) (sta
     pub next_has : (P : RequestParts → Type 0) → Each P requests → P r
     next_has P each = (each_back P s.done (r ∷ here.0) (subst (Each P) whole each)).0
 
-    pub next_taken : (P : MarkedBio → Type 0) → Each P (bios_of requests) → Each P r.bios
+    pub next_taken : (P : MarkedBio → Type 0) → Each P (bios_in requests) → Each P r.bios
     next_taken P each =
-        each_front P r.bios (bios_of here.0)
-        (each_back P (bios_of s.done) (r.bios ++ bios_of here.0) (subst (Each P) (ap bios_of whole ∙ bios_split s.done here.0 r) each))
+        each_front P r.bios (bios_in here.0)
+        (each_back P (bios_in s.done) (r.bios ++ bios_in here.0) (subst (Each P) (ap bios_in whole ∙ bios_split s.done here.0 r) each))
 
-    pub next_entries : HasEntriesFor (facts_on contents disk start) (bare_bios (bios_of requests)) → HasEntriesFor (facts_on contents disk pass) (bare_bios r.bios)
+    pub next_entries : HasEntriesFor (facts_on contents disk start) (bare_bios (bios_in requests)) → HasEntriesFor (facts_on contents disk pass) (bare_bios r.bios)
     next_entries has shard =
         let total = has shard in
         let less = s.entries shard in
-        let all = ap (λ (bs : List MarkedBio). units_on (shards_of disk.queue.medium) shard (units_planned (keys_in disk) bs)) (ap bios_of whole ∙ bios_split s.done here.0 r) in
-        let first = units_split (keys_in disk) (shards_of disk.queue.medium) shard (bios_of s.done) (r.bios ++ bios_of here.0) in
-        let second = units_split (keys_in disk) (shards_of disk.queue.medium) shard r.bios (bios_of here.0) in
+        let all = ap (λ (bs : List MarkedBio). count_units_on (shards_of disk.queue.medium) shard (units_planned (keys_in disk) bs)) (ap bios_in whole ∙ bios_split s.done here.0 r) in
+        let first = units_split (keys_in disk) (shards_of disk.queue.medium) shard (bios_in s.done) (r.bios ++ bios_in here.0) in
+        let second = units_split (keys_in disk) (shards_of disk.queue.medium) shard r.bios (bios_in here.0) in
         omega (arith, total, less, all, first, second)
 
     pub next_events : ((device : ℕ) → 2 * pieces_on disk.targets device (all_pieces disk requests) ≤ events_left disk start device) → (device : ℕ) → inline_events disk (tagged_bios r.bios) device ≤ events_left disk pass device
@@ -165,7 +165,7 @@ module _ {S : Type 0} (contents : S → Option Sectors) (disk : DiskData S) (sta
     sending_more name name_later stays by_bios pass' r' ready fine waits carries entries events =
         let same : length r'.bios ≡ length r.bios =
         sym (length-map r'.bios (λ (m : MarkedBio). tagged_of m.bio)) ∙ ap length carries.bios ∙ length-map r.bios (λ (m : MarkedBio). tagged_of m.bio) in
-        let goes : GoesOn (facts_on contents disk pass).access (facts_on contents disk pass').access =
+        let goes : HasSameWay (facts_on contents disk pass).access (facts_on contents disk pass').access =
         ap (λ (c : ℕ). let f : AccessFacts = record (facts_on contents disk pass').access { caller = c } in f) carries.adds.same.caller in
         record {
           done = s.done ++ r ∷ [];
@@ -177,10 +177,10 @@ module _ {S : Type 0} (contents : S → Option Sectors) (disk : DiskData S) (sta
           many_after = let long = length-append s.after (r' ∷ []) in let was = s.many_after in omega (arith, long, was);
           ready = ready;
           sent =
-              subst (λ (bs : List MarkedBio). Sent (facts_on contents disk start) (facts_on contents disk pass') bs (bios_of (s.after ++ r' ∷ [])) (all_pieces disk (s.done ++ r ∷ []))) (sym (bios_push s.done r))
-              (subst (λ (bs : List MarkedBio). Sent (facts_on contents disk start) (facts_on contents disk pass') (bios_of s.done ++ r.bios) bs (all_pieces disk (s.done ++ r ∷ []))) (sym (bios_push s.after r'))
-              (subst (λ (ps : List (List NamedUnit)). Sent (facts_on contents disk start) (facts_on contents disk pass') (bios_of s.done ++ r.bios) (bios_of s.after ++ r'.bios) ps) (sym (pieces_push s.done r))
-              (sent_more name name_later stays by_bios (facts_on contents disk start) (facts_on contents disk pass) (facts_on contents disk pass') (bios_of s.done) (bios_of s.after) (all_pieces disk s.done) r r' s.sent fine goes carries)));
+              subst (λ (bs : List MarkedBio). Sent (facts_on contents disk start) (facts_on contents disk pass') bs (bios_in (s.after ++ r' ∷ [])) (all_pieces disk (s.done ++ r ∷ []))) (sym (bios_push s.done r))
+              (subst (λ (bs : List MarkedBio). Sent (facts_on contents disk start) (facts_on contents disk pass') (bios_in s.done ++ r.bios) bs (all_pieces disk (s.done ++ r ∷ []))) (sym (bios_push s.after r'))
+              (subst (λ (ps : List (List NamedUnit)). Sent (facts_on contents disk start) (facts_on contents disk pass') (bios_in s.done ++ r.bios) (bios_in s.after ++ r'.bios) ps) (sym (pieces_push s.done r))
+              (sent_more name name_later stays by_bios (facts_on contents disk start) (facts_on contents disk pass) (facts_on contents disk pass') (bios_in s.done) (bios_in s.after) (all_pieces disk s.done) r r' s.sent fine goes carries)));
           waiting = each_append IsWaiting s.after (r' ∷ []) s.waiting (
             record {
               some = let some = waits.some in omega (arith, some, same);
@@ -198,7 +198,7 @@ module _ {S : Type 0} (contents : S → Option Sectors) (disk : DiskData S) (sta
           entries = λ shard.
               let first = s.entries shard in
               let second = entries shard in
-              let all = ap (λ (bs : List MarkedBio). units_on (shards_of disk.queue.medium) shard (units_planned (keys_in disk) bs)) (bios_push s.done r) ∙ units_split (keys_in disk) (shards_of disk.queue.medium) shard (bios_of s.done) r.bios in
+              let all = ap (λ (bs : List MarkedBio). count_units_on (shards_of disk.queue.medium) shard (units_planned (keys_in disk) bs)) (bios_push s.done r) ∙ units_split (keys_in disk) (shards_of disk.queue.medium) shard (bios_in s.done) r.bios in
               omega (arith, first, second, all);
           left = λ device.
               let first = s.left device in
@@ -213,13 +213,13 @@ module _ {S : Type 0} (contents : S → Option Sectors) (disk : DiskData S) (sta
   no_more [] none = refl
   no_more (x ∷ xs) none = absurd (omega (arith, none))
 
-  module _ (requests : List RequestParts) (window : IsOfWindow (keys_in disk) requests (tagged_bios (bios_of requests))) where
-    pub window_is : all_pieces disk requests ≡ window_pieces disk.targets (keys_in disk) (bare_bios (bios_of requests))
+  module _ (requests : List RequestParts) (window : IsOfWindow (keys_in disk) requests (tagged_bios (bios_in requests))) where
+    pub window_is : all_pieces disk requests ≡ window_pieces disk.targets (keys_in disk) (bare_bios (bios_in requests))
     window_is =
         sym (flat_map-map (inline_pieces disk.targets (keys_in disk)) (λ (r : RequestParts). tagged_bios r.bios) requests)
-        ∙ ap (flat_map (inline_pieces disk.targets (keys_in disk))) (window ∙ ap (Rattle.bc_bio.specs.Windows.requests_of (keys_in disk)) (sym (bare_tags (bios_of requests))))
+        ∙ ap (flat_map (inline_pieces disk.targets (keys_in disk))) (window ∙ ap (Rattle.bc_bio.specs.Windows.requests_of (keys_in disk)) (sym (bare_tags (bios_in requests))))
 
-    pub window_events : (pass : PassData S) → ((device : ℕ) → events_for disk.targets (keys_in disk) (bare_bios (bios_of requests)) device ≤ events_left disk pass device) → (device : ℕ) → 2 * pieces_on disk.targets device (all_pieces disk requests) ≤ events_left disk pass device
+    pub window_events : (pass : PassData S) → ((device : ℕ) → events_for disk.targets (keys_in disk) (bare_bios (bios_in requests)) device ≤ events_left disk pass device) → (device : ℕ) → 2 * pieces_on disk.targets device (all_pieces disk requests) ≤ events_left disk pass device
     window_events pass has device = subst (λ (ps : List (List NamedUnit)). 2 * pieces_on disk.targets device ps ≤ events_left disk pass device) (sym window_is) (has device)
 
     module _ (pass : PassData S) (now : List RequestParts) (number : ℕ) (s : Sending pass requests now number) (end : number ≡ length requests) where
@@ -245,16 +245,16 @@ module _ {S : Type 0} (contents : S → Option Sectors) (disk : DiskData S) (sta
         most = was.most;
       }
 
-      pub sent_all : HasNoFault (bios_of requests) → Submits (facts_on contents disk start) (facts_on contents disk pass) (bare_bios (bios_of requests)) (map reply_of (bios_of now))
+      pub sent_all : HasNoFault (bios_in requests) → Submits (facts_on contents disk start) (facts_on contents disk pass) (bare_bios (bios_in requests)) (map reply_of (bios_in now))
       sent_all fine =
-          submits_all (facts_on contents disk start) (facts_on contents disk pass) (bios_of requests) (bios_of now) (all_pieces disk requests)
-          (subst (λ rs. Sent (facts_on contents disk start) (facts_on contents disk pass) (bios_of rs) (bios_of now) (all_pieces disk rs)) (sym all_done)
-          (subst (λ rs. Sent (facts_on contents disk start) (facts_on contents disk pass) (bios_of s.done) (bios_of rs) (all_pieces disk s.done)) (sym all_after) s.sent)) fine window_is
+          submits_all (facts_on contents disk start) (facts_on contents disk pass) (bios_in requests) (bios_in now) (all_pieces disk requests)
+          (subst (λ rs. Sent (facts_on contents disk start) (facts_on contents disk pass) (bios_in rs) (bios_in now) (all_pieces disk rs)) (sym all_done)
+          (subst (λ rs. Sent (facts_on contents disk start) (facts_on contents disk pass) (bios_in s.done) (bios_in rs) (all_pieces disk s.done)) (sym all_after) s.sent)) fine window_is
 
-      pub entries_all : LeavesEntries (facts_on contents disk start) (facts_on contents disk pass) (bare_bios (bios_of requests))
-      entries_all = subst (λ rs. LeavesEntries (facts_on contents disk start) (facts_on contents disk pass) (bare_bios (bios_of rs))) (sym all_done) s.entries
+      pub entries_all : LeavesEntries (facts_on contents disk start) (facts_on contents disk pass) (bare_bios (bios_in requests))
+      entries_all = subst (λ rs. LeavesEntries (facts_on contents disk start) (facts_on contents disk pass) (bare_bios (bios_in rs))) (sym all_done) s.entries
 
-      pub events_all : (device : ℕ) → events_left disk start device ≤ events_left disk pass device + events_for disk.targets (keys_in disk) (bare_bios (bios_of requests)) device
+      pub events_all : (device : ℕ) → events_left disk start device ≤ events_left disk pass device + events_for disk.targets (keys_in disk) (bare_bios (bios_in requests)) device
       events_all device =
           subst (λ (ps : List (List NamedUnit)). events_left disk start device ≤ events_left disk pass device + 2 * pieces_on disk.targets device ps) window_is
           (subst (λ rs. events_left disk start device ≤ events_left disk pass device + 2 * pieces_on disk.targets device (all_pieces disk rs)) (sym all_done) (s.left device))

@@ -9,10 +9,9 @@ use Rattle.bc_bio.specs.Windows.{NamedUnit, TaggedBio}
 use Rattle.bc_medium.specs.Growth.{Attempts}
 use Rattle.bc_profile.specs.Laws.{HoldsNameProgrammings, LaterHoldsNameLater}
 use Rattle.bc_stack.specs.declared.target.Target.{Target}
-use Rattle.bc_queue.specs.Carrying.{AccessFacts, GoesOn}
+use Rattle.bc_queue.specs.Carrying.{AccessFacts, HasSameWay}
 use Rattle.bc_queue.specs.Laws.{TagsDiffer}
-use Rattle.bc_queue.proofs.Lists.{zip_append}
-use Rattle.bc_pieces.specs.Attempted.{HasNoFault, IsWhole}
+use Rattle.bc_pieces.specs.AttemptedRequest.{HasNoFault, IsWholeRequest}
 use Rattle.bc_pieces.specs.Becoming.{Becomes}
 use Rattle.bc_pieces.specs.Laws.{BecomesStays, PlannedByBios}
 use Rattle.bc_pieces.specs.Pieces.{DeviceFacts}
@@ -20,13 +19,15 @@ use Rattle.bc_disk.specs.Submissions.{Adds, CarriesRequest, Submits, bare_bios, 
 use Rattle.bc_disk.proofs.Adding.{adds_append, adds_none}
 use Rattle.bc_disk.proofs.Attempting.{attempts_on, differ_back, differ_front, units_planned}
 use Rattle.bc_disk.proofs.Inlining.{planned_is}
-use Rattle.bc_disk.proofs.OneWay.{becomes_by, zip_each}
+use Rattle.bc_disk.proofs.OneWay.{becomes_by}
 use Rattle.bc_disk.proofs.Submitting.{adds_by, replies_to}
+use Rattle.bc_base.proofs.Members.{zip_append}
+use Rattle.bc_pieces.proofs.Whole.{zip_each}
 
 -- these bios were submitted, in requests with these pieces, and became those
 pub record Sent (old new : DeviceFacts) (bios afters : List MarkedBio) (pieces : List (List NamedUnit)) : Type 0 where
   pub adds : Adds old new pieces
-  pub goes : GoesOn old.access new.access
+  pub goes : HasSameWay old.access new.access
   pub attempts : TagsDiffer (tagged_bios bios) → Attempts old.access.caller [] (units_planned old.access.keys bios) adds.made
   pub becomes : AllZip (Becomes old.access new.access.seen) bios afters
 
@@ -36,13 +37,13 @@ sent_none facts = record { adds = adds_none facts; goes = refl; attempts = λ di
 
 module _ (name : HoldsNameProgrammings) (name_later : LaterHoldsNameLater) (stays : BecomesStays) (by_bios : PlannedByBios) where
   -- one request more
-  pub sent_more : (old mid new : DeviceFacts) (bios afters : List MarkedBio) (pieces : List (List NamedUnit)) (before after : RequestParts) → Sent old mid bios afters pieces → HasNoFault before.bios → GoesOn mid.access new.access → CarriesRequest mid new before after
+  pub sent_more : (old mid new : DeviceFacts) (bios afters : List MarkedBio) (pieces : List (List NamedUnit)) (before after : RequestParts) → Sent old mid bios afters pieces → HasNoFault before.bios → HasSameWay mid.access new.access → CarriesRequest mid new before after
       → Sent old new (bios ++ before.bios) (afters ++ after.bios) (pieces ++ inline_pieces old.targets old.access.keys (tagged_bios before.bios))
   unfolding adds_append adds_by
   sent_more old mid new bios afters pieces before after p fine goes c =
       let are : inline_pieces mid.targets mid.access.keys (tagged_bios before.bios) ≡ inline_pieces old.targets old.access.keys (tagged_bios before.bios) =
       ap (λ (ts : List Target). inline_pieces ts mid.access.keys (tagged_bios before.bios)) p.adds.same.targets ∙ ap (λ (ks : List KeyData). inline_pieces old.targets ks (tagged_bios before.bios)) p.adds.same.keys in
-      let whole : IsWhole mid.access new.access before after c.adds.made = c.whole fine in
+      let whole : IsWholeRequest mid.access new.access before after c.adds.made = c.whole fine in
       let one : TagsDiffer (tagged_bios before.bios) → Attempts old.access.caller [] (units_planned old.access.keys before.bios) c.adds.made =
       λ differ. subst (λ (n : ℕ). Attempts n [] (units_planned old.access.keys before.bios) c.adds.made) p.adds.same.caller
       (subst (λ (ks : List KeyData). Attempts mid.access.caller [] (units_planned ks before.bios) c.adds.made) p.adds.same.keys

@@ -6,8 +6,9 @@ use Rattle.bc_base.specs.Lists.{At}
 use Rattle.bc_base.proofs.Lists.{at_read}
 use Rattle.bc_profile.specs.Passes.{IsOf, ProfileData, SlotFacts, base_in, made_by, quota_of}
 use Rattle.bc_ufs.specs.Controllers.{ControllerData}
-use Rattle.bc_queue.proofs.Queues.{zip_at, zip_length}
+use Rattle.bc_queue.proofs.Queues.{zip_at}
 use Rattle.bc_disk.specs.Disks.{DiskData, IsPassOf, PassData, events_left}
+use Rattle.bc_base.proofs.Members.{zip_length}
 
 module _ {S : Type 0} (inside disk : DiskData S) (within pass : PassData S) (number device : ℕ) (is_disk : inside ≡ disk) (is_pass : within ≡ pass) (of : IsPassOf disk pass)
     (count : length inside.queue.controllers ≡ length inside.targets) (is_number : number ≡ device) (less : device < length disk.targets) where

@@ -7,20 +7,21 @@ use Rattle.std.proofs.lemmas.Option.{none-some, same_Some}
 use mathlib.Core.List.{reverse}
 use Rattle.bc_base.specs.Lists.{Each, EachFrom, At}
 use Rattle.bc_base.specs.Sectors.{Sectors}
-use Rattle.bc_base.specs.Stores.{ToldCalls}
+use Rattle.bc_base.specs.Stores.{StoreCalls}
 use Rattle.bc_base.proofs.Lists.{each_at, at_one}
-use Rattle.bc_turn.specs.Parts.{Pass, is_caller}
+use Rattle.bc_turn.specs.PassParts.{Pass, is_caller}
 use Rattle.bc_turn.specs.Turning.{one_if, sum_of}
 use Rattle.bc_medium.specs.declared.entry.Entry.{Entry}
 use Rattle.bc_medium.specs.Medium.{Belongs, EachTwoFrom, IsEnd, MediumData, OpeningData, shards_of}
 use Rattle.bc_profile.specs.declared.event.Event.{Event}
 use Rattle.bc_profile.specs.declared.noted.Noted.{Noted}
 use Rattle.bc_profile.specs.Story.{events_of}
-use Rattle.bc_profile.specs.Passes.{IsClosed as IsEndOfSlots, IsFree, SlotFacts, IsOf}
+use Rattle.bc_profile.specs.Passes.{IsClosedStory as IsEndOfSlots, IsFree, SlotFacts, IsOf}
 use Rattle.bc_ufs.specs.Controllers.{ControllerData}
 use Rattle.bc_disk.specs.Disks.{DiskData, IsDisk, IsPassOf, PassData}
 use Rattle.bc_disk.specs.Dealing.{dealt}
 use Rattle.bc_disk.specs.Closings.{AreAllPasses, IsClosedDisk, IsJournalOf, IsOpenDevice, IsSplit, OpenDeviceData, SplitData, devices_with, passes_on}
+use Rattle.bc_base.proofs.Members.{zip_length}
 
 -- ---- places
 
@@ -29,12 +30,6 @@ zip_there R [] ys k x all at = absurd (none-some x at)
 zip_there R (z ∷ xs) [] k x all at = absurd all
 zip_there R (z ∷ xs) (y ∷ ys) zero x all at = (y, refl, subst (λ w. R w y) (same_Some z x at) all.0)
 zip_there R (z ∷ xs) (y ∷ ys) (suc k) x all at = zip_there R xs ys k x all.1 at
-
-zip_length : {X Y : Type 0} (R : X → Y → Type 0) (xs : List X) (ys : List Y) → AllZip R xs ys → length ys ≡ length xs
-zip_length R [] [] all = refl
-zip_length R [] (y ∷ ys) all = absurd all
-zip_length R (x ∷ xs) [] all = absurd all
-zip_length R (x ∷ xs) (y ∷ ys) all = ap suc (zip_length R xs ys all.1)
 
 each_from_at : {A : Type 0} (P : ℕ → A → Type 0) (first : ℕ) (xs : List A) (k : ℕ) (x : A) → EachFrom P first xs → At xs k x → P (first + k) x
 each_from_at P first [] k x each at = absurd (none-some x at)
@@ -63,7 +58,7 @@ two_map P items first [] (y ∷ ys) each = absurd each
 two_map P items first (x ∷ xs) [] each = absurd each
 two_map P items first (x ∷ xs) (y ∷ ys) each = (each.0, two_map P items (first + 1) xs ys each.1)
 
-pub all_closed : {S V : Type 0} (owns : S → ℕ → Bool) (contents : S → Option Sectors) (told : S → Option ToldCalls) (faults : S → ℕ) (disk : DiskData S) (passes : List (PassData S)) (medium : MediumData S) (units : List (Pass Entry (OpeningData S))) (stores : List S) (items : V → List Entry) (orders : List V) (journals : List (List Event))
+pub all_closed : {S V : Type 0} (owns : S → ℕ → Bool) (contents : S → Option Sectors) (told : S → Option StoreCalls) (faults : S → ℕ) (disk : DiskData S) (passes : List (PassData S)) (medium : MediumData S) (units : List (Pass Entry (OpeningData S))) (stores : List S) (items : V → List Entry) (orders : List V) (journals : List (List Event))
     → medium ≡ disk.queue.medium → units ≡ map (λ pass. pass.units) passes → length stores ≡ shards_of medium → EachTwoFrom (λ shard store order. IsEnd owns contents told faults medium units shard store (items order)) 0 stores orders
     → length journals ≡ length disk.queue.controllers → EachFrom (IsJournalOf disk passes) 0 journals → IsClosedDisk owns contents told faults disk passes stores (map items orders) journals
 all_closed {S} owns contents told faults disk passes medium units stores items orders journals medium_is units_is count ends one_for_each each = record {

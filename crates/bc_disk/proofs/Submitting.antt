@@ -15,9 +15,9 @@ use Rattle.bc_stack.specs.declared.target.Target.{Target}
 use Rattle.bc_queue.specs.Carrying.{AccessFacts}
 use Rattle.bc_pieces.specs.Laws.{PlannedByBios}
 use Rattle.bc_pieces.specs.Pieces.{DeviceFacts}
-use Rattle.bc_pieces.specs.Told.{IsHoldOf}
+use Rattle.bc_pieces.specs.PieceEffects.{IsHoldOf}
 use Rattle.bc_pieces.specs.Becoming.{Becomes}
-use Rattle.bc_pieces.specs.Attempted.{IsWhole}
+use Rattle.bc_pieces.specs.AttemptedRequest.{IsWholeRequest}
 use Rattle.bc_disk.specs.Submissions.{Adds, CarriesRequest, RepliesTo, Submits, inline_pieces, window_pieces}
 
 -- the same pieces
@@ -50,7 +50,7 @@ module _ (by_bios : PlannedByBios) (old new : DeviceFacts) (bio : Bio) (reply : 
   unfolding adds_by
   one_is room after carries is =
       let pieces : inline_pieces old.targets old.access.keys (tagged_of bio ∷ []) ≡ window_pieces old.targets old.access.keys (bio ∷ []) = sym (one_window old.targets old.access.keys bio) in
-      let whole : IsWhole old.access new.access (record { bios = unmarked bio ∷ []; spare = room }) after carries.adds.made = carries.whole (refl, tt) in
+      let whole : IsWholeRequest old.access new.access (record { bios = unmarked bio ∷ []; spare = room }) after carries.adds.made = carries.whole (refl, tt) in
       record {
         adds = adds_by old new (inline_pieces old.targets old.access.keys (tagged_of bio ∷ [])) (window_pieces old.targets old.access.keys (bio ∷ [])) pieces carries.adds;
         attempts = λ differ. subst (λ (us : List PlannedUnit). Attempts old.access.caller [] us carries.adds.made) (by_bios old.access.keys (unmarked bio ∷ [])) (whole.attempts differ);

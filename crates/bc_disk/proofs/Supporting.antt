@@ -1,25 +1,24 @@
 -- What a controller supports that can do what its target says; and on which device a sector lies.
 use Rattle.std.proofs.Common.{◌≡◌, ℕ, zero, suc, ◌+◌, ◌*◌, ◌<◌, ◌≤◌, Bool, true, false, cond, not, List, [], ◌∷◌, ◌++◌, length, refl, sym, ap, subst, ◌∙◌, arith, Some, None}
-use Rattle.std.specs.Prelude.{◌&&◌, ◌==◌, nat_le, nat_lt, slice_get, is_some}
+use Rattle.std.specs.Prelude.{◌&&◌, nat_le, nat_lt, slice_get, is_some}
 use Rattle.std.specs.List.{list_all, position_or_len}
 use Rattle.std.proofs.Math.Logic.{⊎_elim}
-use Rattle.std.proofs.lemmas.Bool.{true≢false, ne_eqb, cases_lt, lt-ltb, le-leb, and_parts}
+use Rattle.std.proofs.lemmas.Bool.{true≢false, cases_lt, lt-ltb, le-leb, and_parts}
 use Rattle.std.proofs.lemmas.List.Sums.{fails_before_first}
 use Rattle.std.proofs.lemmas.Option.{none-some, same_Some, get_or_from_slice_get}
 use Rattle.bc_base.specs.Lists.{At}
 use Rattle.bc_key.specs.declared.caps.Caps.{Caps}
 use Rattle.bc_key.specs.declared.config.Config.{Config}
 use Rattle.bc_key.specs.declared.config.DataUnit.{DataUnit}
-use Rattle.bc_key.specs.declared.config.DataUnit.TheVariants.{Bytes512, Bytes1024, Bytes2048, Bytes4096}
 use Rattle.bc_key.specs.declared.config.Mode.{Mode}
 use Rattle.bc_key.specs.declared.config.Mode.TheVariants.{Aes256Xts, Aes128CbcEssiv}
-use Rattle.bc_key.specs.DataUnits.{bit_of}
-use Rattle.bc_key.specs.Support.{has_bits, has_unit, supports}
+use Rattle.bc_key.specs.Support.{has_unit, supports}
 use Rattle.bc_modes.specs.declared.ufs_caps.Capability.{Capability}
 use Rattle.bc_modes.specs.Capabilities.{capabilities_of, index_for, is_supported, present, serves}
 use Rattle.bc_stack.specs.declared.target.Target.{Target}
 use Rattle.bc_stack.specs.Devices.{all_support, end_of_target, has_sector}
 use Rattle.bc_stack.specs.Targets.{CoverAll, LieBetween}
+use Rattle.bc_modes.proofs.Masks.{place, some_bits}
 
 -- ---- capabilities
 
@@ -36,20 +35,6 @@ found p xs k x at pass =
     below [] k x at = absurd (none-some x at)
     below (y ∷ ys) zero x at = omega arith
     below (y ∷ ys) (suc k) x at = let lt = below ys k x at in omega (arith, lt)
-
-no_bits : (unit : DataUnit) → has_bits 0 (bit_of unit) ≡ true → ⊥
-no_bits Bytes512 e = absurd (true≢false (sym e))
-no_bits Bytes1024 e = absurd (true≢false (sym e))
-no_bits Bytes2048 e = absurd (true≢false (sym e))
-no_bits Bytes4096 e = absurd (true≢false (sym e))
-
--- a mask with a data unit's bit isn't empty
-some_bits : (mask : ℕ) (unit : DataUnit) → has_bits mask (bit_of unit) ≡ true → (mask == 0) ≡ false
-some_bits mask unit has = ne_eqb mask 0 (λ none. no_bits unit (subst (λ n. has_bits n (bit_of unit) ≡ true) none has))
-
-place : (first second : List Capability) (capability : Capability) → second ≡ capability ∷ [] → (k : ℕ) × At (first ++ second) k capability
-place [] second capability is = (0, ap (λ (l : List Capability). slice_get l 0) is)
-place (c ∷ cs) second capability is = let r = place cs second capability is in (suc r.0, r.1)
 
 serves_within : (caps : Caps) (mode : Mode) (unit : DataUnit) → has_unit caps mode unit ≡ true → position_or_len (serves mode unit) (capabilities_of caps).list < length (capabilities_of caps).list
 serves_within caps Aes256Xts unit has =

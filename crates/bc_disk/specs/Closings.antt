@@ -4,15 +4,15 @@ use Rattle.std.specs.Prelude.{filter_map, slice_get}
 use Rattle.std.specs.List.{list_any}
 use Rattle.bc_base.specs.Lists.{AllAt, Each, EachFrom}
 use Rattle.bc_base.specs.Sectors.{Sectors}
-use Rattle.bc_base.specs.Stores.{ToldCalls}
+use Rattle.bc_base.specs.Stores.{StoreCalls}
 use Rattle.bc_medium.specs.declared.entry.Entry.{Entry}
-use Rattle.bc_turn.specs.Parts.{Pass, is_caller}
+use Rattle.bc_turn.specs.PassParts.{Pass, is_caller}
 use Rattle.bc_turn.specs.Turning.{sum_of}
 use Rattle.bc_medium.specs.Medium.{Belongs, EachTwoFrom, IsEnd, MediumData, OpeningData}
 use Rattle.bc_profile.specs.declared.event.Event.{Event}
 use Rattle.bc_profile.specs.declared.noted.Noted.{Noted}
 use Rattle.bc_profile.specs.Story.{events_of}
-use Rattle.bc_profile.specs.Passes.{AreAllHere, IsClosed as IsEndOfSlots, IsFree, ProfileData, SlotFacts}
+use Rattle.bc_profile.specs.Passes.{AreAllHere, IsClosedStory as IsEndOfSlots, IsFree, ProfileData, SlotFacts}
 use Rattle.bc_ufs.specs.Controllers.{ControllerData}
 use Rattle.bc_disk.specs.Disks.{DiskData, IsPassOf, PassData}
 
@@ -36,9 +36,9 @@ module _ {S : Type 0} where
   abbrev pub passes_on : List (PassData S) → ℕ → List SlotFacts
   passes_on passes device = filter_map (λ pass. slice_get pass.slots device) passes
 
-  -- A disk was closed: each store is left as its shard's order leaves it, and each journal is that of a story; what each
-  -- pass has seen is a front of these, with all that its caller made.
-  pub record IsClosedDisk (owns : S → ℕ → Bool) (contents : S → Option Sectors) (told : S → Option ToldCalls)
+  -- A disk was closed: each store is left as its shard's order leaves it, and each journal is that of a story; what
+  -- each pass has seen is a prefix of these, with all that its caller made.
+  pub record IsClosedDisk (owns : S → ℕ → Bool) (contents : S → Option Sectors) (told : S → Option StoreCalls)
       (faults : S → ℕ) (disk : DiskData S) (passes : List (PassData S)) (stores : List S) (orders : List (List Entry))
       (journals : List (List Event)) : Type 0 where
     pub count : length stores ≡ length disk.queue.medium.turns.cells

@@ -1,6 +1,6 @@
 -- Private: lists of which each gets an element more, and lists that are joined place by place.
 use Rattle.std.specs.Prelude.{ℕ, List, [], ◌∷◌, ◌++◌, map}
-use Rattle.bc_turn.specs.Parts.{Pass}
+use Rattle.bc_turn.specs.PassParts.{Pass}
 use Rattle.bc_medium.specs.declared.entry.Entry.{Entry}
 use Rattle.bc_medium.specs.Medium.{OpeningData}
 use Rattle.bc_profile.specs.Passes.{SlotFacts, new_pass}

@@ -16,7 +16,7 @@ use Rattle.bc_bio.specs.declared.extent.Extent.{Extent}
 use Rattle.bc_bio.specs.declared.refusal.Refusal.{Refusal}
 use Rattle.bc_bio.specs.declared.refusal.Refusal.TheVariants as refusals
 use Rattle.bc_bio.specs.Check.{check_of}
-use Rattle.bc_turn.specs.Parts.{Pass}
+use Rattle.bc_turn.specs.PassParts.{Pass}
 use Rattle.bc_medium.specs.declared.entry.Entry.{Entry}
 use Rattle.bc_medium.specs.Medium.{OpeningData, OwnsSectors}
 use Rattle.bc_profile.specs.Passes.{SlotFacts, base_in, made_by, quota_of}
@@ -78,8 +78,8 @@ module _ {S : Type 0} where
       quota_of (base_in controller.profile) slots.caller - length (made_by slots)) (slice_get pass.slots device) 0)
       (slice_get disk.queue.controllers device) 0
 
-  -- What a disk keeps: each device has a controller, with a row of each key, that can do what its target says, all have the
-  -- medium's callers, and the sectors of its blocks have numbers of 32 bits and belong to their shards' stores.
+  -- What a disk keeps: each device has a controller, with a row of each key, that can do what its target says, all have
+  -- the medium's callers, and the sectors of its blocks have numbers of 32 bits and belong to their shards' stores.
   pub record IsDisk (owns : S → ℕ → Bool) (disk : DiskData S) : Type 0 where
     pub count : length disk.queue.controllers ≡ length disk.targets
     pub rows : AreControllers (keys_in disk) disk.queue.controllers

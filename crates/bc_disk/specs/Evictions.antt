@@ -19,7 +19,7 @@ pub record AddsEvents (old new : DeviceFacts) (made : ℕ → List Event) : Type
       (made device)
 
 -- an eviction emptied the slot that had the key, if one had it: then none has it
-pub record Empties (slots : ℕ) (front : List Noted) (key : ℕ) (made : List Event) : Type 0 where
+pub record EmptiesSlot (slots : ℕ) (front : List Noted) (key : ℕ) (made : List Event) : Type 0 where
   pub events : (made ≡ []) ⊎ ((slot : ℕ) × (made ≡ events.Evict slot key ∷ []))
   pub gone : IsGone slots front key
 
@@ -33,16 +33,16 @@ abbrev pub IsBefore : ℕ → Option Busy → Type 0
 IsBefore device None = ⊤
 IsBefore device (Some busy) = device < busy.device
 
--- A key was asked out of each of the first so many devices, in ascending order; `refused` is the first refusal, if there
--- was one.
+-- A key was asked out of each of the first so many devices, in ascending order; `refused` is the first refusal, if
+-- there was one.
 pub record AsksFirst (devices : ℕ) (old new : DeviceFacts) (key : ℕ) (refused : Option Busy) : Type 0 where
   pub made : ℕ → List Event
   pub adds : AddsEvents old new made
   pub each : (device : ℕ) → device < devices
-      → Empties (old.slots device) (list_at new.noted device) key (made device)
+      → EmptiesSlot (old.slots device) (list_at new.noted device) key (made device)
       ⊎ ((slot refs : ℕ) × IsRefusedBy key slot refs (made device))
   pub before : (device : ℕ) → device < devices → IsBefore device refused
-      → Empties (old.slots device) (list_at new.noted device) key (made device)
+      → EmptiesSlot (old.slots device) (list_at new.noted device) key (made device)
   pub first : IfSome refused (λ busy.
       (busy.device < devices) × IsRefusedBy key busy.slot busy.refs (made busy.device))
   pub others : (device : ℕ) → devices ≤ device → made device ≡ []
@@ -68,7 +68,7 @@ pub record AddsAt (old new : DeviceFacts) (device : ℕ) (made : List Event) : T
 pub record AsksOne (old new : DeviceFacts) (device key : ℕ) (refused : Option Busy) : Type 0 where
   pub made : List Event
   pub adds : AddsAt old new device made
-  pub answer : MatchOption refused (Empties (old.slots device) (list_at new.noted device) key made)
+  pub answer : MatchOption refused (EmptiesSlot (old.slots device) (list_at new.noted device) key made)
       (λ busy. (busy.device ≡ device) × IsRefusedBy key busy.slot busy.refs made)
 
 -- Private: the caller may still make an event on each device from this one on, and has made one at most on each so far.

@@ -2,14 +2,14 @@
 use Rattle.std.specs.Prelude.{◌≡◌, ℕ, ◌+◌, ◌≤◌, List, [], map, replicate, vec_capacity, vec_len}
 use Rattle.bc_base.specs.Lists.{Each}
 use Rattle.bc_disk.specs.declared.split.Rooms.{Rooms}
-use Rattle.bc_disk.specs.declared.split.Parts.{Parts}
-use Rattle.bc_disk.specs.declared.split.Parts.TheVariants.{Whole, Split}
+use Rattle.bc_disk.specs.declared.split.DiskParts.{DiskParts}
+use Rattle.bc_disk.specs.declared.split.DiskParts.TheVariants.{Whole, Split}
 use Rattle.bc_disk.specs.Disks.{DiskData, PassData}
 use Rattle.bc_disk.specs.Closings.{AreAllPasses, IsSplit}
 
 module _ {S : Type 0} where
   -- Private: this is left of the disk and of the passes: all of it, or its parts.
-  abbrev pub IsLeft : DiskData S → List (PassData S) → Parts S → Type 0
+  abbrev pub IsLeft : DiskData S → List (PassData S) → DiskParts S → Type 0
   IsLeft disk passes (Whole all callers) = (all ≡ disk) × (callers.items ≡ passes) × AreAllPasses disk passes
   IsLeft disk passes (Split split) = IsSplit disk passes split
 

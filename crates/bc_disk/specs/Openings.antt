@@ -4,10 +4,10 @@ use Rattle.std.specs.Prelude.{slice_index_or}
 use Rattle.bc_base.specs.declared.geometry.TheConstants.{BLOCK_SECTORS}
 use Rattle.bc_base.specs.Lists.{AllAt, Each, list_at}
 use Rattle.bc_base.specs.Sectors.{Sectors}
-use Rattle.bc_base.specs.Stores.{ToldCalls}
+use Rattle.bc_base.specs.Stores.{StoreCalls}
 use Rattle.bc_key.specs.KeyData.{KeyData}
-use Rattle.bc_medium.specs.Medium.{column, shards_of}
-use Rattle.bc_medium.specs.Places.{shard_of}
+use Rattle.bc_medium.specs.Medium.{quotas_of_shard, shards_of}
+use Rattle.bc_medium.specs.Layout.{shard_of}
 use Rattle.bc_profile.specs.declared.limits.TheConstants.{MAX_EVENTS}
 use Rattle.bc_stack.specs.Targets.{StackParts}
 use Rattle.bc_modes.specs.Capabilities.{capabilities_of}
@@ -24,7 +24,7 @@ quota_at rows caller place = slice_index_or (list_at rows caller) place 0
 -- A disk may be opened over these stores, which are those of all shards of a disk of so many blocks, under a stack that
 -- was made for as many; `units` is how many entries each caller may have at each shard, and `events` how many events on
 -- each device.
-pub record MayOpen {S : Type 0} (owns : S → ℕ → Bool) (told : S → Option ToldCalls) (stack : StackParts) (blocks : ℕ)
+pub record MayOpen {S : Type 0} (owns : S → ℕ → Bool) (told : S → Option StoreCalls) (stack : StackParts) (blocks : ℕ)
     (stores : List S) (units events : List (List ℕ)) : Type 0 where
   pub callers : (1 ≤ length units) × (length units ≤ 65535)
   pub same_callers : length events ≡ length units
@@ -35,9 +35,9 @@ pub record MayOpen {S : Type 0} (owns : S → ℕ → Bool) (told : S → Option
       → AllAt stores (shard_of (length stores) sector) (λ store. owns store sector ≡ true)
   pub fresh : Each (λ store. IfSome (told store) (λ calls. calls.calls ≡ 0)) stores
   pub unit_rows : Each (λ row. length row ≡ length stores) units
-  pub unit_sums : (shard : ℕ) → shard < length stores → sum (column shard units) < 2 ^ 32
+  pub unit_sums : (shard : ℕ) → shard < length stores → sum (quotas_of_shard shard units) < 2 ^ 32
   pub event_rows : Each (λ row. length row ≡ length stack.targets) events
-  pub event_sums : (device : ℕ) → device < length stack.targets → sum (column device events) < MAX_EVENTS
+  pub event_sums : (device : ℕ) → device < length stack.targets → sum (quotas_of_shard device events) < MAX_EVENTS
 
 module _ {S : Type 0} (contents : S → Option Sectors) where
   -- the pass of a caller that has seen nothing yet, with its quotas
@@ -68,12 +68,13 @@ module _ {S : Type 0} (contents : S → Option Sectors) where
     pub pass_for_each : length passes ≡ length units
     pub are_new : (caller : ℕ) → AllAt passes caller (IsNewPass disk units events caller)
 
--- Private: the controller is that of the target's device, which has no events yet, with these quotas of events by caller.
+-- Private: the controller is that of the target's device, which has no events yet, with these quotas of events by
+-- caller.
 pub record IsNewDevice (keys : List KeyData) (events : List (List ℕ)) (device : ℕ) (target : Target)
     (controller : ControllerData) : Type 0 where
   pub is_its : IsController keys device controller
   pub caps : controller.caps ≡ capabilities_of target.caps
-  pub base : base_in controller.profile ≡ record { slots = target.slots; quotas = column device events }
+  pub base : base_in controller.profile ≡ record { slots = target.slots; quotas = quotas_of_shard device events }
   pub callers : controller.profile.turns.callers ≡ length events
 
 -- Private: the controllers are those of the first of the targets.

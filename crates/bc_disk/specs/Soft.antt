@@ -31,8 +31,8 @@ module _ {S : Type 0} where
     pub sectors : OwnsSectors owns way.medium sector (unit_sectors way.medium.keys.keys context)
     pub cipher : HasCipherOf way context
 
-  -- a unit at this sector under this context goes by software: its sectors belong to its shard's store, and its key is one
-  -- that doesn't go inline
+  -- a unit at this sector under this context goes by software: its sectors belong to its shard's store, and its key is
+  -- one that doesn't go inline
   pub record GoesSoft (owns : S → ℕ → Bool) (disk : DiskData S) (sector : ℕ) (context : Option Context) : Type 0 where
     pub sectors : OwnsSectors owns disk.queue.medium sector (unit_sectors (keys_in disk) context)
     pub key : IsSomeAnd context (λ c. IsSomeAnd (key_at (keys_in disk) c.key)

@@ -1,5 +1,6 @@
 -- What a submission of bios does, whichever way they go: inline by their devices, by software, or in the clear.
-use Rattle.std.specs.Prelude.{◌≡◌, ℕ, ◌+◌, ◌*◌, ◌≤◌, Bool, true, false, List, [], ◌∷◌, map, flat_map, Option, Some, None, MatchOption, ⊤, if◌then◌else◌}
+use Rattle.std.specs.Prelude.{◌≡◌, ℕ, ◌+◌, ◌*◌, ◌≤◌, Bool, true, false, List, [], ◌∷◌, map, flat_map, Option, Some}
+use Rattle.std.specs.Prelude.{None, MatchOption, ⊤, if◌then◌else◌}
 use Rattle.std.specs.Option.{option_map_or}
 use Rattle.std.specs.List.{AllZip}
 use Rattle.bc_base.specs.Lists.{Each, list_at}
@@ -23,15 +24,15 @@ use Rattle.bc_profile.specs.declared.noted.Noted.{Noted}
 use Rattle.bc_stack.specs.declared.target.Target.{Target}
 use Rattle.bc_stack.specs.Devices.{device_at}
 use Rattle.bc_stack.specs.Pieces.{pieces_of}
-use Rattle.bc_queue.specs.RequestUnits.{units_on}
+use Rattle.bc_queue.specs.RequestUnits.{count_units_on}
 use Rattle.bc_queue.specs.declared.plug.TheConstants.{MAX_PLUGGED}
 use Rattle.bc_queue.specs.Plugs.{PlugParts, count_bios}
 use Rattle.bc_queue.specs.Carrying.{AccessFacts}
 use Rattle.bc_queue.specs.Laws.{TagsDiffer}
 use Rattle.bc_pieces.specs.Pieces.{DeviceFacts, NotesOn, SameDisk, pieces_on}
-use Rattle.bc_pieces.specs.Told.{HasHoldBetween, IsHoldOf, OneHold, Rise, events_on}
+use Rattle.bc_pieces.specs.PieceEffects.{HasHoldBetween, IsHoldOf, OneHold, Rise, events_on}
 use Rattle.bc_pieces.specs.Becoming.{Becomes, planned_units}
-use Rattle.bc_pieces.specs.Attempted.{HasNoFault, IsWhole}
+use Rattle.bc_pieces.specs.AttemptedRequest.{HasNoFault, IsWholeRequest}
 use Rattle.bc_disk.specs.declared.disk.PlugBack.{PlugBack}
 use Rattle.bc_disk.specs.declared.disk.PlugBack.TheVariants as backs
 use Rattle.bc_disk.specs.declared.submission.Way.{Way}
@@ -97,8 +98,8 @@ HasItsHold slots old new e = IsInline e.via → HasHoldBetween slots old new e
 
 -- ---- what is added
 
--- The caller's entries go on by just these, each by the way of its unit; its events by those of one hold for each piece; each
--- inline entry has its hold, and none names an earlier event than one before it.
+-- The caller's entries go on by just these, each by the way of its unit; its events by those of one hold for each
+-- piece; each inline entry has its hold, and none names an earlier event than one before it.
 pub record Adds (old new : DeviceFacts) (pieces : List (List NamedUnit)) : Type 0 where
   pub same : SameDisk old new
   pub made : List Entry
@@ -114,7 +115,7 @@ pub record Adds (old new : DeviceFacts) (pieces : List (List NamedUnit)) : Type 
 -- a request was carried out as a whole
 pub record CarriesRequest (old new : DeviceFacts) (before after : RequestParts) : Type 0 where
   pub adds : Adds old new (inline_pieces old.targets old.access.keys (tagged_bios before.bios))
-  pub whole : HasNoFault before.bios → IsWhole old.access new.access before after adds.made
+  pub whole : HasNoFault before.bios → IsWholeRequest old.access new.access before after adds.made
   pub bios : tagged_bios after.bios ≡ tagged_bios before.bios
   pub room : after.spare ≡ before.spare
 
@@ -123,8 +124,8 @@ abbrev pub RepliesTo : AccessFacts → List (List Entry) → Bio → Reply → T
 RepliesTo facts seen bio reply =
     (after : MarkedBio) × Becomes facts seen (unmarked bio) after × (reply ≡ reply_of after)
 
--- Bios were submitted as a window, and answered. Where no two of them have one tag, the entries are those of their units that
--- are to be attempted, each once, in their order.
+-- Bios were submitted as a window, and answered. Where no two of them have one tag, the entries are those of their
+-- units that are to be attempted, each once, in their order.
 pub record Submits (old new : DeviceFacts) (bios : List Bio) (answers : List Reply) : Type 0 where
   pub adds : Adds old new (window_pieces old.targets old.access.keys bios)
   pub attempts : TagsDiffer (map tagged_of bios)
@@ -156,14 +157,14 @@ IsPlugBack disk plug bio (backs.Full back) =
 -- the caller may have an entry more for each unit of these bios on its shard
 abbrev pub HasEntriesFor : DeviceFacts → List Bio → Type 0
 HasEntriesFor facts bios =
-    (shard : ℕ) → units_on facts.access.shards shard (flat_map (planned_units facts.access.keys) bios)
+    (shard : ℕ) → count_units_on facts.access.shards shard (flat_map (planned_units facts.access.keys) bios)
     ≤ facts.access.spare shard
 
 -- the caller's room has become less by those entries at most
 abbrev pub LeavesEntries : DeviceFacts → DeviceFacts → List Bio → Type 0
 LeavesEntries old new bios =
     (shard : ℕ) → old.access.spare shard
-    ≤ new.access.spare shard + units_on old.access.shards shard (flat_map (planned_units old.access.keys) bios)
+    ≤ new.access.spare shard + count_units_on old.access.shards shard (flat_map (planned_units old.access.keys) bios)
 
 -- two events for each piece of the bios on a device
 abbrev pub events_for : List Target → List KeyData → List Bio → ℕ → ℕ
@@ -175,7 +176,8 @@ inline_events disk request device =
     2 * pieces_on disk.targets device (inline_pieces disk.targets (keys_in disk) request)
 
 -- a bio was answered: it was refused, and nothing changed; or it was submitted alone
-abbrev pub AnswersBio : {S : Type 0} → (S → Option Sectors) → DiskData S → PassData S → PassData S → Bio → Reply → Type 0
+abbrev pub AnswersBio :
+    {S : Type 0} → (S → Option Sectors) → DiskData S → PassData S → PassData S → Bio → Reply → Type 0
 AnswersBio contents disk old new bio reply =
     MatchOption (refusal_on disk (extent_of bio))
     (Submits (facts_on contents disk old) (facts_on contents disk new) (bio ∷ []) (reply ∷ []))

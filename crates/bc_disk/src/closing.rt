@@ -3,7 +3,7 @@
 ghost use Rattle.std.specs.Prelude.{◌≡◌, map, IfOk, IfErr};
 ghost use Rattle.bc_disk.specs.Closings.{AreAllPasses, IsClosedDisk};
 
-use crate::split::{Parts, Split};
+use crate::split::{DiskParts, Split};
 use crate::{Disk, Pass};
 use bc_base::Store;
 use bc_medium::Entry;
@@ -26,7 +26,7 @@ pub struct Closing<S: Store> {
     /// The disk and the passes as they were handed in.
     disk: Snapshot<Disk<S>>,
     passes: Snapshot<Vec<Pass<S>>>,
-    parts: Parts<S>,
+    parts: DiskParts<S>,
 }
 
 impl<S: Store> Model for Closing<S> {
@@ -48,7 +48,7 @@ impl<S: Store> Disk<S> {
     /// Out of memory: then what is closed and what isn't comes back, and [`Closing::go_on`] closes the rest.
     pub fn close<R: Wait>(self, rt: &R, passes: Vec<Pass<S>>) -> Result<Closed<S>, Closing<S>>
         requires all { AreAllPasses self passes.items }
-        ensures closed { IfOk result (λ closed. IsClosedDisk S.owns S.contents S.told S.faults self passes.items
+        ensures closed { IfOk result (λ closed. IsClosedDisk S.owns S.contents S.calls S.faults self passes.items
             closed.stores.items (map (λ order. order.items) closed.shards.items)
             (map (λ journal. journal.items) closed.devices.items)) }
         ensures closing { IfErr result (λ closing. closing ≡ record { disk = self; passes = passes.items }) }
@@ -56,7 +56,7 @@ impl<S: Store> Disk<S> {
         let closing = Closing {
             disk: Snapshot::of(&self),
             passes: Snapshot::of(&passes),
-            parts: Parts::Whole(self, passes),
+            parts: DiskParts::Whole(self, passes),
         };
         closing.go_on(rt)
     }
@@ -69,7 +69,7 @@ impl<S: Store> Closing<S> {
     ///
     /// Out of memory again.
     pub fn go_on<R: Wait>(self, _rt: &R) -> Result<Closed<S>, Closing<S>>
-        ensures closed { IfOk result (λ closed. IsClosedDisk S.owns S.contents S.told S.faults self.disk self.passes
+        ensures closed { IfOk result (λ closed. IsClosedDisk S.owns S.contents S.calls S.faults self.disk self.passes
             closed.stores.items (map (λ order. order.items) closed.shards.items)
             (map (λ journal. journal.items) closed.devices.items)) }
         ensures closing { IfErr result (λ closing. closing ≡ self) }
@@ -80,10 +80,10 @@ impl<S: Store> Closing<S> {
             parts,
         } = self;
         let split = match parts {
-            Parts::Whole(whole, callers) => match Split::of(whole, callers) {
+            DiskParts::Whole(whole, callers) => match Split::of(whole, callers) {
                 Ok(split) => split,
                 Err((whole, callers)) => {
-                    let parts = Parts::Whole(whole, callers);
+                    let parts = DiskParts::Whole(whole, callers);
                     return Err(Closing {
                         disk,
                         passes,
@@ -91,12 +91,12 @@ impl<S: Store> Closing<S> {
                     });
                 }
             },
-            Parts::Split(split) => split,
+            DiskParts::Split(split) => split,
         };
         match split.close(&disk, &passes) {
             Ok(closed) => Ok(closed),
             Err(split) => {
-                let parts = Parts::Split(split);
+                let parts = DiskParts::Split(split);
                 Err(Closing {
                     disk,
                     passes,

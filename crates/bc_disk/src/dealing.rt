@@ -24,7 +24,7 @@ pub(crate) fn rooms(
     Ok(rooms)
 }
 
-/// Puts each pass behind the list at its place. There is room for it.
+/// Puts each pass after the list at its place. There is room for it.
 pub(crate) fn deal(mut row: Vec<SlotPass>, lists: &mut Vec<Vec<SlotPass>>)
     requires one_for_each { length row.items ≡ length lists.old.items }
     requires room { Each (λ list. vec_len list < vec_capacity list) lists.old.items }

@@ -8,7 +8,7 @@ ghost use Rattle.bc_base.specs.declared.geometry.TheConstants.{BLOCK_SECTORS};
 ghost use Rattle.bc_bio.specs.Conditions.{HasKey, IsAccepted};
 ghost use Rattle.bc_bio.specs.Requests.{tagged_bios, unmarked};
 ghost use Rattle.bc_medium.specs.Medium.{shards_of};
-ghost use Rattle.bc_queue.specs.Plugs.{AreRequests, IsOfWindow, IsPlug, bios_of};
+ghost use Rattle.bc_queue.specs.Plugs.{AreRequests, IsOfWindow, IsPlug, bios_in};
 ghost use Rattle.bc_disk.specs.Disks.{IsPassOf, events_left, facts_on, goes_inline, keys_in, refusal_on};
 ghost use Rattle.bc_disk.specs.Disks.{supports_context};
 ghost use Rattle.bc_disk.specs.Submissions.{IsPlugBack};
@@ -136,10 +136,10 @@ impl<S: Store> Disk<S> {
         ensures refused { IfErr result (IsPlugBack self.now plug.old bio) }
         ensures err { OnErr result (plug.new ≡ plug.old) }
         ensures accepted { OnOk result (refusal_on self.now (extent_of bio) ≡ None) }
-        ensures bios { OnOk result (bios_of plug.new.requests ≡ bios_of plug.old.requests ++ unmarked bio ∷ []) }
+        ensures bios { OnOk result (bios_in plug.new.requests ≡ bios_in plug.old.requests ++ unmarked bio ∷ []) }
         ensures window { OnOk result (IsOfWindow (keys_in self.now) plug.old.requests
-            (tagged_bios (bios_of plug.old.requests)) →
-            IsOfWindow (keys_in self.now) plug.new.requests (tagged_bios (bios_of plug.new.requests))) }
+            (tagged_bios (bios_in plug.old.requests)) →
+            IsOfWindow (keys_in self.now) plug.new.requests (tagged_bios (bios_in plug.new.requests))) }
         ensures plug { OnOk result (IsPlug plug.new) }
         ensures requests { OnOk result (AreRequests (keys_in self.now) plug.new.requests) }
     {

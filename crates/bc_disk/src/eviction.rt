@@ -11,9 +11,11 @@ use bc_base::Store;
 use bc_key::KeyNo;
 use bc_ufs::Controller;
 use std::sync::Wait;
+use thiserror::Error;
 
 /// An eviction was refused: a device found the key's slot with references.
-#[derive(Clone, Copy, Debug, PartialEq, Eq)]
+#[derive(Clone, Copy, Debug, PartialEq, Eq, Error)]
+#[error("the key's slot {slot} on device {device} has {refs} references")]
 pub struct Busy {
     /// The first device that refused.
     pub device: u8,

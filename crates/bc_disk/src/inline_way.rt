@@ -3,7 +3,7 @@
 ghost use Rattle.std.specs.Prelude.{◌≡◌};
 ghost use Rattle.bc_bio.specs.Requests.{tagged_bios};
 ghost use Rattle.bc_bio.specs.Windows.{IsRequest};
-ghost use Rattle.bc_pieces.specs.Attempted.{CarriesWhole};
+ghost use Rattle.bc_pieces.specs.AttemptedRequest.{CarriesWhole};
 ghost use Rattle.bc_pieces.specs.ManyCallers.{HaveControllers, IsReady, TakesOn, devices_of, facts_over};
 ghost use Rattle.bc_pieces.specs.Pieces.{GoesByDevices, pieces_in};
 ghost use Rattle.bc_disk.specs.Inline.{HasRoomOn};

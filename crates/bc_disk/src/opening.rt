@@ -3,7 +3,7 @@
 ghost use Rattle.std.specs.Prelude.{◌≡◌, ℕ, ◌*◌, ◌<◌, ◌≤◌, false, length, map, sum, Some, IfOk};
 ghost use Rattle.std.specs.List.{range_with_len};
 ghost use Rattle.bc_base.specs.Lists.{Each};
-ghost use Rattle.bc_medium.specs.Medium.{column};
+ghost use Rattle.bc_medium.specs.Medium.{quotas_of_shard};
 ghost use Rattle.bc_modes.specs.UnitCipher.{parts_of};
 ghost use Rattle.bc_profile.specs.Passes.{new_pass};
 ghost use Rattle.bc_profile.specs.declared.limits.TheConstants.{MAX_EVENTS};
@@ -22,7 +22,7 @@ use bc_key::{Key, KeyNo, Keys};
 use bc_medium::{Medium, MediumPass};
 use bc_modes::{UfsCaps, UnitCipher, entry_words};
 use bc_profile::{Profile, ROW_WORDS, Row, SlotPass};
-use bc_queue::{Queue, QueuePass};
+use bc_queue::{Queue, QueuePass, Scratch};
 use bc_stack::{Stack, Target};
 use bc_ufs::Controller;
 use std::alloc::{AllocError, Global};
@@ -60,7 +60,7 @@ impl<S: Store + Drop> Disk<S> {
         stores: Vec<S>,
         quota: Quota,
     ) -> Result<Opened<S>, AllocError>
-        requires may { MayOpen S.owns S.told stack blocks stores.items (map (λ row. row.items) quota.units.items)
+        requires may { MayOpen S.owns S.calls stack blocks stores.items (map (λ row. row.items) quota.units.items)
             (map (λ row. row.items) quota.events.items) }
         ensures opened { IfOk result (λ opened. IsOpened S.contents keys.keys stack fallback blocks stores.items
             (map (λ row. row.items) quota.units.items) (map (λ row. row.items) quota.events.items)
@@ -120,7 +120,7 @@ fn open_devices(
     requires callers { (1 ≤ length events.now.items) × (length events.now.items ≤ 65535) }
     requires rows { Each (λ row. length row.items ≡ length stack.now.targets) events.now.items }
     requires sums { (device : ℕ) → device < length stack.now.targets
-        → sum (column device (map (λ row. row.items) events.now.items)) < MAX_EVENTS }
+        → sum (quotas_of_shard device (map (λ row. row.items) events.now.items)) < MAX_EVENTS }
     ensures count { IfOk result (λ r. length r.0.items ≡ length stack.now.targets) }
     ensures devices { IfOk result (λ r. AreNewDevices keys.now.keys (map (λ row. row.items) events.now.items)
         stack.now.targets r.0.items) }
@@ -149,7 +149,7 @@ fn open_device(
     requires slots { HasSlots target.now }
     requires callers { (1 ≤ length events.now.items) × (length events.now.items ≤ 65535) }
     requires rows { Each (λ row. device < length row.items) events.now.items }
-    requires sum { sum (column device (map (λ row. row.items) events.now.items)) < MAX_EVENTS }
+    requires sum { sum (quotas_of_shard device (map (λ row. row.items) events.now.items)) < MAX_EVENTS }
     ensures device { IfOk result (λ r. IsNewDevice keys.now.keys (map (λ row. row.items) events.now.items) device
         target.now r.0) }
     ensures passes { IfOk result (λ r. r.1.items
@@ -190,7 +190,7 @@ fn row_for(key: &Key, caps: &UfsCaps) -> Row
 /// The numbers at a place of each row.
 fn column_of(alloc: Global, rows: &Vec<Vec<u32>>, place: usize) -> Result<Vec<u32>, AllocError>
     requires { Each (λ row. place < length row.items) rows.now.items }
-    ensures { IfOk result (λ numbers. numbers.items ≡ column place (map (λ row. row.items) rows.now.items)) }
+    ensures { IfOk result (λ numbers. numbers.items ≡ quotas_of_shard place (map (λ row. row.items) rows.now.items)) }
 {
     let mut column = Vec::with_capacity(alloc, rows.len())?;
     for k in 0..rows.len() {
@@ -234,6 +234,7 @@ fn pass_of<S: Store + Drop>(
         caller: units.number(),
         slots,
         units,
+        scratch: Scratch::new(),
     };
     Ok(Pass {
         queue,

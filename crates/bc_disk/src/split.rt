@@ -6,7 +6,7 @@ ghost use Rattle.std.specs.List.{range_with_len};
 ghost use Rattle.bc_base.specs.Lists.{Each};
 ghost use Rattle.bc_profile.specs.declared.noted.Noted.{Noted};
 ghost use Rattle.bc_profile.specs.Story.{events_of};
-ghost use Rattle.bc_profile.specs.Passes.{IsClosed as IsEndOfSlots};
+ghost use Rattle.bc_profile.specs.Passes.{IsClosedStory as IsEndOfSlots};
 ghost use Rattle.bc_disk.specs.Closings.{AreAllPasses, IsClosedDisk, IsSplit, MayClose, devices_with, passes_on};
 ghost use Rattle.bc_disk.specs.Lefts.{IsRoomFor};
 
@@ -23,7 +23,7 @@ use std::snapshot::Snapshot;
 
 /// A disk and its passes that are to be closed.
 #[derive(Drop)]
-pub(crate) enum Parts<S: Store> {
+pub(crate) enum DiskParts<S: Store> {
     /// All of it: nothing was taken apart.
     Whole(Disk<S>, Vec<Pass<S>>),
     /// What is closed of it, and what isn't.
@@ -152,7 +152,7 @@ impl<S: Store> Split<S> {
         passes: &Snapshot<Vec<Pass<S>>>,
     ) -> Result<Closed<S>, Split<S>>
         requires left { IsSplit disk.now.value passes.now.value.items self }
-        ensures closed { IfOk result (λ closed. IsClosedDisk S.owns S.contents S.told S.faults disk.now.value
+        ensures closed { IfOk result (λ closed. IsClosedDisk S.owns S.contents S.calls S.faults disk.now.value
             passes.now.value.items closed.stores.items (map (λ order. order.items) closed.shards.items)
             (map (λ journal. journal.items) closed.devices.items)) }
         ensures left { IfErr result (IsSplit disk.now.value passes.now.value.items) }

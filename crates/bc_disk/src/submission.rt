@@ -5,7 +5,7 @@ ghost use Rattle.bc_bio.specs.Conditions.{AreFull, HasKey};
 ghost use Rattle.bc_bio.specs.Windows.{IsRequest, count_units};
 ghost use Rattle.bc_bio.specs.Requests.{tagged_bios};
 ghost use Rattle.bc_bio.specs.declared.reply.Reply.{Reply};
-ghost use Rattle.bc_queue.specs.Plugs.{AreRequests, IsOfWindow, IsPlug, bios_of, count_bios, no_bios};
+ghost use Rattle.bc_queue.specs.Plugs.{AreRequests, IsOfWindow, IsPlug, bios_in, count_bios, no_bios};
 ghost use Rattle.bc_medium.specs.declared.via.Via.TheVariants as ways;
 ghost use Rattle.bc_medium.specs.Medium.{Belongs};
 ghost use Rattle.bc_queue.specs.RequestUnits.{named_at};
@@ -13,7 +13,8 @@ ghost use Rattle.bc_queue.specs.Carrying.{ArePerformable, CarriesOut};
 ghost use Rattle.bc_queue.specs.Queues.{HasSpareOfUnits, facts_by};
 ghost use Rattle.bc_disk.specs.Soft.{GoesSoft};
 ghost use Rattle.bc_disk.specs.Disks.{IsPassOf, events_left, facts_on, keys_in, pass_by};
-ghost use Rattle.bc_disk.specs.Submissions.{AreTaken, AnswersBio, CarriesRequest, HasEntriesFor, LeavesEntries, Submits};
+ghost use Rattle.bc_disk.specs.Submissions.{AreTaken, AnswersBio, CarriesRequest, HasEntriesFor, LeavesEntries};
+ghost use Rattle.bc_disk.specs.Submissions.{Submits};
 ghost use Rattle.bc_disk.specs.Submissions.{IsWayFor, bare_bios, events_for, inline_events};
 
 use crate::inline_way::carry_out_inline;
@@ -61,7 +62,7 @@ impl<S: Store> Disk<S> {
         }
     }
 
-    /// Submits the bios of a plug, request after request, and empties it into replies, in order. They go behind those
+    /// Submits the bios of a plug, request after request, and empties it into replies, in order. They go after those
     /// that `out` has, which has room for them.
     ///
     /// The pass is one of this disk, which refuses none of the bios, with the spare that [`Disk::submit`] asks for
@@ -77,24 +78,24 @@ impl<S: Store> Disk<S> {
         requires pass { IsPassOf self.now pass.old }
         requires plug { IsPlug plug.old }
         requires requests { AreRequests (keys_in self.now) plug.old.requests }
-        requires window { IsOfWindow (keys_in self.now) plug.old.requests (tagged_bios (bios_of plug.old.requests)) }
-        requires taken { AreTaken self.now (bios_of plug.old.requests) }
+        requires window { IsOfWindow (keys_in self.now) plug.old.requests (tagged_bios (bios_in plug.old.requests)) }
+        requires taken { AreTaken self.now (bios_in plug.old.requests) }
         requires entries { HasEntriesFor (facts_on S.contents self.now pass.old)
-            (bare_bios (bios_of plug.old.requests)) }
+            (bare_bios (bios_in plug.old.requests)) }
         requires events { (device : ℕ) →
-            events_for self.now.targets (keys_in self.now) (bare_bios (bios_of plug.old.requests)) device
+            events_for self.now.targets (keys_in self.now) (bare_bios (bios_in plug.old.requests)) device
             ≤ events_left self.now pass.old device }
         requires room { vec_len out.old + count_bios plug.old.requests ≤ vec_capacity out.old }
         ensures pass { IsPassOf self.now pass.new }
         ensures submits { (replies : List Reply) × (out.new.items ≡ out.old.items ++ replies)
             × Submits (facts_on S.contents self.now pass.old) (facts_on S.contents self.now pass.new)
-            (bare_bios (bios_of plug.old.requests)) replies }
+            (bare_bios (bios_in plug.old.requests)) replies }
         ensures empty { plug.new ≡ no_bios }
         ensures room { vec_capacity out.new ≡ vec_capacity out.old }
         ensures entries { LeavesEntries (facts_on S.contents self.now pass.old) (facts_on S.contents self.now pass.new)
-            (bare_bios (bios_of plug.old.requests)) }
+            (bare_bios (bios_in plug.old.requests)) }
         ensures events { (device : ℕ) → events_left self.now pass.old device ≤ events_left self.now pass.new device
-            + events_for self.now.targets (keys_in self.now) (bare_bios (bios_of plug.old.requests)) device }
+            + events_for self.now.targets (keys_in self.now) (bare_bios (bios_in plug.old.requests)) device }
     {
         order_laws();
         hold_laws();

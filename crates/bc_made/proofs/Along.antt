@@ -3,7 +3,7 @@
 use Rattle.std.proofs.Common.{◌≡◌, ℕ, ◌+◌, Bool, true, false, cond, List, [], ◌∷◌, ap, ◌∙◌, refl}
 use Rattle.std.specs.Prelude.{◌==◌, ◌-◌, ◌*◌, ◌&&◌, nat_le, nat_lt, length, slice_range, filter}
 use Rattle.bc_base.specs.Lists.{Each}
-use Rattle.bc_base.specs.Places.{block_of}
+use Rattle.bc_base.specs.Layout.{block_of}
 use Rattle.bc_key.specs.KeyData.{KeyData}
 use Rattle.bc_bio.specs.declared.access.Access.{Access}
 use Rattle.bc_bio.specs.declared.access.Access.TheVariants.{Read, Write}

@@ -1,4 +1,4 @@
--- The data units of a generated script: each thread's lie in 64 blocks of its own, and no bio is refused for want of a
+-- The data units of a generated script: each thread's lie in 64 blocks of its own, and no bio is refused for lack of a
 -- device, so that the number of keyslots plays no part.
 use Rattle.std.proofs.Common.{◌≡◌, ℕ, zero, suc, ◌+◌, ◌-◌, ◌*◌, ◌/◌, ◌%◌, ◌≤◌, Bool, true, false, cond, ◌&&◌, List, [], ◌∷◌, ◌++◌, map, length, refl, sym, ap, ◌∙◌, subst, arith, Option, Some, None}
 use Rattle.std.specs.Prelude.{◌==◌, flat_map, is_none, nat_le, nat_lt, slice_range}
@@ -9,7 +9,7 @@ use Rattle.std.proofs.Math.ListN.{length-replicate}
 use Rattle.std.proofs.lemmas.Bool.{and_parts, eq-eqb, false_from_ne_true, leb-true, ltb-true, or_right, true≢false}
 use Rattle.std.proofs.lemmas.Nat.{mod_below}
 use Rattle.bc_base.specs.Lists.{Each, list_at}
-use Rattle.bc_base.specs.Places.{block_of}
+use Rattle.bc_base.specs.Layout.{block_of}
 use Rattle.bc_base.proofs.Lists.{each_append}
 use Rattle.bc_key.specs.DataUnits.{IsUnitSize}
 use Rattle.bc_key.specs.KeyData.{KeyData}
@@ -31,7 +31,7 @@ use Rattle.bc_medium.specs.KeyedDisk.{accessed, enciphered}
 use Rattle.bc_stack.specs.declared.target.Target.{Target}
 use Rattle.bc_script.specs.declared.op.Op.{Op}
 use Rattle.bc_script.specs.Bios.{bio_of, is_inline, refusal_of, unsupported_of}
-use Rattle.bc_script.specs.Generated.{generated_byte, generated_context, generated_pair, generated_read, generated_section, generated_sector, generated_threads, generated_write}
+use Rattle.bc_script.specs.GeneratedScript.{generated_byte, generated_context, generated_pair, generated_read, generated_section, generated_sector, generated_threads, generated_write}
 use Rattle.bc_script.specs.Plan.{plan_of, unit_at, units_of, units_of_bio, units_of_section}
 use Rattle.bc_script.specs.Script.{Script, keys_of, sectors_in}
 use Rattle.bc_made.proofs.Along.{StaysIn}

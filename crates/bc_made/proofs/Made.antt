@@ -10,14 +10,14 @@ use Rattle.bc_medium.specs.KeyedDisk.{image_sectors, bytes_at, disk_along}
 use Rattle.bc_medium.specs.LawfulOrders.{LawfulOrders}
 use Rattle.bc_medium.specs.Outcome.{final_image}
 use Rattle.bc_stack.specs.declared.target.Target.{Target}
-use Rattle.bc_script.specs.Generated.{generated, generated_device}
+use Rattle.bc_script.specs.GeneratedScript.{generated, generated_device}
 use Rattle.bc_script.specs.Plan.{plan_of}
 use Rattle.bc_script.specs.Script.{Script, keys_of, sectors_in}
 use Rattle.bc_report.specs.LawfulRun.{LawfulButHolders}
 use Rattle.bc_report.specs.Report.{Report}
 use Rattle.bc_report.specs.RunOf.{orders_of}
 use Rattle.bc_made.specs.Laws.{RunsLeaveTheMadeImage}
-use Rattle.bc_made.specs.Made.{zeros_for, image_in_turn, made_image}
+use Rattle.bc_made.specs.MadeImage.{zeros_for, image_in_turn, made_image}
 use Rattle.bc_made.proofs.Generated.{home_of, own_plans, plan_for_any}
 use Rattle.bc_made.proofs.OneImage.{IsOwnPlan, one_image}
 

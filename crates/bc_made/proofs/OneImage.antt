@@ -6,12 +6,12 @@ use Rattle.std.proofs.lemmas.Bool.{eq-eqb, eqb-true, eqb-false, false_from_ne_tr
 use Rattle.std.proofs.lemmas.Nat.{mod_below}
 use Rattle.std.proofs.lemmas.Option.{IfSome_then}
 use Rattle.bc_base.specs.Lists.{Each, list_at}
-use Rattle.bc_base.specs.Places.{block_of, shard_of}
+use Rattle.bc_base.specs.Layout.{block_of, shard_of}
 use Rattle.bc_key.specs.KeyData.{KeyData}
 use Rattle.bc_bio.specs.PlannedUnit.{PlannedUnit}
 use Rattle.bc_medium.specs.declared.unit_name.UnitName.{UnitName}
 use Rattle.bc_medium.specs.KeyedDisk.{Sectors, image_sectors, bytes_at, disk_along}
-use Rattle.bc_medium.specs.LawfulOrders.{LawfulOrders, name_of, is_attempted, entries_of}
+use Rattle.bc_medium.specs.LawfulOrders.{LawfulOrders, unit_name_of, is_attempted, entries_of}
 use Rattle.bc_medium.specs.Outcome.{Run, is_named, unit_named, units_on, disk_of, final_image}
 use Rattle.bc_made.proofs.Along.{StaysIn, along_block, lies_at}
 use Rattle.bc_made.proofs.Lists.{each_filter, each_filter_map, each_flat, each_weaker, filter_all, filter_flat, filter_map_names, filter_map_within, filter_within, found}
@@ -66,16 +66,16 @@ module _ (keys : List KeyData) (image : List ℕ) (plan : List (List PlannedUnit
         (λ u own. elsewhere block name.thread u (eqb-false name.thread (home block) other) own))
         (list_at orders shard)
 
-    entries_are : entries_of thread order ≡ map (name_of thread) (filter on_shard issued)
+    entries_are : entries_of thread order ≡ map (unit_name_of thread) (filter on_shard issued)
     entries_are =
         lawful.as_issued shard (home block) within
-        ∙ filter_all (is_attempted []) (λ name. refl) (map (name_of (home block)) (filter (λ u. shard_of shards u.sector == shard) (list_at plan (home block))))
+        ∙ filter_all (is_attempted []) (λ name. refl) (map (unit_name_of (home block)) (filter (λ u. shard_of shards u.sector == shard) (list_at plan (home block))))
 
-    found_again : filter_map (unit_named quiet_run) (map (name_of thread) (filter on_shard issued)) ≡ filter on_shard issued
+    found_again : filter_map (unit_named quiet_run) (map (unit_name_of thread) (filter on_shard issued)) ≡ filter on_shard issued
     found_again =
         let on : PlannedUnit → Bool = λ u. shard_of shards u.sector == shard in
-        filter_map_names (unit_named quiet_run) (name_of (home block)) (filter on (list_at plan (home block)))
-        (each_filter (λ u. find (is_named (name_of (home block) u)) (list_at plan (home block)) ≡ Some u) on (list_at plan (home block))
+        filter_map_names (unit_named quiet_run) (unit_name_of (home block)) (filter on (list_at plan (home block)))
+        (each_filter (λ u. find (is_named (unit_name_of (home block) u)) (list_at plan (home block)) ≡ Some u) on (list_at plan (home block))
         (finds_each (home block) 0 (list_at plan (home block)) (owned (home block)).rising))
 
     no_other_shard : filter (lies_at block) (filter on_shard issued) ≡ filter (lies_at block) issued

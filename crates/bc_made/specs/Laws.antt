@@ -1,11 +1,11 @@
--- The law of generated scripts: whatever the slots, the shards and the order in which the threads' data units met,
--- every lawful run over zeros leaves one image, which the number of pairs decides.
+-- The law of generated scripts: whatever the slots, the shards and the order in which the threads'
+-- data units met, every lawful run over zeros leaves one image, which the number of pairs decides.
 use Rattle.std.specs.Prelude.{◌≡◌, ℕ, ◌≤◌, List}
 use Rattle.bc_script.specs.Script.{Script}
-use Rattle.bc_script.specs.Generated.{generated}
+use Rattle.bc_script.specs.GeneratedScript.{generated}
 use Rattle.bc_report.specs.Report.{Report}
 use Rattle.bc_report.specs.LawfulRun.{LawfulButHolders}
-use Rattle.bc_made.specs.Made.{zeros_for, made_image}
+use Rattle.bc_made.specs.MadeImage.{zeros_for, made_image}
 
 -- each lawful run of the script that is generated for n, over zeros, leaves the image of n
 abbrev pub RunsLeaveTheMadeImage : Type 0

@@ -5,19 +5,20 @@ use Rattle.std.proofs.lemmas.List.{set-set}
 use Rattle.std.proofs.lemmas.Option.{none-some, same_Some}
 use Rattle.bc_base.specs.Lists.{Each, At, AllAt, list_at}
 use Rattle.bc_base.specs.Sectors.{Sectors}
-use Rattle.bc_base.specs.Stores.{ToldCalls, IsPiece, IsPieceOf}
+use Rattle.bc_base.specs.Stores.{StoreCalls, IsPiece, IsPieceOf}
 use Rattle.bc_base.specs.Story.{own, StartsWith}
 use Rattle.bc_base.proofs.Lists.{each_at, each_set, all_at, at_one}
 use Rattle.bc_key.specs.KeyData.{KeyData}
-use Rattle.bc_turn.specs.Parts.{Part, Pass, CellData, Changes, IsOf, part_key, cell_key, without_turn, TakesLater, GoesOn}
+use Rattle.bc_turn.specs.PassParts.{Part, Pass, CellData, Changes, IsOf, part_key, cell_key, without_turn, TakesLater, GoesOn}
 use Rattle.bc_medium.specs.declared.entry.Entry.{Entry}
-use Rattle.bc_medium.specs.Places.{shard_of}
+use Rattle.bc_medium.specs.Layout.{shard_of}
 use Rattle.bc_medium.specs.Entries.{caller_of, Stand}
 use Rattle.bc_medium.specs.Growth.{Appended}
 use Rattle.bc_medium.specs.ShardOrder.{StoreOrder, IsOrder}
 use Rattle.bc_medium.specs.Medium.{OpeningData, MediumData, Keeps, Belongs, KeepsWithin, HasRoom, OwnsSectors, seen_by, shards_of, quota_of}
-use Rattle.bc_medium.proofs.Chosen.{at_set, entries_at, entries_other}
+use Rattle.bc_medium.proofs.Chosen.{entries_at, entries_other}
 use Rattle.bc_medium.proofs.Quotas.{keeps_more, has_spare}
+use Rattle.bc_base.proofs.Members.{at_set}
 
 pub either_way : {X Y : Type 0} (r : Result X Y) (P : X → Type 0) (Q : Y → Type 0) (R : Type 0) → ((x : X) → P x → R) → ((y : Y) → Q y → R) → IfOk r P → IfErr r Q → R
 either_way (Ok x) P Q R f g p q = f x p
@@ -42,7 +43,7 @@ pub take_front : {A : Type 0} (xs ys : List A) → take (length xs) (xs ++ ys) �
 take_front [] ys = refl
 take_front (x ∷ xs) ys = ap (λ l. x ∷ l) (take_front xs ys)
 
-module _ {S : Type 0} (owns : S → ℕ → Bool) (contents : S → Option Sectors) (told : S → Option ToldCalls) (faults : S → ℕ) where
+module _ {S : Type 0} (owns : S → ℕ → Bool) (contents : S → Option Sectors) (told : S → Option StoreCalls) (faults : S → ℕ) where
   abbrev Q : Type 0
   Q = Part Entry (OpeningData S)
 

@@ -2,18 +2,19 @@
 use Rattle.std.proofs.Common.{◌≡◌, ℕ, zero, suc, ◌+◌, ◌<◌, ◌≤◌, List, [], ◌∷◌, ◌++◌, map, length, set, get_or, drop, sym, ap, ap₂, ◌∙◌, subst, arith, append_assoc, length-append, refl, ◌≢◌}
 use Rattle.std.proofs.lemmas.List.{reverse-append, drop_more}
 use Rattle.std.specs.Prelude.{◌↔◌, IfSome, Contains, Option}
-use Rattle.std.proofs.lemmas.Option.{none-some, get_or_from_slice_get}
+use Rattle.std.proofs.lemmas.Option.{get_or_from_slice_get}
 use mathlib.Core.List.{reverse}
 use Rattle.bc_base.specs.declared.place.Place.{Place}
 use Rattle.bc_base.specs.Lists.{At, ChangesAt, list_at}
-use Rattle.bc_base.specs.Stores.{ToldCalls}
+use Rattle.bc_base.specs.Stores.{StoreCalls}
 use Rattle.bc_base.proofs.Lists.{at_read, at_map, at_one}
 use Rattle.bc_base.proofs.Stories.{begins_itself}
 use Rattle.bc_key.specs.KeyData.{KeyData}
 use Rattle.bc_medium.specs.declared.entry.Entry.{Entry}
-use Rattle.bc_medium.specs.Places.{shard_of}
-use Rattle.bc_medium.specs.ShardOrder.{ShardData, Appends, opened}
+use Rattle.bc_medium.specs.Layout.{shard_of}
+use Rattle.bc_medium.specs.ShardOrder.{ShardData, Appends, opened_shard}
 use Rattle.bc_medium.specs.Shards.{orders_of, Adds, opened_with}
+use Rattle.bc_base.proofs.Members.{at_set}
 
 pub shard_inside : (shards sector : ℕ) → 1 ≤ shards → shard_of shards sector < shards
 shard_inside shards sector some = omega arith
@@ -31,7 +32,7 @@ module _ {A : Type 0} (view inside : List A) (i sector : ℕ) (x : A) where
       (x, y, subst (λ m. At view m x) (sym here) at, ap₂ (λ l m. set l m y) same (sym is), r)
 
 -- what was said of the chosen shard is said of whatever stands there
-pub planned_at : {S : Type 0} (told : S → Option ToldCalls) (view : List (ShardData S)) (k : ℕ) (x : ShardData S) (Fails : Type 0) → At view k x → IfSome (told x.start) (λ t. Fails ↔ Contains t.plan (length x.entries))
+pub planned_at : {S : Type 0} (told : S → Option StoreCalls) (view : List (ShardData S)) (k : ℕ) (x : ShardData S) (Fails : Type 0) → At view k x → IfSome (told x.start) (λ t. Fails ↔ Contains t.plan (length x.entries))
     → (y : ShardData S) → At view k y → IfSome (told y.start) (λ t. Fails ↔ Contains t.plan (length y.entries))
 planned_at {S} told view k x F at is y at' = subst (λ (z : ShardData S). IfSome (told z.start) (λ t. F ↔ Contains t.plan (length z.entries))) (at_one view k x y at at') is
 
@@ -41,9 +42,9 @@ more_done done rest all whole x e pop = append_assoc done (x ∷ []) (reverse re
 
 -- opening, from the first store on
 pub more_opened : {S : Type 0} (done : List (ShardData S)) (rest all : List S) (quotas : List ℕ) (s : S) (q : ℕ) (whole : List (ShardData S)) → done ++ opened_with (reverse all) (drop (length done) quotas) ≡ whole → all ≡ rest ++ s ∷ [] → length done < length quotas → q ≡ get_or quotas (length done) q
-    → (done ++ opened s q ∷ []) ++ opened_with (reverse rest) (drop (length (done ++ opened s q ∷ [])) quotas) ≡ whole
+    → (done ++ opened_shard s q ∷ []) ++ opened_with (reverse rest) (drop (length (done ++ opened_shard s q ∷ [])) quotas) ≡ whole
 more_opened {S} done rest all quotas s q whole e pop inside gq =
-    let one : ShardData S = opened s q in
+    let one : ShardData S = opened_shard s q in
     let long : length (done ++ one ∷ []) ≡ length done + 1 = length-append done (one ∷ []) in
     let next : drop (length done) quotas ≡ q ∷ drop (length done + 1) quotas = drop_more quotas (length done) q inside ∙ ap (λ (x : ℕ). x ∷ drop (length done + 1) quotas) (sym gq) in
     append_assoc done (one ∷ []) (opened_with (reverse rest) (drop (length (done ++ one ∷ [])) quotas)) ∙ ap (λ (n : ℕ). done ++ one ∷ opened_with (reverse rest) (drop n quotas)) long
@@ -52,11 +53,6 @@ more_opened {S} done rest all quotas s q whole e pop inside gq =
 -- one access, from what it did to its shard
 pub entries_at : {A B : Type 0} (f : A → List B) (xs : List A) (k : ℕ) (x : A) → At xs k x → list_at (map f xs) k ≡ f x
 entries_at f xs k x at = get_or_from_slice_get (map f xs) k (f x) [] (at_map f xs k x at)
-
-pub at_set : {A : Type 0} (xs : List A) (k : ℕ) (x y : A) → At xs k x → At (set xs k y) k y
-at_set [] k x y at = absurd (none-some x at)
-at_set (z ∷ xs) zero x y at = refl
-at_set (z ∷ xs) (suc k) x y at = at_set xs k x y at
 
 pub entries_other : {A B : Type 0} (f : A → List B) (xs : List A) (k other : ℕ) (y : A) → other ≢ k → list_at (map f (set xs k y)) other ≡ list_at (map f xs) other
 entries_other f [] k other y apart = refl

@@ -4,10 +4,10 @@ use Rattle.std.proofs.lemmas.List.{reverse-append}
 use mathlib.Core.List.{reverse}
 use Rattle.bc_base.specs.Lists.{Each, EachFrom, list_at}
 use Rattle.bc_base.specs.Sectors.{Sectors}
-use Rattle.bc_base.specs.Stores.{ToldCalls}
+use Rattle.bc_base.specs.Stores.{StoreCalls}
 use Rattle.bc_base.specs.Story.{own, StartsWith, IsFront}
 use Rattle.bc_base.proofs.Lists.{each_at, each_both}
-use Rattle.bc_turn.specs.Parts.{Part, Pass, CellData, IsClosed, Ends}
+use Rattle.bc_turn.specs.PassParts.{Part, Pass, CellData, IsClosed, Ends}
 use Rattle.bc_medium.specs.declared.entry.Entry.{Entry}
 use Rattle.bc_medium.specs.Entries.{caller_of}
 use Rattle.bc_medium.specs.ShardOrder.{StoreOrder, IsOrder}
@@ -28,7 +28,7 @@ two_pushed {A} {C} P xs xs' ys ys' x y e f all one =
 pub first_of_rest : {V : Type 0} (P : ℕ → V → Type 0) (k : ℕ) (all rest : List V) (v : V) → all ≡ rest ++ v ∷ [] → EachFrom P k (reverse all) → P k v × EachFrom P (k + 1) (reverse rest)
 first_of_rest P k all rest v pop e = subst (EachFrom P k) (ap reverse pop ∙ reverse-append rest (v ∷ [])) e
 
-module _ {S : Type 0} (owns : S → ℕ → Bool) (contents : S → Option Sectors) (told : S → Option ToldCalls) (faults : S → ℕ) where
+module _ {S : Type 0} (owns : S → ℕ → Bool) (contents : S → Option Sectors) (told : S → Option StoreCalls) (faults : S → ℕ) where
   front_of : (m : MediumData S) (k : ℕ) (v : StoreOrder S) (p : Pass Entry (OpeningData S)) → k < shards_of m → Belongs m p → Ends (λ s. s.entries) (Keeps owns contents told faults) caller_of k v p → IsFront caller_of p.caller (list_at (seen_by p) k) v.entries
   front_of m k v p inside of ends =
       let many = as_many_parts m p of in
@@ -39,7 +39,7 @@ module _ {S : Type 0} (owns : S → ℕ → Bool) (contents : S → Option Secto
         own_entries = e.1 ∙ ap (own caller_of p.caller) (sym seen);
       }
 
-  -- what comes out of a turn, and out of the shard behind it
+  -- what comes out of a turn, and out of its shard
   pub ends_one : (m : MediumData S) (passes : List (Pass Entry (OpeningData S))) (k : ℕ) (v : StoreOrder S) (store : S) (es : List Entry) → k < shards_of m → Each (Belongs m) passes → Each (λ cell. cell.base.keys ≡ m.keys.keys) m.turns.cells
       → IsClosed (λ s. s.entries) (Keeps owns contents told faults) caller_of m.turns passes k v → store ≡ v.store → es ≡ v.entries → IsEnd owns contents told faults m passes k store es
   ends_one m passes k v store es inside of same closed s e = subst (λ (l : List Entry). IsEnd owns contents told faults m passes k store l) (sym e) (subst (λ (t : S). IsEnd owns contents told faults m passes k t v.entries) (sym s) record {

@@ -5,3 +5,4 @@ pub mod Quotas
 pub mod Access
 pub mod Openings
 pub mod Ends
+pub mod Growing

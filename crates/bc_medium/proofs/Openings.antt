@@ -10,10 +10,10 @@ use Rattle.bc_base.specs.Lists.{Each, At, AllAt}
 use Rattle.bc_base.specs.Story.{own}
 use Rattle.bc_base.proofs.Lists.{each_at, at_read, at_map, all_at}
 use Rattle.bc_key.specs.KeyData.{KeyData}
-use Rattle.bc_turn.specs.Parts.{Part, Pass, CellData, TurnsData, part_key, cell_key, new_part, new_pass}
+use Rattle.bc_turn.specs.PassParts.{Part, Pass, CellData, TurnsData, part_key, cell_key, new_part, new_pass}
 use Rattle.bc_medium.specs.declared.entry.Entry.{Entry}
 use Rattle.bc_medium.specs.Entries.{caller_of}
-use Rattle.bc_medium.specs.Medium.{OpeningData, MediumData, column, openings, IsMedium, Belongs, KeepsWithin, quota_of, own_at}
+use Rattle.bc_medium.specs.Medium.{OpeningData, MediumData, quotas_of_shard, openings, IsMedium, Belongs, KeepsWithin, quota_of, own_at}
 use Rattle.bc_medium.proofs.Access.{key_at, if_some}
 use Rattle.bc_medium.proofs.Chosen.{entries_at}
 use Rattle.bc_medium.proofs.Quotas.{fits_one}
@@ -44,15 +44,15 @@ mapped_read f [] i x e = refl
 mapped_read f (a ∷ xs) zero x e = ap f e
 mapped_read f (a ∷ xs) (suc i) x e = mapped_read f xs i x e
 
-pub row_at : (rows : List (List ℕ)) (i k : ℕ) (row : List ℕ) → i < length rows → row ≡ get_or rows i row → slice_index_or (column k rows) i 0 ≡ slice_index_or row k 0
+pub row_at : (rows : List (List ℕ)) (i k : ℕ) (row : List ℕ) → i < length rows → row ≡ get_or rows i row → slice_index_or (quotas_of_shard k rows) i 0 ≡ slice_index_or row k 0
 row_at [] i k row l e = absurd (omega arith)
 row_at (r ∷ rows) zero k row l e = ap (λ (z : List ℕ). slice_index_or z k 0) (sym e)
 row_at (r ∷ rows) (suc i) k row l e = row_at rows i k row (omega arith) e
 
 pub column_step : (rows : List (List ℕ)) (k shard : ℕ) (row : List ℕ) (quota : ℕ) → k < length rows → row ≡ get_or rows k row → shard < length row → quota ≡ get_or row shard quota
-    → (take (k + 1) (column shard rows) ≡ take k (column shard rows) ++ quota ∷ []) × (sum (take (k + 1) (column shard rows)) ≡ sum (take k (column shard rows)) + quota) × (sum (take (k + 1) (column shard rows)) ≤ sum (column shard rows))
+    → (take (k + 1) (quotas_of_shard shard rows) ≡ take k (quotas_of_shard shard rows) ++ quota ∷ []) × (sum (take (k + 1) (quotas_of_shard shard rows)) ≡ sum (take k (quotas_of_shard shard rows)) + quota) × (sum (take (k + 1) (quotas_of_shard shard rows)) ≤ sum (quotas_of_shard shard rows))
 column_step rows k shard row quota inside gr in_row gq =
-    let col : List ℕ = column shard rows in
+    let col : List ℕ = quotas_of_shard shard rows in
     let long : length col ≡ length rows = length-map rows (λ (r : List ℕ). slice_index_or r shard 0) in
     let here : get_or col k 0 ≡ quota = row_at rows k shard row inside gr ∙ sym (get_or_read row shard quota in_row gq 0) in
     let more : take (k + 1) col ≡ take k col ++ quota ∷ [] = take_more col k 0 (omega arith) ∙ ap (λ (x : ℕ). take k col ++ x ∷ []) here in
@@ -79,7 +79,7 @@ spare_at {S} m p shards rows row i j k x made is of e f inside gr gx counts =
     let i_in : i < length rows = let a = is.a_row_each in let below = of.0.0 in omega arith in
     let long : length row ≡ length m.turns.cells = each_at (λ (r : List ℕ). length r ≡ length m.turns.cells) rows i row is.long_rows (at_read rows i row i_in gr) in
     let here : x ≡ slice_index_or row k 0 = get_or_read row k x (omega arith) (gx ∙ ap (λ (n : ℕ). get_or row n x) f) 0 in
-    let quota : quota_of b.quotas p.caller ≡ x = ap (λ (l : List ℕ). slice_index_or l p.caller 0) col.0 ∙ ap (λ (n : ℕ). slice_index_or (column k rows) n 0) (sym e) ∙ row_at rows i k row i_in gr ∙ sym here in
+    let quota : quota_of b.quotas p.caller ≡ x = ap (λ (l : List ℕ). slice_index_or l p.caller 0) col.0 ∙ ap (λ (n : ℕ). slice_index_or (quotas_of_shard k rows) n 0) (sym e) ∙ row_at rows i k row i_in gr ∙ sym here in
     let small = fits_one b.quotas p.caller in let most = col.1 in
     let c = counts q q0.1 in
     let seen : own_at p k ≡ length (own caller_of p.caller q.seen) = ap (λ l. length (own caller_of p.caller l)) (entries_at (λ (z : Part Entry (OpeningData S)). z.seen) p.parts k q q0.1) in
@@ -89,7 +89,7 @@ spare_at {S} m p shards rows row i j k x made is of e f inside gr gx counts =
 
 module _ {S : Type 0} (keys : List KeyData) (rows : List (List ℕ)) where
   pub more_openings : {V : Type 0} (done : List (V × OpeningData S)) (v : V × OpeningData S) (rest all : List S) (s : S) (whole : List (OpeningData S)) → map (λ v. v.1) done ++ openings keys rows (length done) (reverse all) ≡ whole → all ≡ rest ++ s ∷ []
-      → v.1 ≡ record { store = s; keys = keys; quotas = column (length done) rows } → map (λ v. v.1) (done ++ v ∷ []) ++ openings keys rows (length (done ++ v ∷ [])) (reverse rest) ≡ whole
+      → v.1 ≡ record { store = s; keys = keys; quotas = quotas_of_shard (length done) rows } → map (λ v. v.1) (done ++ v ∷ []) ++ openings keys rows (length (done ++ v ∷ [])) (reverse rest) ≡ whole
   more_openings {V} done v rest all s whole e pop is =
       let base : V × OpeningData S → OpeningData S = λ v. v.1 in
       let long : length (done ++ v ∷ []) ≡ length done + 1 = length-append done (v ∷ []) in
@@ -102,18 +102,18 @@ module _ {S : Type 0} (keys : List KeyData) (rows : List (List ℕ)) where
   openings_length k [] = refl
   openings_length k (s ∷ ss) = ap suc (openings_length (k + 1) ss)
 
-  at_openings : (k j : ℕ) (ss : List S) (o : OpeningData S) → At (openings keys rows k ss) j o → (o.quotas ≡ column (k + j) rows) × (o.keys ≡ keys) × (j < length ss)
+  at_openings : (k j : ℕ) (ss : List S) (o : OpeningData S) → At (openings keys rows k ss) j o → (o.quotas ≡ quotas_of_shard (k + j) rows) × (o.keys ≡ keys) × (j < length ss)
   at_openings k j [] o at = absurd (none-some o at)
-  at_openings k zero (s ∷ ss) o at = let e = same_Some record { store = s; keys = keys; quotas = column k rows } o at in let z : k ≡ k + 0 = omega arith in
-      (sym (ap (λ (x : OpeningData S). x.quotas) e) ∙ ap (λ (n : ℕ). column n rows) z, sym (ap (λ (x : OpeningData S). x.keys) e), omega arith)
-  at_openings k (suc j) (s ∷ ss) o at = let r = at_openings (k + 1) j ss o at in let z : k + 1 + j ≡ k + suc j = omega arith in (r.0 ∙ ap (λ (n : ℕ). column n rows) z, r.1, omega arith)
+  at_openings k zero (s ∷ ss) o at = let e = same_Some record { store = s; keys = keys; quotas = quotas_of_shard k rows } o at in let z : k ≡ k + 0 = omega arith in
+      (sym (ap (λ (x : OpeningData S). x.quotas) e) ∙ ap (λ (n : ℕ). quotas_of_shard n rows) z, sym (ap (λ (x : OpeningData S). x.keys) e), omega arith)
+  at_openings k (suc j) (s ∷ ss) o at = let r = at_openings (k + 1) j ss o at in let z : k + 1 + j ≡ k + suc j = omega arith in (r.0 ∙ ap (λ (n : ℕ). quotas_of_shard n rows) z, r.1, omega arith)
 
   each_keys : (k : ℕ) (ss : List S) → Each (λ o. o.keys ≡ keys) (openings keys rows k ss)
   each_keys k [] = tt
   each_keys k (s ∷ ss) = (refl, each_keys (k + 1) ss)
 
   pub opened_medium : (shards : ℕ) (turns : TurnsData (OpeningData S)) (stores : List S) → map (λ c. c.base) turns.cells ≡ openings keys rows 0 stores → shards ≡ length stores → 1 ≤ length stores → length rows ≡ turns.callers → Each (λ row. length row ≡ length stores) rows
-      → ((k : ℕ) → k < length stores → sum (column k rows) < 2 ^ 32) → IsMedium keys shards rows turns
+      → ((k : ℕ) → k < length stores → sum (quotas_of_shard k rows) < 2 ^ 32) → IsMedium keys shards rows turns
   opened_medium shards turns stores bases is some callers long fits =
       let many : length turns.cells ≡ length stores = sym (length-map turns.cells (λ (c : CellData (OpeningData S)). c.base)) ∙ ap length bases ∙ openings_length 0 stores in record {
         some = omega arith;
@@ -123,7 +123,7 @@ module _ {S : Type 0} (keys : List KeyData) (rows : List (List ℕ)) where
         long_rows = each_weaken (λ row. length row ≡ length stores) (λ row. length row ≡ length turns.cells) rows (λ row e. e ∙ sym many) long;
         columns = λ k c at.
             let o = at_openings 0 k stores c.base (subst (λ (l : List (OpeningData S)). At l k c.base) bases (at_map (λ (c : CellData (OpeningData S)). c.base) turns.cells k c at)) in
-            let z : 0 + k ≡ k = omega arith in let q : c.base.quotas ≡ column k rows = o.0 ∙ ap (λ (n : ℕ). column n rows) z in
+            let z : 0 + k ≡ k = omega arith in let q : c.base.quotas ≡ quotas_of_shard k rows = o.0 ∙ ap (λ (n : ℕ). quotas_of_shard n rows) z in
             (q, subst (λ (l : List ℕ). sum l < 2 ^ 32) (sym q) (fits k o.2));
       }
 

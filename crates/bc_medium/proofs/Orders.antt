@@ -12,8 +12,8 @@ use Rattle.bc_medium.specs.declared.unit_at.UnitAt.{UnitAt}
 use Rattle.bc_medium.specs.declared.entry.Entry.{Entry}
 use Rattle.bc_base.specs.Sectors.{Sectors, with_bytes, bytes_at}
 use Rattle.bc_medium.specs.KeyedDisk.{Performed, Faulted, accessed, enciphered}
-use Rattle.bc_base.specs.Stores.{ToldCalls, HoldsSame, Sets, MakesCall, Reads}
-use Rattle.bc_medium.specs.Entries.{unit_of, written_entry, failed_entry, performed_by, left_by, Stand}
+use Rattle.bc_base.specs.Stores.{StoreCalls, HoldsSame, Sets, MakesCall, ReadsSectors}
+use Rattle.bc_medium.specs.Entries.{entry_unit, written_entry, failed_entry, performed_by, left_by, Stand}
 use Rattle.bc_medium.specs.ShardOrder.{Leaves, FailAsPlanned, CallsAre, failures, IsQuiet}
 use Rattle.bc_medium.specs.ShardOrder.{IsOrder, keys_or_none}
 
@@ -26,10 +26,10 @@ faulted disk = record { disk = disk; answer = Faulted }
 
 -- what leaves the disk as it was, whatever the keys
 pub quiet_stays : (keys : List KeyData) (disk : Sectors) (e : Entry) → IsQuiet e → (performed_by keys disk e).disk ≡ disk
-quiet_stays keys disk e (inl failed) = ap (λ (b : Bool). (cond b (faulted disk) (accessed e.access keys disk (unit_of e))).disk) failed
-quiet_stays keys disk e (inr read) = ap (λ (a : Access). (cond e.failed (faulted disk) (accessed a keys disk (unit_of e))).disk) read ∙ either_way e.failed
+quiet_stays keys disk e (inl failed) = ap (λ (b : Bool). (cond b (faulted disk) (accessed e.access keys disk (entry_unit e))).disk) failed
+quiet_stays keys disk e (inr read) = ap (λ (a : Access). (cond e.failed (faulted disk) (accessed a keys disk (entry_unit e))).disk) read ∙ either_way e.failed
   where
-    either_way : (b : Bool) → (cond b (faulted disk) (accessed Read keys disk (unit_of e))).disk ≡ disk
+    either_way : (b : Bool) → (cond b (faulted disk) (accessed Read keys disk (entry_unit e))).disk ≡ disk
     either_way true = refl
     either_way false = refl
 
@@ -68,7 +68,7 @@ planned_push : (plan : List ℕ) (place : ℕ) (es : List Entry) (e : Entry) →
 planned_push plan place [] e f i = (subst (λ n. (e.failed ≡ true) ↔ Contains plan n) (let z : place + 0 ≡ place = omega arith in z) i, tt)
 planned_push plan place (x ∷ es) e f i = (f.0, planned_push plan (place + 1) es e f.1 (subst (λ n. (e.failed ≡ true) ↔ Contains plan n) (let z : place + length (x ∷ es) ≡ place + 1 + length es = omega arith in z) i))
 
-pub calls_push : (start now now' : Option ToldCalls) (es : List Entry) (e : Entry) (Fails : Type 0) → length es < 2 ^ 32 → (e.failed ≡ true → Fails) → (Fails → e.failed ≡ true) → CallsAre start es now → MakesCall now now' Fails → CallsAre start (es ++ e ∷ []) now'
+pub calls_push : (start now now' : Option StoreCalls) (es : List Entry) (e : Entry) (Fails : Type 0) → length es < 2 ^ 32 → (e.failed ≡ true → Fails) → (Fails → e.failed ≡ true) → CallsAre start es now → MakesCall now now' Fails → CallsAre start (es ++ e ∷ []) now'
 calls_push None None now' es e F small to from c k = k
 calls_push None (Some u) now' es e F small to from c k = cc
 calls_push (Some t) None now' es e F small to from c k = absurd c.1
@@ -93,7 +93,7 @@ pub faults_push : (start now now' : ℕ) (es : List Entry) (e : Entry) (Fails : 
 faults_push start now now' es e F to known cause small =
     failed_once e.failed start now now' (failures es) (failures (es ++ e ∷ [])) F to cause small (failures_push es e) (known (let later = cause.later in omega arith))
 
-module _ {S : Type 0} (owns : S → ℕ → Bool) (contents : S → Option Sectors) (told : S → Option ToldCalls) (faults : S → ℕ) where
+module _ {S : Type 0} (owns : S → ℕ → Bool) (contents : S → Option Sectors) (told : S → Option StoreCalls) (faults : S → ℕ) where
   -- a write that reached the store
   pub order_wrote : (start : S) (known : Option (List KeyData)) (keys : List KeyData) (store store' : S) (es es' : List Entry) (at : UnitAt) (via : Via) (plain cipher : List ℕ) (Fails : Type 0) → IsOrder owns contents told faults start known store es → length es < 2 ^ 32
       → IfSome known (λ k. k ≡ keys) → cipher ≡ enciphered keys at.context plain → es' ≡ es ++ written_entry at via plain ∷ [] → ((s : ℕ) → owns store' s ≡ owns store s) → Sets (contents store) (contents store') at.sector cipher → (Fails → ⊥)
@@ -141,14 +141,14 @@ module _ {S : Type 0} (owns : S → ℕ → Bool) (contents : S → Option Secto
   }
 
 -- what the store reads stands on the keyed disk
-pub stands : (keys : List KeyData) (start now : Option Sectors) (es : List Entry) (first : ℕ) (raw : List ℕ) → Leaves keys start es now → Reads now first raw → Stand keys start es first raw
+pub stands : (keys : List KeyData) (start now : Option Sectors) (es : List Entry) (first : ℕ) (raw : List ℕ) → Leaves keys start es now → ReadsSectors now first raw → Stand keys start es first raw
 stands keys None now es first raw l r = tt
 stands keys (Some disk) None es first raw l r = absurd l
 stands keys (Some disk) (Some held) es first raw l r = r ∙ ap (λ (d : Sectors). bytes_at d first (length raw / 512)) (λ i s. l s i)
 
-module _ {S : Type 0} (owns : S → ℕ → Bool) (contents : S → Option Sectors) (told : S → Option ToldCalls) (faults : S → ℕ) where
+module _ {S : Type 0} (owns : S → ℕ → Bool) (contents : S → Option Sectors) (told : S → Option StoreCalls) (faults : S → ℕ) where
   -- whatever the store was at opening, and with whatever keys the writes were given
-  pub stands_in_order : (store : S) (es : List Entry) (first : ℕ) (raw : List ℕ) → Reads (contents store) first raw
+  pub stands_in_order : (store : S) (es : List Entry) (first : ℕ) (raw : List ℕ) → ReadsSectors (contents store) first raw
       → (start : S) (given : Option (List KeyData)) (keys : List KeyData) → IfSome given (λ k. k ≡ keys) → IsOrder owns contents told faults start given store es → Stand keys (contents start) es first raw
   stands_in_order store es first raw r start given keys same o = stands keys (contents start) (contents store) es first raw (known_leaves keys (contents start) (contents store) es given same o.leaves o.quiet) r
 
@@ -165,12 +165,12 @@ leaves_none : (keys : List KeyData) (o : Option Sectors) → Leaves keys o [] o
 leaves_none keys None = refl
 leaves_none keys (Some disk) = λ s. refl
 
-calls_none : (o : Option ToldCalls) → IfSome o (λ t. t.calls ≡ 0) → CallsAre o [] o
+calls_none : (o : Option StoreCalls) → IfSome o (λ t. t.calls ≡ 0) → CallsAre o [] o
 calls_none None none = refl
 calls_none (Some t) none = (tt, (refl, none))
 
 -- a store at opening
-pub order_new : {S : Type 0} (owns : S → ℕ → Bool) (contents : S → Option Sectors) (told : S → Option ToldCalls) (faults : S → ℕ) (store : S) (given : Option (List KeyData)) → IfSome (told store) (λ t. t.calls ≡ 0) → IsOrder owns contents told faults store given store []
+pub order_new : {S : Type 0} (owns : S → ℕ → Bool) (contents : S → Option Sectors) (told : S → Option StoreCalls) (faults : S → ℕ) (store : S) (given : Option (List KeyData)) → IfSome (told store) (λ t. t.calls ≡ 0) → IsOrder owns contents told faults store given store []
 order_new owns contents told faults store given none = record {
   owned = λ s. refl;
   leaves = leaves_none (keys_or_none given) (contents store);

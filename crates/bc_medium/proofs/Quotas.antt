@@ -2,20 +2,17 @@
 use Rattle.std.proofs.Common.{◌≡◌, ◌≢◌, ℕ, ◌+◌, ◌-◌, ◌<◌, ◌≤◌, Bool, List, [], ◌∷◌, ◌++◌, length, set, get_or, refl, sym, ap, ◌∙◌, subst, arith, eq-eqb, ne_eqb, length-append, Some, Option}
 use Rattle.std.specs.Prelude.{sum}
 use Rattle.std.proofs.lemmas.List.{get_or_past, get_or-set_same, get_or-set_other}
-use Rattle.std.proofs.lemmas.List.Sums.{sum_by-set}
 use mathlib.Core.Logic.{dite}
 use native.Mathlib.Decide.{dec_lt, ℕ_discrete}
 use Rattle.bc_base.specs.Sectors.{Sectors}
-use Rattle.bc_base.specs.Stores.{ToldCalls}
+use Rattle.bc_base.specs.Stores.{StoreCalls}
 use Rattle.bc_base.specs.Story.{own}
 use Rattle.bc_base.proofs.Stories.{own-append}
 use Rattle.bc_medium.specs.declared.entry.Entry.{Entry}
 use Rattle.bc_medium.specs.Entries.{caller_of}
 use Rattle.bc_medium.specs.ShardOrder.{StoreOrder, IsOrder}
 use Rattle.bc_medium.specs.Medium.{OpeningData, Keeps, quota_of}
-
-sum-set : (q : List ℕ) (i v : ℕ) → i < length q → sum (set q i v) + get_or q i 0 ≡ sum q + v
-sum-set q i v l = sum_by-set (λ x. x) q i v 0 l
+use Rattle.bc_base.proofs.Members.{sum-set}
 
 pub fits_one : (q : List ℕ) (c : ℕ) → get_or q c 0 ≤ sum q
 fits_one q c = dite (dec_lt c (length q)) (λ l. let s = sum-set q c 0 l in omega arith) (λ no. let z = get_or_past q c 0 (omega arith) in omega arith)
@@ -46,7 +43,7 @@ module _ {E : Type 0} (by : E → ℕ) where
       let s = sum-set q c n inside in
       let rest = fits es (set q c n) (within_less es q c n inside (omega arith) (λ d ne. w d) (omega arith)) in omega arith
 
-module _ {S : Type 0} (owns : S → ℕ → Bool) (contents : S → Option Sectors) (told : S → Option ToldCalls) (faults : S → ℕ) where
+module _ {S : Type 0} (owns : S → ℕ → Bool) (contents : S → Option Sectors) (told : S → Option StoreCalls) (faults : S → ℕ) where
   -- a shard keeps to its opening when a caller below its quota adds an entry
   pub keeps_more : (b : OpeningData S) (old new : StoreOrder S) (e : Entry) → Keeps owns contents told faults b old → length (own caller_of (caller_of e) old.entries) < quota_of b.quotas (caller_of e)
       → IsOrder owns contents told faults b.store (Some b.keys) new.store new.entries → new.entries ≡ old.entries ++ e ∷ [] → new.spare + 1 ≡ old.spare → Keeps owns contents told faults b new

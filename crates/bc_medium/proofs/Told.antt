@@ -1,4 +1,4 @@
--- What is told along an order, and that it stays.
+-- What is reported along an order, and that it stays.
 use Rattle.std.proofs.Common.{◌≡◌, ℕ, ◌/◌, ◌*◌, zero, suc, List, [], ◌∷◌, ◌++◌, length, set, Option, Some, None, refl, sym, ap, ◌∙◌, subst, arith}
 use Rattle.std.specs.Prelude.{IfSome, slice_get}
 use Rattle.std.proofs.lemmas.Option.{none-some}
@@ -13,15 +13,15 @@ use Rattle.bc_medium.specs.declared.via.Via.{Via}
 use Rattle.bc_medium.specs.declared.entry.Entry.{Entry}
 use Rattle.bc_medium.specs.declared.unit_at.UnitAt.{UnitAt}
 use Rattle.bc_medium.specs.declared.unit_name.UnitName.{UnitName}
-use Rattle.bc_medium.specs.Places.{shard_of}
+use Rattle.bc_medium.specs.Layout.{shard_of}
 use Rattle.bc_medium.specs.KeyedDisk.{Sectors, UnitAnswer, Text, deciphered, bytes_at}
-use Rattle.bc_medium.specs.LawfulOrders.{name_of}
+use Rattle.bc_medium.specs.LawfulOrders.{unit_name_of}
 use Rattle.bc_medium.specs.Entries.{name_of_entry, read_entry, performed_by, left_by, told_by, IsToldAt, Stand}
 use Rattle.bc_medium.specs.Growth.{Knows}
 use Rattle.bc_medium.specs.ShardOrder.{ShardData, Appends, HasKeys, Leaves, IsOrder}
 use Rattle.bc_medium.specs.Shards.{HaveKeys, Answers, AllLeft}
 use Rattle.bc_medium.proofs.Orders.{known_leaves}
-use Rattle.bc_medium.proofs.Chosen.{at_set}
+use Rattle.bc_base.proofs.Members.{at_set}
 
 pub told_append : (keys : List KeyData) (disk : Sectors) (es more : List Entry) → told_by keys disk (es ++ more) ≡ told_by keys disk es ++ told_by keys (left_by keys disk es) more
 told_append keys disk [] more = refl
@@ -37,7 +37,7 @@ told_last : (keys : List KeyData) (disk : Sectors) (before : List Entry) (e : En
 told_last keys disk [] e = refl
 told_last keys disk (x ∷ before) e = told_last keys (performed_by keys disk x).disk before e
 
--- ---- what is told stays told
+-- ---- what is reported stays reported
 
 pub answers_stay : (keys : List KeyData) (contents : Option Sectors) (order more : List Entry) (place : ℕ) (name : UnitName) (answer : UnitAnswer) → IsToldAt keys contents order place name answer → IsToldAt keys contents (order ++ more) place name answer
 answers_stay keys None order more place name answer told = tt
@@ -50,8 +50,8 @@ pub known_stays : (keys : List KeyData) (shards : ℕ) (base : ℕ → Sectors) 
 known_stays keys shards base thread old new u answer fronts knows =
     let s = shard_of shards u.sector in let begins = fronts s in (
       knows.0,
-      subst (λ order. IsToldAt keys (Some (base s)) order knows.0 (name_of thread u) answer) (sym begins.1)
-          (answers_stay keys (Some (base s)) (list_at old s) begins.0 knows.0 (name_of thread u) answer knows.1),
+      subst (λ order. IsToldAt keys (Some (base s)) order knows.0 (unit_name_of thread u) answer) (sym begins.1)
+          (answers_stay keys (Some (base s)) (list_at old s) begins.0 knows.0 (unit_name_of thread u) answer knows.1),
     )
 
 -- ---- what one entry is answered
@@ -85,7 +85,7 @@ module _ {S : Type 0} (contents : S → Option Sectors) where
   pub has_keys : (keys : List KeyData) (shards : List (ShardData S)) (place : ℕ) (s : ShardData S) → HaveKeys keys shards → At shards place s → HasKeys keys s
   has_keys keys shards place s have at = each_at (HasKeys keys) shards place s have at
 
-  pub all_left : (owns : S → ℕ → Rattle.std.specs.Prelude.Bool) (told : S → Option Rattle.bc_base.specs.Stores.ToldCalls) (faults : S → ℕ) (shards : List (ShardData S)) → Each (λ s. IsOrder owns contents told faults s.start s.keys s.store s.entries) shards → AllLeft contents shards
+  pub all_left : (owns : S → ℕ → Rattle.std.specs.Prelude.Bool) (told : S → Option Rattle.bc_base.specs.Stores.StoreCalls) (faults : S → ℕ) (shards : List (ShardData S)) → Each (λ s. IsOrder owns contents told faults s.start s.keys s.store s.entries) shards → AllLeft contents shards
   all_left owns told faults shards orders keys have =
       each_both (λ s. IsOrder owns contents told faults s.start s.keys s.store s.entries) (HasKeys keys) (λ s. Leaves keys (contents s.start) s.entries (contents s.store))
       (λ s order has. known_leaves keys (contents s.start) (contents s.store) s.entries s.keys has order.leaves order.quiet) shards orders have

@@ -1,5 +1,5 @@
 -- What the entries of a shard's order leave on its disk, and what each of them was answered.
--- The fault plan of an order is told by its entries: it has the places of those that failed.
+-- The fault plan of an order is given by its entries: it has the places of those that failed.
 use Rattle.std.specs.Prelude.{◌≡◌, ℕ, ◌/◌, true, false, length, List, [], ◌∷◌, Option, Some, None, IfSome, slice_get, if◌then◌else◌}
 use Rattle.std.specs.Option.{unwrap_or}
 use Rattle.bc_key.specs.KeyData.{KeyData}
@@ -37,8 +37,8 @@ abbrev pub failed_entry : Access → UnitAt → Via → Entry
 failed_entry access at via = record { at = at; access = access; via = via; plain = None; failed = true }
 
 -- the unit that an entry performs
-abbrev pub unit_of : Entry → PlannedUnit
-unit_of e = record {
+abbrev pub entry_unit : Entry → PlannedUnit
+entry_unit e = record {
   tag = e.at.tag;
   unit = e.at.unit;
   access = e.access;
@@ -50,7 +50,7 @@ unit_of e = record {
 -- one entry on the keyed disk: one that failed leaves the disk as it was
 abbrev pub performed_by : List KeyData → Sectors → Entry → Performed
 performed_by keys disk e =
-    if e.failed then record { disk = disk; answer = Faulted } else accessed e.access keys disk (unit_of e)
+    if e.failed then record { disk = disk; answer = Faulted } else accessed e.access keys disk (entry_unit e)
 
 -- the disk after entries
 abbrev pub left_by : List KeyData → Sectors → List Entry → Sectors
@@ -64,8 +64,8 @@ told_by keys disk (e ∷ es) =
     let now = performed_by keys disk e in (name_of_entry e, now.answer) ∷ told_by keys now.disk es
 
 -- somewhere among these answers the unit was answered so: this stays true when entries follow
-abbrev pub IsTold : List (UnitName × UnitAnswer) → UnitName → UnitAnswer → Type 0
-IsTold told name answer = (place : ℕ) × (slice_get told place ≡ Some (name, answer))
+abbrev pub HasAnswer : List (UnitName × UnitAnswer) → UnitName → UnitAnswer → Type 0
+HasAnswer told name answer = (place : ℕ) × (slice_get told place ≡ Some (name, answer))
 
 -- from these contents the keyed disk answers the unit so at this place of the order
 abbrev pub IsToldAt : List KeyData → Option Sectors → List Entry → ℕ → UnitName → UnitAnswer → Type 0

@@ -1,14 +1,14 @@
--- Lawful orders: one list for each shard, which has each thread's attempted units there, each once, as the thread
--- issued them. A unit is attempted unless an earlier unit of its bio met a fault.
+-- Lawful orders: one list for each shard, which has each thread's attempted units there, each once,
+-- as the thread issued them. A unit is attempted unless an earlier unit of its bio met a fault.
 use Rattle.std.specs.Prelude.{◌≡◌, ℕ, ◌<◌, Bool, not, ◌&&◌, ◌==◌, nat_lt, List, [], map, length, filter, filter_map, slice_get, slice_index_or, Option, option_and_then}
 use Rattle.std.specs.List.{list_any}
 use Rattle.bc_bio.specs.PlannedUnit.{PlannedUnit}
 use Rattle.bc_medium.specs.declared.unit_name.UnitName.{UnitName}
-use Rattle.bc_medium.specs.Places.{shard_of}
+use Rattle.bc_medium.specs.Layout.{shard_of}
 
 -- a unit of a thread's plan, by name
-abbrev pub name_of : ℕ → PlannedUnit → UnitName
-name_of thread u = record { thread = thread; op = u.tag; unit = u.unit }
+abbrev pub unit_name_of : ℕ → PlannedUnit → UnitName
+unit_name_of thread u = record { thread = thread; op = u.tag; unit = u.unit }
 
 -- two names of one unit
 abbrev pub is_same : UnitName → UnitName → Bool
@@ -31,13 +31,14 @@ is_earlier u v = (u.thread == v.thread) && (u.op == v.op) && nat_lt u.unit v.uni
 abbrev pub is_attempted : List UnitName → UnitName → Bool
 is_attempted met u = not (list_any (λ fault. is_earlier fault u) met)
 
--- the thread's attempted units on a shard, in the order of the list that is given: what the thread issued
+-- the thread's attempted units on a shard, in the order of the list that is given: what the thread
+-- issued
 abbrev pub attempted_on :
     ℕ → List (List PlannedUnit) → List (ℕ × ℕ) → List (List UnitName) → ℕ → ℕ → List UnitName
 attempted_on shards issued faults orders shard thread =
     let on_shard =
     filter (λ u. shard_of shards u.sector == shard) (slice_index_or issued thread []) in
-    filter (is_attempted (faulted faults orders)) (map (name_of thread) on_shard)
+    filter (is_attempted (faulted faults orders)) (map (unit_name_of thread) on_shard)
 
 -- the entries of a thread in an order
 abbrev pub entries_of : ℕ → List UnitName → List UnitName

@@ -1,4 +1,4 @@
--- Laws of orders: what is told and known of an entry stays so when entries follow.
+-- Laws of orders: what is reported and known of an entry stays so when entries follow.
 use Rattle.std.specs.Prelude.{ℕ, List, ◌++◌, Option}
 use Rattle.bc_base.specs.Lists.{list_at}
 use Rattle.bc_base.specs.Story.{StartsWith}

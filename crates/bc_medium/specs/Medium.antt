@@ -1,17 +1,17 @@
--- What contracts see of the shards of a disk, for many callers: each shard behind a turn, and of each pass the orders
--- as far as its caller has seen them.
+-- What contracts see of the shards of a disk, for many callers: each shard behind a turn, and of
+-- each pass the orders as far as its caller has seen them.
 use Rattle.std.specs.Prelude.{◌≡◌, ◌↔◌, ℕ, ◌+◌, ◌<◌, ◌≤◌, ◌^◌, Bool, false, ⊤, List, [], ◌∷◌, length, map, sum, slice_index_or, Option, Some, IfSome, Contains}
 use lib.ListN.{take}
 use Rattle.bc_base.specs.declared.place.Place.{Place}
 use Rattle.bc_base.specs.Lists.{Each, AllAt, list_at}
 use Rattle.bc_base.specs.Story.{own, IsFront}
-use Rattle.bc_base.specs.Stores.{ToldCalls, IsPiece}
+use Rattle.bc_base.specs.Stores.{StoreCalls, IsPiece}
 use Rattle.bc_key.specs.KeyData.{KeyData}
 use Rattle.bc_key.specs.KeyList.{KeyList}
-use Rattle.bc_turn.specs.Parts.{Part, Pass, TurnsData, IsOf}
+use Rattle.bc_turn.specs.PassParts.{Part, Pass, TurnsData, IsOf}
 use Rattle.bc_medium.specs.declared.entry.Entry.{Entry}
 use Rattle.bc_medium.specs.declared.unit_name.UnitName.{UnitName}
-use Rattle.bc_medium.specs.Places.{shard_of}
+use Rattle.bc_medium.specs.Layout.{shard_of}
 use Rattle.bc_medium.specs.KeyedDisk.{Sectors, UnitAnswer}
 use Rattle.bc_medium.specs.Entries.{caller_of, IsToldAt, Stand}
 use Rattle.bc_medium.specs.Growth.{Performs}
@@ -33,13 +33,13 @@ abbrev pub quota_of : List ℕ → ℕ → ℕ
 quota_of quotas caller = slice_index_or quotas caller 0
 
 -- the quotas of a shard by caller, of quotas by caller and shard
-abbrev pub column : ℕ → List (List ℕ) → List ℕ
-column shard rows = map (λ row. slice_index_or row shard 0) rows
+abbrev pub quotas_of_shard : ℕ → List (List ℕ) → List ℕ
+quotas_of_shard shard rows = map (λ row. slice_index_or row shard 0) rows
 
-module _ {S : Type 0} (owns : S → ℕ → Bool) (contents : S → Option Sectors) (told : S → Option ToldCalls)
+module _ {S : Type 0} (owns : S → ℕ → Bool) (contents : S → Option Sectors) (told : S → Option StoreCalls)
     (faults : S → ℕ) where
-  -- a shard keeps to its opening: its entries are what was done to the store since, each caller keeps within its quota,
-  -- and there is room for all quotas
+  -- a shard keeps to its opening: its entries are what was done to the store since, each caller
+  -- keeps within its quota, and there is room for all quotas
   pub record Keeps (b : OpeningData S) (shard : StoreOrder S) : Type 0 where
     pub order : IsOrder owns contents told faults b.store (Some b.keys) shard.store shard.entries
     pub within : (caller : ℕ) → length (own caller_of caller shard.entries) ≤ quota_of b.quotas caller
@@ -90,7 +90,8 @@ module _ {S : Type 0} where
   Accesses m old new e place =
       (before : List Entry) × Performs (shards_of m) (seen_by old) (seen_by new) before e place
 
-  -- with the keyed disk from the store's contents at opening, the entry at this place is answered so
+  -- with the keyed disk from the store's contents at opening, the entry at this place is answered
+  -- so
   abbrev pub AnswersSeen :
       (S → Option Sectors) → MediumData S → Pass Entry (OpeningData S) → UnitName → UnitAnswer → Place → Type 0
   AnswersSeen contents m pass name answer place =
@@ -104,13 +105,15 @@ module _ {S : Type 0} where
       AllAt m.turns.cells place.shard (λ cell. Stand m.keys.keys (contents cell.base.store)
       (take place.index (list_at (seen_by pass) place.shard)) first raw)
 
-  -- where the store of this shard tells its plan, the access failed exactly where the plan has its place
-  abbrev pub FailedAsPlanned : (S → Option ToldCalls) → MediumData S → Type 0 → Place → Type 0
+  -- where the store of this shard tells its plan, the access failed exactly where the plan has its
+  -- place
+  abbrev pub FailedAsPlanned : (S → Option StoreCalls) → MediumData S → Type 0 → Place → Type 0
   FailedAsPlanned told m Fails place =
       AllAt m.turns.cells place.shard (λ cell. IfSome (told cell.base.store)
       (λ t. Fails ↔ Contains t.plan place.index))
 
--- the medium has a turn for each shard, whose writes are given its keys, and a row of quotas for each caller
+-- the medium has a turn for each shard, whose writes are given its keys, and a row of quotas for
+-- each caller
 pub record IsMedium {S : Type 0} (keys : List KeyData) (shards : ℕ) (rows : List (List ℕ))
     (turns : TurnsData (OpeningData S)) : Type 0 where
   pub some : 1 ≤ shards
@@ -119,7 +122,7 @@ pub record IsMedium {S : Type 0} (keys : List KeyData) (shards : ℕ) (rows : Li
   pub a_row_each : length rows ≡ turns.callers
   pub long_rows : Each (λ row. length row ≡ length turns.cells) rows
   pub columns : (shard : ℕ) → AllAt turns.cells shard
-      (λ cell. (cell.base.quotas ≡ column shard rows) × (sum cell.base.quotas < 2 ^ 32))
+      (λ cell. (cell.base.quotas ≡ quotas_of_shard shard rows) × (sum cell.base.quotas < 2 ^ 32))
 
 -- the elements of two lists are such at their common places, counted from this place on
 abbrev pub EachTwoFrom : {A C : Type 0} → (ℕ → A → C → Type 0) → ℕ → List A → List C → Type 0
@@ -128,10 +131,11 @@ EachTwoFrom P place [] (y ∷ ys) = ⊥
 EachTwoFrom P place (x ∷ xs) [] = ⊥
 EachTwoFrom P place (x ∷ xs) (y ∷ ys) = P place x y × EachTwoFrom P (place + 1) xs ys
 
-module _ {S : Type 0} (owns : S → ℕ → Bool) (contents : S → Option Sectors) (told : S → Option ToldCalls)
+module _ {S : Type 0} (owns : S → ℕ → Bool) (contents : S → Option Sectors) (told : S → Option StoreCalls)
     (faults : S → ℕ) where
-  -- a shard at the end: its entries are what was done to its store since opening, with the medium's keys; what each
-  -- pass has seen is a front of them that has all of its caller's; and no other caller has any
+  -- a shard at the end: its entries are what was done to its store since opening, with the medium's
+  -- keys; what each pass has seen is a prefix of them that has all of its caller's; and no other
+  -- caller has any
   pub record IsEnd (m : MediumData S) (passes : List (Pass Entry (OpeningData S))) (shard : ℕ) (store : S)
       (entries : List Entry) : Type 0 where
     pub order : AllAt m.turns.cells shard
@@ -143,4 +147,4 @@ module _ {S : Type 0} (owns : S → ℕ → Bool) (contents : S → Option Secto
 abbrev pub openings : {S : Type 0} → List KeyData → List (List ℕ) → ℕ → List S → List (OpeningData S)
 openings keys rows shard [] = []
 openings keys rows shard (s ∷ ss) =
-    record { store = s; keys = keys; quotas = column shard rows } ∷ openings keys rows (shard + 1) ss
+    record { store = s; keys = keys; quotas = quotas_of_shard shard rows } ∷ openings keys rows (shard + 1) ss

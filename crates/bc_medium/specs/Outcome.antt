@@ -1,5 +1,6 @@
--- The outcome of a run: what the keyed disk answers and leaves where the units of each shard are performed in its
--- order. Shards have no common sector, so each order is performed from the opening image, without the others.
+-- The outcome of a run: what the keyed disk answers and leaves where the units of each shard are
+-- performed in its order. Shards have no common sector, so each order is performed from the opening
+-- image, without the others.
 use Rattle.bc_medium.specs.declared.unit_name.UnitName.{UnitName}
 use Rattle.std.specs.Prelude.{ℕ, ◌/◌, Bool, true, false, ◌&&◌, ◌==◌, List, [], length, find, filter, filter_map, flat_map, zip, slice_index_or, Option, option_map}
 use Rattle.std.specs.List.{range_with_len}
@@ -8,9 +9,9 @@ use Rattle.bc_key.specs.KeyData.{KeyData}
 use Rattle.bc_bio.specs.declared.access.Access.{Access}
 use Rattle.bc_bio.specs.declared.access.Access.TheVariants.{Read, Write}
 use Rattle.bc_bio.specs.PlannedUnit.{PlannedUnit}
-use Rattle.bc_medium.specs.Places.{shard_of}
+use Rattle.bc_medium.specs.Layout.{shard_of}
 use Rattle.bc_medium.specs.KeyedDisk.{Sectors, image_sectors, bytes_at, UnitAnswer, Faulted, Text, disk_along, answers_along}
-use Rattle.bc_medium.specs.LawfulOrders.{name_of, is_same}
+use Rattle.bc_medium.specs.LawfulOrders.{unit_name_of, is_same}
 
 -- all that an outcome depends on
 pub record Run : Type 0 where
@@ -80,7 +81,7 @@ unit_answer run name =
 -- the units of a bio with their answers, as far as they were attempted, by unit
 abbrev pub answers_of_bio : Run → ℕ → ℕ → List UnitAnswer
 answers_of_bio run thread op =
-    filter_map (λ u. unit_answer run (name_of thread u))
+    filter_map (λ u. unit_answer run (unit_name_of thread u))
     (filter (λ u. u.tag == op) (slice_index_or run.plan thread []))
 
 -- the unit of a bio that met a fault

@@ -1,19 +1,19 @@
--- What contracts see of the shards of a disk, for one caller: a store for each shard, and the order of the accesses to
--- it.
+-- What contracts see of the shards of a disk, for one caller: a store for each shard, and the order
+-- of the accesses to it.
 use Rattle.std.specs.Prelude.{◌≡◌, ℕ, ◌*◌, ◌≤◌, Bool, List, [], ◌∷◌, length, map, Option}
 use Rattle.bc_base.specs.declared.place.Place.{Place}
 use Rattle.bc_base.specs.Lists.{Each, AllAt, ChangesAt, list_at}
-use Rattle.bc_base.specs.Stores.{ToldCalls, IsPiece}
+use Rattle.bc_base.specs.Stores.{StoreCalls, IsPiece}
 use Rattle.bc_key.specs.KeyData.{KeyData}
 use Rattle.bc_bio.specs.Extent.{unit_sectors}
 use Rattle.bc_medium.specs.declared.entry.Entry.{Entry}
 use Rattle.bc_medium.specs.declared.unit_at.UnitAt.{UnitAt}
 use Rattle.bc_medium.specs.declared.unit_name.UnitName.{UnitName}
-use Rattle.bc_medium.specs.Places.{shard_of}
+use Rattle.bc_medium.specs.Layout.{shard_of}
 use Rattle.bc_medium.specs.KeyedDisk.{Sectors, UnitAnswer, Faulted, Text, deciphered}
 use Rattle.bc_medium.specs.Entries.{IsToldAt, unit_name}
 use Rattle.bc_medium.specs.Growth.{Performs}
-use Rattle.bc_medium.specs.ShardOrder.{ShardData, Appends, AppendsNext, HasKeys, StandsNow, FailsByPlan, Leaves, opened}
+use Rattle.bc_medium.specs.ShardOrder.{ShardData, Appends, AppendsNext, HasKeys, StandsNow, FailsByPlan, Leaves, opened_shard}
 
 module _ {S : Type 0} where
   -- the orders, by shard
@@ -53,7 +53,8 @@ module _ {S : Type 0} where
   Adds old new e place =
       Performs (length old) (orders_of old) (orders_of new) (list_at (orders_of old) place.shard) e place
 
-  -- with the keyed disk from the store's contents at opening, the entry at this place is answered so
+  -- with the keyed disk from the store's contents at opening, the entry at this place is answered
+  -- so
   abbrev pub Answers :
       (S → Option Sectors) → List KeyData → List (ShardData S) → Place → UnitName → UnitAnswer → Type 0
   Answers contents keys shards place name answer =
@@ -63,20 +64,22 @@ module _ {S : Type 0} where
   abbrev pub AnswersFault : (S → Option Sectors) → List (ShardData S) → UnitName → Place → Type 0
   AnswersFault contents shards name place = (keys : List KeyData) → Answers contents keys shards place name Faulted
 
-  -- with whatever keys writes were given, a read is answered with the raw bytes, which are the unit's, deciphered
+  -- with whatever keys writes were given, a read is answered with the raw bytes, which are the
+  -- unit's, deciphered
   abbrev pub AnswersText :
       (S → Option Sectors) → List (ShardData S) → List (ShardData S) → UnitAt → List ℕ → Place → Type 0
   AnswersText contents old new at raw place =
       (keys : List KeyData) → HaveKeys keys old → length raw ≡ 512 * unit_sectors keys at.context
       → Answers contents keys new place (unit_name at) (Text (deciphered keys at.context raw))
 
-  -- where the store of this sector's shard tells its plan, the access fails exactly where the plan has its place
-  abbrev pub FailsAsPlanned : (S → Option ToldCalls) → List (ShardData S) → ℕ → Type 0 → Type 0
+  -- where the store of this sector's shard tells its plan, the access fails exactly where the plan
+  -- has its place
+  abbrev pub FailsAsPlanned : (S → Option StoreCalls) → List (ShardData S) → ℕ → Type 0 → Type 0
   FailsAsPlanned told shards sector Fails =
       AllAt shards (shard_of (length shards) sector) (λ s. FailsByPlan told s Fails)
 
-  -- with whatever keys writes were given, each store holds what the keyed disk leaves along its shard's entries from
-  -- the contents at opening
+  -- with whatever keys writes were given, each store holds what the keyed disk leaves along its
+  -- shard's entries from the contents at opening
   abbrev pub AllLeft : (S → Option Sectors) → List (ShardData S) → Type 0
   AllLeft contents shards =
       (keys : List KeyData) → HaveKeys keys shards
@@ -86,4 +89,4 @@ module _ {S : Type 0} where
   abbrev pub opened_with : List S → List ℕ → List (ShardData S)
   opened_with [] quotas = []
   opened_with (s ∷ ss) [] = []
-  opened_with (s ∷ ss) (q ∷ qs) = opened s q ∷ opened_with ss qs
+  opened_with (s ∷ ss) (q ∷ qs) = opened_shard s q ∷ opened_with ss qs

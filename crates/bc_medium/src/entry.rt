@@ -5,7 +5,8 @@ use crate::via::Via;
 use bc_base::Items;
 use bc_bio::Access;
 
-/// One access of a shard's order. `plain` is there exactly for a write that didn't fail: its bytes in the clear.
+/// One access of a shard's order. `plain` is there exactly for a write that didn't fail: its bytes
+/// in the clear.
 #[derive(Debug, Drop)]
 pub struct Entry {
     pub at: UnitAt,

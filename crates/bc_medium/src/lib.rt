@@ -1,4 +1,5 @@
-//! The medium: the keyed disk on which the data units of a run are performed, and the orders in which they are.
+//! The medium: the keyed disk on which the data units of a run are performed, and the orders in
+//! which they are.
 #![tactic(auto)]
 
 // what is written down of an access

@@ -7,12 +7,12 @@ ghost use Rattle.bc_bio.specs.Extent.{unit_sectors};
 ghost use Rattle.bc_bio.specs.Conditions.{HasKey};
 ghost use Rattle.bc_bio.specs.declared.access.Access.{Access};
 ghost use Rattle.bc_turn.specs.Turning.{sum_of};
-ghost use Rattle.bc_turn.specs.Parts.{is_caller, new_pass};
-ghost use Rattle.bc_medium.specs.Places.{shard_of};
+ghost use Rattle.bc_turn.specs.PassParts.{is_caller, new_pass};
+ghost use Rattle.bc_medium.specs.Layout.{shard_of};
 ghost use Rattle.bc_medium.specs.KeyedDisk.{enciphered, deciphered, Written, Faulted, Text};
 ghost use Rattle.bc_medium.specs.Entries.{written_entry, read_entry, failed_entry, unit_name};
 ghost use Rattle.bc_medium.specs.Medium.{Belongs, shards_of, HasSpareOf, HasRoom, OwnsSectors, Accesses, AnswersSeen};
-ghost use Rattle.bc_medium.specs.Medium.{StoodAt, FailedAsPlanned, EachTwoFrom, IsEnd, column, openings};
+ghost use Rattle.bc_medium.specs.Medium.{StoodAt, FailedAsPlanned, EachTwoFrom, IsEnd, quotas_of_shard, openings};
 
 use crate::entry::Entry;
 use crate::fault::Fault;
@@ -28,8 +28,8 @@ use std::alloc::{AllocError, Global};
 use std::marker::Model;
 use std::sync::Wait;
 
-/// The shards of a disk, each behind a turn, for many callers. Each caller has a [`MediumPass`], which knows how far its
-/// caller has seen the order of each shard.
+/// The shards of a disk, each behind a turn, for many callers. Each caller has a [`MediumPass`],
+/// which knows how far its caller has seen the order of each shard.
 #[derive(Drop)]
 pub struct Medium<S: Store> {
     alloc: Global,
@@ -51,8 +51,8 @@ impl<S: Store> Model for Medium<S> {
     ghost invariant = { λ m. IsMedium m.keys.keys m.shards (map (λ row. row.items) m.quotas.items) m.turns };
 }
 
-/// The pass of one caller of a [`Medium`]: what it has seen of the order of each shard. It goes with its caller, and all
-/// passes come together at [`Medium::close`].
+/// The pass of one caller of a [`Medium`]: what it has seen of the order of each shard. It goes
+/// with its caller, and all passes come together at [`Medium::close`].
 pub type MediumPass<S> = TurnPass<Shard<S>>;
 
 impl<S: Store> Medium<S> {
@@ -75,17 +75,20 @@ impl<S: Store> Medium<S> {
         (u64::from(quota) - made) as u32
     }
 
-    /// Writes a data unit: `cipher` is `plain`, enciphered under the unit's context, or the same without one. Takes the
-    /// turn of its shard and waits for it, makes one call of the store and one entry more of the shard, and gives the turn
-    /// back. Gives the entry's place.
+    /// Writes a data unit: `cipher` is `plain`, enciphered under the unit's context, or the same
+    /// without one. Takes the turn of its shard and waits for it, makes one call of the store and
+    /// one entry more of the shard, and gives the turn back. Gives the entry's place.
     ///
-    /// The pass is one of this medium and the unit is its caller's, which has fewer entries at the shard than its quota
-    /// ([`Medium::spare`]). The context's key is one of the medium's, and the sectors belong to the shard's store.
+    /// The pass is one of this medium and the unit is its caller's, which has fewer entries at the
+    /// shard than its quota ([`Medium::spare`]). The context's key is one of the medium's, and the
+    /// sectors belong to the shard's store.
     ///
-    /// The keyed disk answers the unit at its place with what is answered here, and so it does in every longer order.
+    /// The keyed disk answers the unit at its place with what is answered here, and so it does in
+    /// every longer order.
     ///
     /// # Errors
-    /// The store failed: no sector has changed. The fault has the entry's place too, and comes with `plain`.
+    /// The store failed: no sector has changed. The fault has the entry's place too, and comes with
+    /// `plain`.
     pub fn write_unit<R: Wait>(
         &self,
         rt: &R,
@@ -111,8 +114,8 @@ impl<S: Store> Medium<S> {
         ensures answer { IfOk result (AnswersSeen S.contents self.now pass.new (unit_name at) Written) }
         ensures answer_fault { IfErr result (λ fault.
             AnswersSeen S.contents self.now pass.new (unit_name at) Faulted fault.0.place) }
-        ensures planned { IfOk result (FailedAsPlanned S.told self.now (IsErr result)) }
-        ensures planned_fault { IfErr result (λ fault. FailedAsPlanned S.told self.now (IsErr result) fault.0.place) }
+        ensures planned { IfOk result (FailedAsPlanned S.calls self.now (IsErr result)) }
+        ensures planned_fault { IfErr result (λ fault. FailedAsPlanned S.calls self.now (IsErr result) fault.0.place) }
     {
         let shard = self.shard_of(at.sector);
         let mut value = self.turns.take(rt, pass, shard);
@@ -127,9 +130,9 @@ impl<S: Store> Medium<S> {
         }
     }
 
-    /// Reads a data unit as it stands: `raw` has the unit's length, and gets the raw bytes. Takes the turn of its shard and
-    /// waits for it, makes one call of the store and one entry more of the shard, and gives the turn back. Gives the
-    /// entry's place.
+    /// Reads a data unit as it stands: `raw` has the unit's length, and gets the raw bytes. Takes
+    /// the turn of its shard and waits for it, makes one call of the store and one entry more of
+    /// the shard, and gives the turn back. Gives the entry's place.
     ///
     /// The conditions are those of [`Medium::write_unit`].
     ///
@@ -159,8 +162,8 @@ impl<S: Store> Medium<S> {
             (Text (deciphered self.now.keys.keys at.context raw.new))) }
         ensures answer_fault { IfErr result (λ fault.
             AnswersSeen S.contents self.now pass.new (unit_name at) Faulted fault.place) }
-        ensures planned { IfOk result (FailedAsPlanned S.told self.now (IsErr result)) }
-        ensures planned_fault { IfErr result (λ fault. FailedAsPlanned S.told self.now (IsErr result) fault.place) }
+        ensures planned { IfOk result (FailedAsPlanned S.calls self.now (IsErr result)) }
+        ensures planned_fault { IfErr result (λ fault. FailedAsPlanned S.calls self.now (IsErr result) fault.place) }
     {
         let shard = self.shard_of(at.sector);
         let mut value = self.turns.take(rt, pass, shard);
@@ -175,10 +178,11 @@ impl<S: Store> Medium<S> {
         }
     }
 
-    /// The stores at the end and the orders, by shard, where the passes of all callers are here. Each store has what the
-    /// keyed disk leaves along its shard's order from the contents at opening; each entry failed exactly where the store's
-    /// plan has its place. What each pass has seen of an order is a front of it, and its caller's entries there are those
-    /// that it made, each once, in its order.
+    /// The stores at the end and the orders, by shard, where the passes of all callers are here.
+    /// Each store has what the keyed disk leaves along its shard's order from the contents at
+    /// opening; each entry failed exactly where the store's plan has its place. What each pass has
+    /// seen of an order is a prefix of it, and its caller's entries there are those that it made,
+    /// each once, in its order.
     ///
     /// # Errors
     /// Out of memory: then all is handed back as it was.
@@ -190,7 +194,7 @@ impl<S: Store> Medium<S> {
         requires all { (caller : ℕ) → caller < self.turns.callers → 0 < sum_of (is_caller caller) passes.items }
         ensures length { IfOk result (λ end. length end.0.items ≡ shards_of self) }
         ensures ends { IfOk result (λ end. EachTwoFrom (λ shard store order.
-            IsEnd S.owns S.contents S.told S.faults self passes.items shard store order.items)
+            IsEnd S.owns S.contents S.calls S.faults self passes.items shard store order.items)
             0 end.0.items end.1.items) }
         ensures back { IfErr result (λ back. (back.0 ≡ self) × (back.1.items ≡ passes.items)) }
     {
@@ -243,8 +247,9 @@ impl<S: Store> Medium<S> {
 }
 
 impl<S: Store + Drop> Medium<S> {
-    /// One store for each shard, and quotas by caller and shard; a pass for each caller, in order. A store that tells its
-    /// calls has made none, and the quotas of each shard add up to less than 2^32.
+    /// One store for each shard, and quotas by caller and shard; a pass for each caller, in order.
+    /// A store that tells its calls has made none, and the quotas of each shard add up to less than
+    /// 2^32.
     ///
     /// # Errors
     /// Out of memory: then the stores are let go.
@@ -258,8 +263,8 @@ impl<S: Store + Drop> Medium<S> {
         requires callers { (1 ≤ length quotas.items) × (length quotas.items ≤ 65535) }
         requires rows { Each (λ row. length row.items ≡ length stores.items) quotas.items }
         requires fits { (shard : ℕ) → shard < length stores.items
-            → sum (column shard (map (λ row. row.items) quotas.items)) < 2 ^ 32 }
-        requires calls { Each (λ s. IfSome (S.told s) (λ told. told.calls ≡ 0)) stores.items }
+            → sum (quotas_of_shard shard (map (λ row. row.items) quotas.items)) < 2 ^ 32 }
+        requires calls { Each (λ s. IfSome (S.calls s) (λ told. told.calls ≡ 0)) stores.items }
         ensures keys { IfOk result (λ r. r.0.keys ≡ keys) }
         ensures callers { IfOk result (λ r. r.0.turns.callers ≡ length quotas.items) }
         ensures openings { IfOk result (λ r. map (λ cell. cell.base) r.0.turns.cells
@@ -297,9 +302,9 @@ fn shard_quotas(
     shard: usize,
 ) -> Result<(Vec<u32>, u32), AllocError>
     requires rows { Each (λ row. shard < length row.items) quotas.now.items }
-    requires fits { sum (column shard (map (λ row. row.items) quotas.now.items)) < 2 ^ 32 }
-    ensures column { IfOk result (λ c. c.0.items ≡ column shard (map (λ row. row.items) quotas.now.items)) }
-    ensures room { IfOk result (λ c. c.1 ≡ sum (column shard (map (λ row. row.items) quotas.now.items))) }
+    requires fits { sum (quotas_of_shard shard (map (λ row. row.items) quotas.now.items)) < 2 ^ 32 }
+    ensures column { IfOk result (λ c. c.0.items ≡ quotas_of_shard shard (map (λ row. row.items) quotas.now.items)) }
+    ensures room { IfOk result (λ c. c.1 ≡ sum (quotas_of_shard shard (map (λ row. row.items) quotas.now.items))) }
 {
     let mut column = Vec::new(alloc);
     let mut room = 0;

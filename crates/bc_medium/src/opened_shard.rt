@@ -1,4 +1,5 @@
-//! One shard of the plain form: with the store as it was at opening, and the keys that writes were given.
+//! One shard of the plain form: with the store as it was at opening, and the keys that writes were
+//! given.
 
 ghost use Rattle.std.specs.Prelude.{◌≡◌, ◌*◌, ◌/◌, ◌^◌, ◌<◌, ◌≤◌, List, length, Some, IfSome, IsErr, IfOk, IfErr, OnOk};
 ghost use Rattle.bc_bio.specs.Extent.{unit_sectors};
@@ -7,7 +8,7 @@ ghost use Rattle.bc_medium.specs.KeyedDisk.{enciphered};
 ghost use Rattle.bc_base.specs.Stores.{IsPiece};
 ghost use Rattle.bc_medium.specs.Entries.{written_entry, read_entry, failed_entry, Stand};
 ghost use Rattle.bc_key.specs.KeyData.{KeyData};
-ghost use Rattle.bc_medium.specs.ShardOrder.{AppendsNext, HasKeys, StandsNow, FailsByPlan, IsOrder, opened};
+ghost use Rattle.bc_medium.specs.ShardOrder.{AppendsNext, HasKeys, StandsNow, FailsByPlan, IsOrder, opened_shard};
 
 use crate::entry::Entry;
 use crate::shard::Shard;
@@ -43,12 +44,13 @@ impl<S: Store> Model for OpenedShard<S> {
       spare = s.shard.spare;
     } };
 
-    ghost invariant = { λ s. IsOrder S.owns S.contents S.told S.faults s.start.value
+    ghost invariant = { λ s. IsOrder S.owns S.contents S.calls S.faults s.start.value
         (option_map (λ k. k.value.keys) s.keys) s.shard.store s.shard.entries };
 }
 
 impl<S: Store> OpenedShard<S> {
-    /// Writes a data unit: `cipher` is `plain`, enciphered. The entry's place, and after a fault `plain` too.
+    /// Writes a data unit: `cipher` is `plain`, enciphered. The entry's place, and after a fault
+    /// `plain` too.
     pub(crate) fn write(
         &mut self,
         keys: &Keys,
@@ -67,7 +69,7 @@ impl<S: Store> OpenedShard<S> {
         ensures fault { IfErr result (λ fault.
             AppendsNext (Some keys.now.keys) self.old self.new (failed_entry Access.Write at via) fault.0) }
         ensures back { IfErr result (λ fault. fault.1.items ≡ plain.items) }
-        ensures planned { FailsByPlan S.told self.old (IsErr result) }
+        ensures planned { FailsByPlan S.calls self.old (IsErr result) }
         ensures small { length self.new.entries < 2 ^ 32 }
     {
         self.keys = Some(Snapshot::of(keys));
@@ -84,7 +86,7 @@ impl<S: Store> OpenedShard<S> {
         ensures stand { OnOk result ((keys : List KeyData) → HasKeys keys self.old
             → Stand keys (S.contents self.old.start) self.old.entries at.sector raw.new) }
         ensures fault { IfErr result (AppendsNext self.old.keys self.old self.new (failed_entry Access.Read at via)) }
-        ensures planned { FailsByPlan S.told self.old (IsErr result) }
+        ensures planned { FailsByPlan S.calls self.old (IsErr result) }
         ensures small { length self.new.entries < 2 ^ 32 }
     {
         self.shard.read(at, via, raw)
@@ -93,7 +95,7 @@ impl<S: Store> OpenedShard<S> {
     /// The store and the entries at the end.
     pub(crate) fn close(self) -> (S, Vec<Entry>)
         ensures parts { (result.0 ≡ self.store) × (result.1.items ≡ self.entries) }
-        ensures order { IsOrder S.owns S.contents S.told S.faults self.start self.keys self.store self.entries }
+        ensures order { IsOrder S.owns S.contents S.calls S.faults self.start self.keys self.store self.entries }
     {
         self.shard.close()
     }
@@ -102,8 +104,8 @@ impl<S: Store> OpenedShard<S> {
 impl<S: Store + Drop> OpenedShard<S> {
     /// A store with room for so many entries.
     pub(crate) fn open(alloc: Global, store: S, room: u32) -> Result<OpenedShard<S>, AllocError>
-        requires calls { IfSome (S.told store) (λ told. told.calls ≡ 0) }
-        ensures { IfOk result (λ shard. shard ≡ opened store room) }
+        requires calls { IfSome (S.calls store) (λ told. told.calls ≡ 0) }
+        ensures { IfOk result (λ shard. shard ≡ opened_shard store room) }
     {
         Ok(OpenedShard {
             start: Snapshot::of(&store),

@@ -1,4 +1,5 @@
-//! One shard: a store, and the order of the accesses to it. Both forms of the medium keep their shards so.
+//! One shard: a store, and the order of the accesses to it. Both forms of the medium keep their
+//! shards so.
 
 ghost use Rattle.std.specs.Prelude.{◌≡◌, ℕ, ◌^◌, ◌<◌, ◌≤◌, [], List, length, IsErr, IfOk, IfErr, OnOk};
 ghost use Rattle.bc_base.specs.Stores.{IsPieceOf};
@@ -51,7 +52,7 @@ impl<S: Store> Story for Shard<S> {
 
     ghost entries_of = { λ s. s.entries };
 
-    ghost keeps = { Keeps S.owns S.contents S.told S.faults };
+    ghost keeps = { Keeps S.owns S.contents S.calls S.faults };
 
     ghost by = { caller_of };
 
@@ -63,7 +64,8 @@ impl<S: Store> Story for Shard<S> {
 }
 
 impl<S: Store> Shard<S> {
-    /// Writes a data unit: `cipher` is `plain`, enciphered. The entry's place, and after a fault `plain` too.
+    /// Writes a data unit: `cipher` is `plain`, enciphered. The entry's place, and after a fault
+    /// `plain` too.
     pub(crate) fn write(
         &mut self,
         at: UnitAt,
@@ -78,8 +80,8 @@ impl<S: Store> Shard<S> {
             EntersNext self.old self.new (failed_entry Access.Write at via) fault.0) }
         ensures back { IfErr result (λ fault. fault.1.items ≡ plain.items) }
         ensures order { (keys : List KeyData) → cipher.now ≡ enciphered keys at.context plain.items
-            → KeepsOrder S.owns S.contents S.told S.faults keys self.old self.new }
-        ensures planned { FailsInOrder S.owns S.contents S.told S.faults self.old (IsErr result) }
+            → KeepsOrder S.owns S.contents S.calls S.faults keys self.old self.new }
+        ensures planned { FailsInOrder S.owns S.contents S.calls S.faults self.old (IsErr result) }
         ensures small { length self.new.entries < 2 ^ 32 }
     {
         let place = self.entries.len() as u32;
@@ -113,9 +115,9 @@ impl<S: Store> Shard<S> {
         requires piece { IsPieceOf (S.owns self.old.store) at.sector raw.old }
         ensures ok { IfOk result (EntersNext self.old self.new (read_entry at via)) }
         ensures fault { IfErr result (EntersNext self.old self.new (failed_entry Access.Read at via)) }
-        ensures stands { OnOk result (StandsInOrder S.owns S.contents S.told S.faults self.old at.sector raw.new) }
-        ensures order { KeepsAnyOrder S.owns S.contents S.told S.faults self.old self.new }
-        ensures planned { FailsInOrder S.owns S.contents S.told S.faults self.old (IsErr result) }
+        ensures stands { OnOk result (StandsInOrder S.owns S.contents S.calls S.faults self.old at.sector raw.new) }
+        ensures order { KeepsAnyOrder S.owns S.contents S.calls S.faults self.old self.new }
+        ensures planned { FailsInOrder S.owns S.contents S.calls S.faults self.old (IsErr result) }
         ensures small { length self.new.entries < 2 ^ 32 }
     {
         let place = self.entries.len() as u32;

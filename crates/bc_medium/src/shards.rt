@@ -2,7 +2,7 @@
 
 ghost use Rattle.std.specs.Prelude.{◌≡◌, ◌*◌, ◌/◌, ◌≤◌, length, map, reverse, IfSome, IfOk, IfErr, IsErr, Some, vec_len};
 ghost use Rattle.bc_base.specs.Lists.{Each, ChangesAt};
-ghost use Rattle.bc_medium.specs.Places.{shard_of};
+ghost use Rattle.bc_medium.specs.Layout.{shard_of};
 ghost use Rattle.bc_bio.specs.Extent.{unit_sectors};
 ghost use Rattle.bc_bio.specs.Conditions.{HasKey};
 ghost use Rattle.bc_bio.specs.declared.access.Access.{Access};
@@ -45,16 +45,19 @@ impl<S: Store> Model for Shards<S> {
 }
 
 impl<S: Store> Shards<S> {
-    /// Writes a data unit: `cipher` is `plain`, enciphered under the unit's context, or the same without one. One call
-    /// of the store of its shard, and one entry more of that shard. Gives the entry's place.
+    /// Writes a data unit: `cipher` is `plain`, enciphered under the unit's context, or the same
+    /// without one. One call of the store of its shard, and one entry more of that shard. Gives the
+    /// entry's place.
     ///
-    /// All writes are given equal keys, and the context's key is one of them. The sectors belong to the shard's store,
-    /// and the shard has had fewer accesses than its quota.
+    /// All writes are given equal keys, and the context's key is one of them. The sectors belong to
+    /// the shard's store, and the shard has had fewer accesses than its quota.
     ///
-    /// The keyed disk answers the unit at its place with what is answered here, and so it does in every longer order.
+    /// The keyed disk answers the unit at its place with what is answered here, and so it does in
+    /// every longer order.
     ///
     /// # Errors
-    /// The store failed: no sector has changed. The fault has the entry's place too, and comes with `plain`.
+    /// The store failed: no sector has changed. The fault has the entry's place too, and comes with
+    /// `plain`.
     pub fn write_unit(
         &mut self,
         keys: &Keys,
@@ -80,7 +83,7 @@ impl<S: Store> Shards<S> {
             Adds self.old self.new (failed_entry Access.Write at via) fault.0.place) }
         ensures answer { IfOk result (λ place. Answers S.contents keys.now.keys self.new place (unit_name at) Written) }
         ensures answer_fault { IfErr result (λ fault. AnswersFault S.contents self.new (unit_name at) fault.0.place) }
-        ensures planned { FailsAsPlanned S.told self.old at.sector (IsErr result) }
+        ensures planned { FailsAsPlanned S.calls self.old at.sector (IsErr result) }
     {
         let shard = (at.sector / BLOCK_SECTORS % self.shards.len() as u32) as u16;
         let outcome = self.shards[usize::from(shard)].write(keys, at, via, plain, cipher);
@@ -93,10 +96,12 @@ impl<S: Store> Shards<S> {
         }
     }
 
-    /// Reads a data unit as it stands: `raw` has the unit's length, a positive multiple of 512 bytes, and gets the raw
-    /// bytes. One call of the store of its shard, and one entry more of that shard. Gives the entry's place.
+    /// Reads a data unit as it stands: `raw` has the unit's length, a positive multiple of 512
+    /// bytes, and gets the raw bytes. One call of the store of its shard, and one entry more of
+    /// that shard. Gives the entry's place.
     ///
-    /// The sectors belong to the shard's store, and the shard has had fewer accesses than its quota.
+    /// The sectors belong to the shard's store, and the shard has had fewer accesses than its
+    /// quota.
     ///
     /// # Errors
     /// The store failed: `raw` is then unspecified. The fault has the entry's place too.
@@ -112,7 +117,7 @@ impl<S: Store> Shards<S> {
             Adds self.old self.new (failed_entry Access.Read at via) fault.place) }
         ensures answer { IfOk result (AnswersText S.contents self.old self.new at raw.new) }
         ensures answer_fault { IfErr result (λ fault. AnswersFault S.contents self.new (unit_name at) fault.place) }
-        ensures planned { FailsAsPlanned S.told self.old at.sector (IsErr result) }
+        ensures planned { FailsAsPlanned S.calls self.old at.sector (IsErr result) }
     {
         let shard = (at.sector / BLOCK_SECTORS % self.shards.len() as u32) as u16;
         let outcome = self.shards[usize::from(shard)].read(at, via, raw);
@@ -125,13 +130,13 @@ impl<S: Store> Shards<S> {
         }
     }
 
-    /// The stores at the end and the orders, by shard. Each store has what the keyed disk leaves along its shard's
-    /// order from the contents at opening, with the keys that writes were given; and each entry failed exactly where
-    /// the store's plan has its place.
+    /// The stores at the end and the orders, by shard. Each store has what the keyed disk leaves
+    /// along its shard's order from the contents at opening, with the keys that writes were given;
+    /// and each entry failed exactly where the store's plan has its place.
     pub fn close(self) -> (Vec<S>, Vec<Vec<Entry>>)
         ensures stores { result.0.items ≡ map (λ s. s.store) self }
         ensures entries { map (λ order. order.items) result.1.items ≡ map (λ s. s.entries) self }
-        ensures orders { Each (λ s. IsOrder S.owns S.contents S.told S.faults s.start s.keys s.store s.entries) self }
+        ensures orders { Each (λ s. IsOrder S.owns S.contents S.calls S.faults s.start s.keys s.store s.entries) self }
         ensures left { AllLeft S.contents self }
     {
         let Shards {
@@ -151,7 +156,8 @@ impl<S: Store> Shards<S> {
 }
 
 impl<S: Store + Drop> Shards<S> {
-    /// One store for each shard, each with room for so many entries. A store that tells its calls has made none.
+    /// One store for each shard, each with room for so many entries. A store that tells its calls
+    /// has made none.
     ///
     /// # Errors
     /// Out of memory.
@@ -162,7 +168,7 @@ impl<S: Store + Drop> Shards<S> {
     ) -> Result<Shards<S>, AllocError>
         requires shards { (1 ≤ length stores.items) × (length stores.items ≤ 65535) }
         requires quotas { length quotas.items ≡ length stores.items }
-        requires calls { Each (λ s. IfSome (S.told s) (λ told. told.calls ≡ 0)) stores.items }
+        requires calls { Each (λ s. IfSome (S.calls s) (λ told. told.calls ≡ 0)) stores.items }
         ensures { IfOk result (λ m. m ≡ opened_with stores.items quotas.items) }
     {
         let mut shards = Vec::with_capacity(alloc, stores.len())?;

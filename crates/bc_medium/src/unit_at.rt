@@ -2,7 +2,8 @@
 
 use bc_bio::Context;
 
-/// A data unit of a caller: the caller's tag for its bio, its number in the bio, its first sector and its context.
+/// A data unit of a caller: the caller's tag for its bio, its number in the bio, its first sector
+/// and its context.
 #[derive(Clone, Copy, Debug, PartialEq, Eq)]
 pub struct UnitAt {
     pub caller: u16,

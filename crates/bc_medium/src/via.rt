@@ -7,6 +7,7 @@ pub enum Via {
     Plain,
     /// By software.
     Soft,
-    /// By a device: in this slot, as the event with this number of the device's journal programmed it.
+    /// By a device: in this slot, as the event with this number of the device's journal programmed
+    /// it.
     Inline { device: u8, slot: u16, event: u32 },
 }

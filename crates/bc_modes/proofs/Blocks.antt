@@ -13,7 +13,7 @@ block_is text j =
     let size : (16 * j + 16) - 16 * j ≡ 16 = omega arith in
     ap (λ n. take n (drop (16 * j) text)) size
 
--- block j + 1 is block j behind the first block
+-- block j + 1 is block j after the first block
 pub block-suc : (text : List ℕ) (j : ℕ) → block text (suc j) ≡ block (drop 16 text) j
 block-suc text j =
     let place : 16 * suc j ≡ 16 + 16 * j = omega arith in
@@ -53,7 +53,7 @@ drop-zip2 f (suc n) [] ys = refl
 drop-zip2 f (suc n) (x ∷ xs) [] = sym (zip2-nil f (drop n xs))
 drop-zip2 f (suc n) (x ∷ xs) (y ∷ ys) = drop-zip2 f n xs ys
 
--- the blocks behind the first are ciphered too
+-- the blocks after the first are ciphered too
 pub EachBlock-drop : (cipher : List ℕ → List ℕ) (old new : List ℕ) → EachBlock cipher old new → EachBlock cipher (drop 16 old) (drop 16 new)
 EachBlock-drop cipher old new each = record {
   same_length = length-drop 16 new ∙ ap (λ n. n - 16) each.same_length ∙ sym (length-drop 16 old);

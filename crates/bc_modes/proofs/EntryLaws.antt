@@ -20,7 +20,7 @@ use Rattle.bc_key.specs.Support.{has_bits}
 use Rattle.bc_modes.specs.declared.ufs_caps.Capability.{Capability}
 use Rattle.bc_modes.specs.declared.entry.EntryError.TheVariants.{Disabled, BadUnitSize}
 use Rattle.bc_modes.specs.Capabilities.{Capabilities, index_for, same_mode, serves}
-use Rattle.bc_modes.specs.Entries.{is_enabled, capability_of, words_of_bytes, bytes_of_words, key_field, settings, entry_bytes, served_unit, parts_in, read_under, read_bytes, read_words}
+use Rattle.bc_modes.specs.Entries.{is_enabled, capability_of, words_of_bytes, bytes_of_words, key_bytes, settings, entry_bytes, served_unit, parts_in, read_under, read_bytes, read_words}
 use Rattle.bc_modes.specs.UnitCipher.{CipherParts, parts_of}
 use Rattle.bc_modes.proofs.Bytes.{AreBytes, AreBytes-drop}
 
@@ -55,7 +55,7 @@ dwords_back (suc n) bytes l are =
     ∙ take-append-drop 4 bytes
 
 -- the key's place has 64 bytes
-length-key_field : (raw : List ℕ) → length raw ≤ 64 → length (key_field raw) ≡ 64
+length-key_field : (raw : List ℕ) → length raw ≤ 64 → length (key_bytes raw) ≡ 64
 length-key_field raw h = omega (arith, length-append raw (replicate (64 - length raw) 0), length-replicate {A = ℕ} (64 - length raw) 0)
 
 -- a key has at most 64 bytes
@@ -95,7 +95,7 @@ AreBytes-settings unit index h = at
 
 AreBytes-entry : (key : KeyData) (index : ℕ) → IsValid key.config key.raw → index < 256 → AreBytes (entry_bytes key index)
 AreBytes-entry key index valid h =
-    AreBytes-append (key_field key.raw) (settings key.config.unit index)
+    AreBytes-append (key_bytes key.raw) (settings key.config.unit index)
     (AreBytes-append key.raw (replicate (64 - length key.raw) 0) valid.bytes (AreBytes-zeros (64 - length key.raw)))
     (AreBytes-settings key.config.unit index h)
 
@@ -106,15 +106,15 @@ short key valid = omega (arith, valid.size, key_size-most key.config.mode)
 entry_back : (key : KeyData) (index : ℕ) → IsValid key.config key.raw → index < 256
     → bytes_of_words (words_of_bytes (entry_bytes key index)) ≡ entry_bytes key index
 entry_back key index valid h =
-    let field : length (key_field key.raw) ≡ 64 = length-key_field key.raw (short key valid) in
-    let whole : length (entry_bytes key index) ≡ 72 = omega (arith, length-append (key_field key.raw) (settings key.config.unit index)) in
+    let field : length (key_bytes key.raw) ≡ 64 = length-key_field key.raw (short key valid) in
+    let whole : length (entry_bytes key index) ≡ 72 = omega (arith, length-append (key_bytes key.raw) (settings key.config.unit index)) in
     dwords_back 18 (entry_bytes key index) whole (AreBytes-entry key index valid h)
 
--- a byte behind the key's place
+-- a byte after the key's place
 setting_at : (key : KeyData) (index i : ℕ) → IsValid key.config key.raw → 64 ≤ i
     → slice_index (entry_bytes key index) i ≡ slice_index (settings key.config.unit index) (i - 64)
 setting_at key index i valid h =
-    get_or-append_right (key_field key.raw) (settings key.config.unit index) 64 i 0 (length-key_field key.raw (short key valid)) h
+    get_or-append_right (key_bytes key.raw) (settings key.config.unit index) 64 i 0 (length-key_field key.raw (short key valid)) h
 
 -- the key's bytes
 key_at_front : (key : KeyData) (index : ℕ) → IsValid key.config key.raw → take (key_size key.config.mode) (entry_bytes key index) ≡ key.raw
@@ -185,9 +185,9 @@ drop-zeros (suc k) (suc n) =
     let less : n - k ≡ suc n - suc k = omega arith in
     drop-zeros k n ∙ ap (λ m. replicate m 0) less
 
--- an entry is written: the key over zeros, and the settings behind it
+-- an entry is written: the key over zeros, and the settings after it
 pub entry_written : (raw settings : List ℕ) → length raw ≤ 64 → length settings ≡ 8
-    → put_mid 64 8 (raw ++ drop (length raw) (replicate 72 0)) settings ≡ key_field raw ++ settings
+    → put_mid 64 8 (raw ++ drop (length raw) (replicate 72 0)) settings ≡ key_bytes raw ++ settings
 entry_written raw settings short l =
     let n : ℕ = length raw in
     let zeros : List ℕ = replicate (64 - n) 0 in
@@ -195,13 +195,13 @@ entry_written raw settings short l =
     let whole : raw ++ drop n (replicate 72 0) ≡ (raw ++ zeros) ++ replicate 8 0 =
     ap (λ xs. raw ++ xs) (drop-zeros n 72 ∙ ap (λ m. replicate m 0) split ∙ sym (replicate-append-replicate (64 - n) 8 0))
     ∙ sym (append_assoc raw zeros (replicate 8 0)) in
-    let front : take 64 (raw ++ drop n (replicate 72 0)) ≡ key_field raw =
+    let front : take 64 (raw ++ drop n (replicate 72 0)) ≡ key_bytes raw =
     ap (take 64) whole ∙ take_at (raw ++ zeros) (replicate 8 0) 64 (length-key_field raw short) in
     let long : length (raw ++ drop n (replicate 72 0)) ≡ 72 =
     ap length whole ∙ omega (arith, length-append (raw ++ zeros) (replicate 8 0), length-key_field raw short) in
     let back : drop 8 (drop 64 (raw ++ drop n (replicate 72 0))) ≡ [] =
     drop-drop 8 64 (raw ++ drop n (replicate 72 0)) ∙ drop_all 72 (raw ++ drop n (replicate 72 0)) (omega arith) in
-    ap₂ (λ (xs ys : List ℕ). xs ++ (settings ++ ys)) front back ∙ ap (λ ys. key_field raw ++ ys) (append-nil settings)
+    ap₂ (λ (xs ys : List ℕ). xs ++ (settings ++ ys)) front back ∙ ap (λ ys. key_bytes raw ++ ys) (append-nil settings)
 
 -- the top bit of a byte
 top_bit : (byte : ℕ) → byte < 256 → not (bit_and byte 0x80 == 0) ≡ (bit_at byte 7 == 1)

@@ -12,3 +12,4 @@ pub mod EssivLaws
 pub mod EntryLaws
 mod EntryExamples
 mod Examples
+pub mod Masks

@@ -16,7 +16,7 @@ unfoldable pub unlinked : List ℕ → List ℕ → ℕ → List ℕ → List �
 unlinked key start zero text = []
 unlinked key start (suc n) text = xor_bytes (decipher 4 key (take 16 text)) start ++ unlinked key (take 16 text) n (drop 16 text)
 
--- behind the first block the chain starts with it
+-- after the first block the chain starts with it
 link-suc : (text : List ℕ) (j : ℕ) → link (take 16 text) (drop 16 text) j ≡ block text j
 link-suc text zero = refl
 link-suc text (suc j) = sym (block-suc text j)

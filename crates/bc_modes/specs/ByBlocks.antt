@@ -1,4 +1,5 @@
--- Data units as blocks of 16 bytes, as IEEE 1619 (section 5) and SP 800-38A (section 6.2) name them.
+-- Data units as blocks of 16 bytes, as IEEE 1619 (section 5) and SP 800-38A (section 6.2) name
+-- them.
 use Rattle.std.specs.Prelude.{ℕ, ◌/◌, List, length, bit_xor}
 use Rattle.std.specs.List.{flat_map, range_with_len}
 use Rattle.std.specs.Simd.Lanes.{zip2}

@@ -1,5 +1,6 @@
--- What a controller's crypto engine can do: a list of capabilities, each a mode and the data units that it has. After
--- UFSHCI, whose capability registers tell an algorithm id, a key size code and a mask of data unit sizes.
+-- What a controller's crypto engine can do: a list of capabilities, each a mode and the data units
+-- that it has. After UFSHCI, whose capability registers tell an algorithm id, a key size code and a
+-- mask of data unit sizes.
 use Rattle.std.specs.Prelude.{ℕ, ◌==◌, nat_le, Bool, true, false, ◌&&◌, List, [], ◌∷◌, ◌++◌, position, Option, is_some, if◌then◌else◌}
 use Rattle.bc_key.specs.declared.config.Mode.{Mode}
 use Rattle.bc_key.specs.declared.config.Mode.TheVariants.{Aes256Xts, Aes128CbcEssiv}
@@ -27,7 +28,8 @@ same_mode Aes128CbcEssiv Aes128CbcEssiv = true
 same_mode Aes256Xts Aes128CbcEssiv = false
 same_mode Aes128CbcEssiv Aes256Xts = false
 
--- what contracts see of a controller's capabilities: the list, and how many bytes a data unit number may have
+-- what contracts see of a controller's capabilities: the list, and how many bytes a data unit
+-- number may have
 pub record Capabilities : Type 0 where
   pub list : List Capability
   pub max_dun_bytes : ℕ
@@ -53,7 +55,8 @@ serves mode unit capability = same_mode capability.mode mode && has_bits capabil
 abbrev pub index_for : Capabilities → Mode → DataUnit → Option ℕ
 index_for caps mode unit = position (serves mode unit) caps.list
 
--- a controller supports a configuration: a capability serves its mode and data unit, and there are enough number bytes
+-- a controller supports a configuration: a capability serves its mode and data unit, and there are
+-- enough number bytes
 abbrev pub is_supported : Capabilities → Config → Bool
 is_supported caps config =
     is_some (index_for caps config.mode config.unit) && nat_le config.dun_bytes caps.max_dun_bytes

@@ -1,5 +1,6 @@
--- AES-128-CBC-ESSIV over one data unit: CBC (SP 800-38A, section 6.2) whose initialization vector is the number's IV,
--- enciphered under the SHA-256 of the key, as Linux's "essiv(cbc(aes),sha256)" makes it. A key has 16 bytes.
+-- AES-128-CBC-ESSIV over one data unit: CBC (SP 800-38A, section 6.2) whose initialization vector
+-- is the number's IV, enciphered under the SHA-256 of the key, as Linux's "essiv(cbc(aes),sha256)"
+-- makes it. A key has 16 bytes.
 use Rattle.std.specs.Prelude.{ℕ, zero, suc, List}
 use Rattle.sha2.specs.Sha256.{sha256}
 use Rattle.bc_aes.specs.Cipher.{encipher, decipher}

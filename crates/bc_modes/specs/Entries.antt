@@ -1,5 +1,5 @@
--- Crypto configuration entries: how the registers of a keyslot hold a key, after UFSHCI. Of an entry 18 dwords are kept,
--- 72 bytes, the lowest byte of a dword first.
+-- Crypto configuration entries: how the registers of a keyslot hold a key, after UFSHCI. Of an
+-- entry 18 dwords are kept, 72 bytes, the lowest byte of a dword first.
 use Rattle.std.specs.Prelude.{◌≡◌, ℕ, ◌-◌, ◌*◌, ◌==◌, Bool, true, false, List, [], ◌∷◌, ◌++◌, length, map, take, replicate, slice_get, slice_index, Option, Some, None, Result, Ok, Err, if◌then◌else◌}
 use Rattle.std.specs.Option.{option_map, option_map_or}
 use Rattle.std.specs.Int.{w32, bit_at, from_le_bytes, to_le_bytes}
@@ -24,17 +24,17 @@ abbrev pub bytes_of_words : List ℕ → List ℕ
 bytes_of_words words = flat_map (to_le_bytes w32) words
 
 -- bytes 0 to 63: the key (for XTS its halves at 0 and 32), and zeros after a short one
-abbrev pub key_field : List ℕ → List ℕ
-key_field raw = raw ++ replicate (64 - length raw) 0
+abbrev pub key_bytes : List ℕ → List ℕ
+key_bytes raw = raw ++ replicate (64 - length raw) 0
 
--- bytes 64 to 71: the data unit's size in sectors, the capability index, a reserved byte, 0x80 for an entry that is
--- enabled, and dword 17
+-- bytes 64 to 71: the data unit's size in sectors, the capability index, a reserved byte, 0x80 for
+-- an entry that is enabled, and dword 17
 abbrev pub settings : DataUnit → ℕ → List ℕ
 settings unit index = sectors_of unit ∷ index ∷ 0 ∷ 0x80 ∷ 0 ∷ 0 ∷ 0 ∷ 0 ∷ []
 
 -- the bytes of a key's entry, under a capability index
 abbrev pub entry_bytes : KeyData → ℕ → List ℕ
-entry_bytes key index = key_field key.raw ++ settings key.config.unit index
+entry_bytes key index = key_bytes key.raw ++ settings key.config.unit index
 
 -- the dwords of a key's entry, if a capability serves its mode and data unit
 unfoldable pub entry_words : KeyData → Capabilities → Option (List ℕ)
@@ -57,7 +57,8 @@ if_served capability unit = if has_bits capability.units (bit_of unit) then Some
 abbrev pub served_unit : Capability → ℕ → Option DataUnit
 served_unit capability sectors = option_map_or (if_served capability) (unit_of (512 * sectors)) None
 
--- the parts of the cipher that an entry means: its capability's mode, its data unit, as many bytes as the mode's keys have
+-- the parts of the cipher that an entry means: its capability's mode, its data unit, as many bytes
+-- as the mode's keys have
 abbrev pub parts_in : List ℕ → Capability → DataUnit → CipherParts
 parts_in bytes capability unit =
     record { mode = capability.mode; unit = unit; raw = take (key_size capability.mode) bytes }

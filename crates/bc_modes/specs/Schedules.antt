@@ -1,5 +1,5 @@
--- Private: the contracts of private functions alone speak of these. What a unit cipher's expanded key was made of, and which way
--- XTS takes its blocks.
+-- Private: the contracts of private functions alone speak of these. What a unit cipher's expanded
+-- key was made of, and which way XTS takes its blocks.
 use Rattle.std.specs.Prelude.{ℕ, List}
 use Rattle.bc_key.specs.declared.config.Mode.{Mode}
 use Rattle.bc_key.specs.declared.config.Mode.TheVariants.{Aes256Xts, Aes128CbcEssiv}
@@ -10,9 +10,9 @@ use Rattle.bc_modes.specs.declared.unit_cipher.Schedules.{Schedules}
 use Rattle.bc_modes.specs.declared.unit_cipher.Schedules.TheVariants.{Xts, Essiv}
 
 -- the mode that it is for
-abbrev pub mode_of : Schedules → Mode
-mode_of (Xts xts) = Aes256Xts
-mode_of (Essiv essiv) = Aes128CbcEssiv
+abbrev pub mode_of_schedules : Schedules → Mode
+mode_of_schedules (Xts xts) = Aes256Xts
+mode_of_schedules (Essiv essiv) = Aes128CbcEssiv
 
 -- the key's bytes
 abbrev pub raw_of : Schedules → List ℕ

@@ -1,4 +1,5 @@
--- The unit cipher: one data unit under a key and a data unit number, by the key's mode (Xts, CbcEssiv).
+-- The unit cipher: one data unit under a key and a data unit number, by the key's mode (Xts,
+-- CbcEssiv).
 use Rattle.std.specs.Prelude.{ℕ, List}
 use Rattle.bc_key.specs.declared.config.Mode.{Mode}
 use Rattle.bc_key.specs.declared.config.Mode.TheVariants.{Aes256Xts, Aes128CbcEssiv}
@@ -25,7 +26,8 @@ enc key number text = encipher_unit key.config.mode key.raw number text
 abbrev pub dec : KeyData → ℕ → List ℕ → List ℕ
 dec key number text = decipher_unit key.config.mode key.raw number text
 
--- what a unit cipher was made of: its mode, its data unit's size, and as many key bytes as its mode asks for
+-- what a unit cipher was made of: its mode, its data unit's size, and as many key bytes as its mode
+-- asks for
 pub record CipherParts : Type 0 where
   pub mode : Mode
   pub unit : DataUnit

@@ -1,5 +1,6 @@
--- AES-256-XTS over one data unit of whole blocks (IEEE 1619, sections 5.3 and 5.4; no ciphertext is ever stolen).
--- A key has 64 bytes: the first 32 encipher the data, the last 32 the data unit's number.
+-- AES-256-XTS over one data unit of whole blocks (IEEE 1619, sections 5.3 and 5.4; no ciphertext is
+-- ever stolen). A key has 64 bytes: the first 32 encipher the data, the last 32 the data unit's
+-- number.
 use Rattle.std.specs.Prelude.{ℕ, List, take, drop}
 use Rattle.std.specs.List.{flat_map, range_with_len}
 use Rattle.std.specs.Int.{w128, from_le_bytes, to_le_bytes}

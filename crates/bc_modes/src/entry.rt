@@ -1,8 +1,9 @@
-//! Crypto configuration entries: a key as a controller's registers hold it, and the unit cipher that they mean.
+//! Crypto configuration entries: a key as a controller's registers hold it, and the unit cipher
+//! that they mean.
 //!
-//! A keyslot of a controller has an entry, of which the dwords 0 to 17 are kept. Whoever programs a slot with a key makes
-//! the key's entry by [`entry_words`]; the controller then enciphers by what stands in the registers, as [`cipher_of_words`]
-//! reads them. Nobody else makes or reads one.
+//! A keyslot of a controller has an entry, of which the dwords 0 to 17 are kept. Whoever programs a
+//! slot with a key makes the key's entry by [`entry_words`]; the controller then enciphers by what
+//! stands in the registers, as [`cipher_of_words`] reads them. Nobody else makes or reads one.
 ghost use Rattle.std.specs.Prelude.{◌≡◌, ◌↔◌, IfSome, IsSome, IsTrue, Ok, Err};
 ghost use Rattle.bc_modes.specs.declared.entry.EntryError.TheVariants as errors;
 ghost use Rattle.bc_modes.specs.Capabilities.{is_supported};
@@ -17,7 +18,8 @@ use crate::{UfsCaps, UnitCipher};
 use bc_key::Key;
 use thiserror::Error;
 
-/// Why an entry means no cipher, in the order of the tests of [`cipher_of_words`]: the first that fails is answered.
+/// Why an entry means no cipher, in the order of the tests of [`cipher_of_words`]: the first that
+/// fails is answered.
 #[derive(Clone, Copy, Debug, PartialEq, Eq, Error)]
 pub enum EntryError {
     /// Bit 31 of dword 16 isn't set.
@@ -31,9 +33,9 @@ pub enum EntryError {
     BadUnitSize,
 }
 
-/// The entry of a key for a controller with these capabilities: its dwords 0 to 17. `None` where no capability is of the
-/// key's mode and has its data unit; a key that the controller supports has an entry. The index of the first such
-/// capability stands in it.
+/// The entry of a key for a controller with these capabilities: its dwords 0 to 17. `None` where no
+/// capability is of the key's mode and has its data unit; a key that the controller supports has an
+/// entry. The index of the first such capability stands in it.
 pub fn entry_words(key: &Key, caps: &UfsCaps) -> Option<[u32; ENTRY_WORDS]>
     ensures words { result ≡ entry_words key.now caps.now }
     ensures supported { IsTrue (is_supported caps.now key.now.config) → IsSome result }
@@ -46,13 +48,14 @@ pub fn entry_words(key: &Key, caps: &UfsCaps) -> Option<[u32; ENTRY_WORDS]>
     Some(words_of_bytes(&entry_bytes(key, index)))
 }
 
-/// The unit cipher that an entry means to a controller with these capabilities: of its capability's mode, its data unit's
-/// size and its key.
+/// The unit cipher that an entry means to a controller with these capabilities: of its capability's
+/// mode, its data unit's size and its key.
 ///
 /// # Errors
 ///
-/// The first that applies: `Disabled` where bit 31 of dword 16 isn't set, `BadCapability` where the capability index is past
-/// the capabilities, `BadUnitSize` where byte 64 is none of 1, 2, 4 and 8 or the capability doesn't have that data unit.
+/// The first that applies: `Disabled` where bit 31 of dword 16 isn't set, `BadCapability` where the
+/// capability index is past the capabilities, `BadUnitSize` where byte 64 is none of 1, 2, 4 and 8
+/// or the capability doesn't have that data unit.
 pub fn cipher_of_words(words: &[u32; ENTRY_WORDS], caps: &UfsCaps) -> Result<UnitCipher, EntryError>
     ensures reads { result ≡ read_words words.now caps.now }
     ensures disabled { (result ≡ Err errors.Disabled) ↔ IsDisabled words.now }

@@ -36,7 +36,7 @@ pub(crate) fn entry_bytes(key: &Key, index: u8) -> [u8; ENTRY_BYTES]
     bytes
 }
 
-/// The bytes behind the key.
+/// The bytes after the key.
 fn settings(unit: DataUnit, index: u8) -> [u8; 8]
     ensures { result ≡ settings unit index }
 {

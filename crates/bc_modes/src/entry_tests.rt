@@ -1,4 +1,5 @@
-//! Crypto configuration entries: dwords that were laid out by hand, and units that Python's `cryptography` enciphered.
+//! Crypto configuration entries: dwords that were laid out by hand, and units that Python's
+//! `cryptography` enciphered.
 ghost use Rattle.std.specs.Prelude.{◌≡◌};
 
 use crate::tests::{raw_key, text};
@@ -58,7 +59,8 @@ fn entries_of_keys(rt: HostRuntime) -> Result<(), Fail> {
     Ok(())
 }
 
-/// Why an entry with this dword 16 isn't read, by a controller that has XTS with data units of 4096 bytes.
+/// Why an entry with this dword 16 isn't read, by a controller that has XTS with data units of 4096
+/// bytes.
 fn error_of(dword: u32) -> Option<EntryError> {
     let mut words = [0xffffffff; 18];
     words[16] = dword;

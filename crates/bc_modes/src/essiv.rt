@@ -1,7 +1,8 @@
 //! AES-128-CBC-ESSIV over whole data units.
 //!
-//! Each block is added to the ciphertext's block before it. The first is added to the data unit's number, enciphered
-//! under the digest of the key. So encipherment goes from block to block, and decipherment takes eight at once.
+//! Each block is added to the ciphertext's block before it. The first is added to the data unit's
+//! number, enciphered under the digest of the key. So encipherment goes from block to block, and
+//! decipherment takes eight at once.
 ghost use Rattle.std.specs.Prelude.{◌≡◌, ◌%◌, ◌++◌, length, take};
 ghost use Rattle.bc_aes.specs.Blocks.{block};
 ghost use Rattle.bc_aes.specs.Cipher.{encipher};
@@ -102,7 +103,8 @@ impl Essiv {
     }
 }
 
-/// What the blocks of a piece were added to before their encipherment, and what the block after them was.
+/// What the blocks of a piece were added to before their encipherment, and what the block after
+/// them was.
 fn links_of(before: &[u8; 16], piece: &[u8]) -> ([u8; PIECE], [u8; 16])
     requires { length piece.now ≡ 128 }
     ensures links { result.0 ≡ before.now ++ take 112 piece.now }

@@ -1,18 +1,21 @@
-//! The unit ciphers: how one data unit is enciphered and deciphered under a key and a data unit number.
+//! The unit ciphers: how one data unit is enciphered and deciphered under a key and a data unit
+//! number.
 //!
-//! `UnitCipher` does it for both modes, AES-256-XTS (IEEE 1619) and AES-128-CBC-ESSIV, in place. What comes out is said
-//! by the definitions of `specs/`: `UnitCipher` goes by the mode to `Xts`, whose tweaks are polynomials (`Tweak`), and to
-//! `CbcEssiv`.
+//! `UnitCipher` does it for both modes, AES-256-XTS (IEEE 1619) and AES-128-CBC-ESSIV, in place.
+//! What comes out is said by the definitions of `specs/`: `UnitCipher` goes by the mode to `Xts`,
+//! whose tweaks are polynomials (`Tweak`), and to `CbcEssiv`.
 //!
-//! A key's data units, the second under the number that follows (`encipher_two` of the crate `uses`):
+//! A key's data units, the second under the number that follows (`encipher_two` of the crate
+//! `uses`):
 //!
 //!     let cipher = UnitCipher::of_key(key);
 //!     cipher.encrypt(number, first);
 //!     cipher.encrypt(&number.plus(1), second);
 //!
-//! A controller with inline encryption holds keys in its registers, as crypto configuration entries: [`entry_words`] makes a
-//! key's entry, and [`cipher_of_words`] reads one as the unit cipher that it means, or says why it means none (`Entries`). What
-//! a controller can do is its [`UfsCaps`] (`Capabilities`).
+//! A controller with inline encryption holds keys in its registers, as crypto configuration
+//! entries: [`entry_words`] makes a key's entry, and [`cipher_of_words`] reads one as the unit
+//! cipher that it means, or says why it means none (`Entries`). What a controller can do is its
+//! [`UfsCaps`] (`Capabilities`).
 //!
 //! Nothing here allocates or waits, and no cipher refuses a data unit.
 #![tactic(auto)]

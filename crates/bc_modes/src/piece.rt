@@ -2,7 +2,8 @@
 ghost use Rattle.std.specs.Prelude.{◌≡◌, length};
 ghost use Rattle.bc_modes.specs.ByBlocks.{xor_bytes};
 
-/// How many bytes are enciphered or deciphered together: eight blocks. Every data unit has a whole number of such pieces.
+/// How many bytes are enciphered or deciphered together: eight blocks. Every data unit has a whole
+/// number of such pieces.
 pub(crate) const PIECE: usize = 128;
 
 /// Adds eight blocks to a piece.

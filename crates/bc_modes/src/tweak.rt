@@ -1,6 +1,7 @@
 //! Tweaks: what XTS adds to a block before and after its encipherment.
 //!
-//! A tweak is a polynomial of 128 coefficients, here the bits of a `u128`. The next block's tweak is this one times x.
+//! A tweak is a polynomial of 128 coefficients, here the bits of a `u128`. The next block's tweak
+//! is this one times x.
 ghost use Rattle.std.specs.Prelude.{◌≡◌};
 ghost use Rattle.std.specs.Int.{w128, to_le_bytes};
 ghost use Rattle.bc_modes.specs.Tweak.{tweak_at};
@@ -24,7 +25,8 @@ pub(crate) fn next_tweak(tweak: u128) -> u128
     (tweak << 1) ^ ((tweak >> 127) * 0x87)
 }
 
-/// The bytes of a tweak, the lowest first. They are made of two lanes, since the bytes of a vector are stored at once.
+/// The bytes of a tweak, the lowest first. They are made of two lanes, since the bytes of a vector
+/// are stored at once.
 #[inline(always)]
 fn bytes_of(tweak: u128) -> [u8; 16]
     ensures { result ≡ to_le_bytes w128 tweak }
@@ -34,7 +36,8 @@ fn bytes_of(tweak: u128) -> [u8; 16]
         .to_array()
 }
 
-/// The tweaks of eight blocks, of which `first` is the first one's, and the tweak of the block after them.
+/// The tweaks of eight blocks, of which `first` is the first one's, and the tweak of the block
+/// after them.
 #[inline(always)]
 pub(crate) fn tweaks_from(first: u128) -> ([u8; PIECE], u128)
     ensures tweaks { result.0 ≡ tweak_bytes first 8 }

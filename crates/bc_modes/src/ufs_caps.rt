@@ -9,6 +9,7 @@ ghost use Rattle.bc_modes.specs.Capabilities.{algorithm_id, capabilities_of, ind
 ghost use Rattle.bc_modes.specs.Entries.{served_unit};
 
 use arrayvec::ArrayVec;
+use bc_base::SECTOR_BYTES;
 use bc_key::{Caps, Config, DataUnit, Mode};
 use std::marker::Model;
 
@@ -76,7 +77,7 @@ impl Capability {
     pub(crate) fn served_unit(&self, sectors: u8) -> Option<DataUnit>
         ensures { result ≡ served_unit self.now sectors }
     {
-        let unit = DataUnit::of_bytes(512 * u32::from(sectors))?;
+        let unit = DataUnit::of_bytes(SECTOR_BYTES as u32 * u32::from(sectors))?;
         if self.has_unit(unit) {
             Some(unit)
         } else {
@@ -85,7 +86,8 @@ impl Capability {
     }
 }
 
-/// The capabilities of a controller, by their indexes, and how many bytes a data unit number may have.
+/// The capabilities of a controller, by their indexes, and how many bytes a data unit number may
+/// have.
 #[derive(Drop)]
 pub struct UfsCaps {
     capabilities: ArrayVec<Capability, MODES>,
@@ -104,7 +106,8 @@ impl Model for UfsCaps {
 }
 
 impl UfsCaps {
-    /// The capabilities of a controller that supports what the set says: AES-256-XTS first, and no mode without data units.
+    /// The capabilities of a controller that supports what the set says: AES-256-XTS first, and no
+    /// mode without data units.
     pub fn of(caps: &Caps) -> UfsCaps
         ensures list { result ≡ capabilities_of caps.now }
         ensures serves_the_same { (mode : Mode) (unit : DataUnit) →
@@ -130,8 +133,8 @@ impl UfsCaps {
         }
     }
 
-    /// Whether a key with this configuration can be used: a capability serves its mode and data unit, and its numbers have
-    /// few enough bytes.
+    /// Whether a key with this configuration can be used: a capability serves its mode and data
+    /// unit, and its numbers have few enough bytes.
     pub fn supports(&self, config: &Config) -> bool
         ensures { result ≡ is_supported self.now config.now }
     {

@@ -9,7 +9,8 @@ use crate::xts::Xts;
 use bc_key::{DataUnit, Dun, Key, Mode};
 use std::marker::Model;
 
-/// What enciphers and deciphers the data units of one key. Its round keys are expanded once, when it is made.
+/// What enciphers and deciphers the data units of one key. Its round keys are expanded once, when
+/// it is made.
 ///
 /// A contract sees the mode, the data unit's size and the key's bytes.
 #[derive(Drop)]
@@ -30,15 +31,15 @@ impl Model for UnitCipher {
 
     ghost Value = { CipherParts };
 
-    ghost use Rattle.bc_modes.specs.Schedules.{mode_of, raw_of};
+    ghost use Rattle.bc_modes.specs.Schedules.{mode_of_schedules, raw_of};
 
     ghost view = { λ cipher.
-        record { mode = mode_of cipher.schedules; unit = cipher.unit; raw = raw_of cipher.schedules } };
+        record { mode = mode_of_schedules cipher.schedules; unit = cipher.unit; raw = raw_of cipher.schedules } };
 
     ghost use Rattle.std.specs.Prelude.{◌≡◌, length};
     ghost use Rattle.bc_key.specs.KeyData.{key_size};
 
-    ghost invariant = { λ cipher. length (raw_of cipher.schedules) ≡ key_size (mode_of cipher.schedules) };
+    ghost invariant = { λ cipher. length (raw_of cipher.schedules) ≡ key_size (mode_of_schedules cipher.schedules) };
 }
 
 impl UnitCipher {
@@ -53,8 +54,8 @@ impl UnitCipher {
         UnitCipher::of_parts(config.mode, config.unit, &raw)
     }
 
-    /// The cipher of a mode, a data unit's size and a key's bytes, of which the mode takes as many as its keys have: all
-    /// 64, or the first 16.
+    /// The cipher of a mode, a data unit's size and a key's bytes, of which the mode takes as many
+    /// as its keys have: all 64, or the first 16.
     pub fn of_parts(mode: Mode, unit: DataUnit, raw: &[u8; 64]) -> UnitCipher
         ensures mode { result.mode ≡ mode }
         ensures unit { result.unit ≡ unit }

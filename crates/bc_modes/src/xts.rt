@@ -1,7 +1,7 @@
 //! AES-256-XTS over whole data units (IEEE 1619).
 //!
-//! Eight blocks at a time go through the block cipher: their tweaks are made first, added to the text, and added again
-//! to what comes out.
+//! Eight blocks at a time go through the block cipher: their tweaks are made first, added to the
+//! text, and added again to what comes out.
 ghost use Rattle.std.specs.Prelude.{◌≡◌, ◌%◌, length, take};
 ghost use Rattle.bc_aes.specs.Blocks.{EachBlock};
 ghost use Rattle.bc_modes.specs.Schedules.{block_cipher};
@@ -10,7 +10,7 @@ ghost use Rattle.bc_modes.specs.Xts.{first_tweak, tweaked, xts_encipher, xts_dec
 
 use crate::piece::{PIECE, add_blocks};
 use crate::tweak::tweaks_from;
-use bc_aes::{Aes256, Aes256Enc};
+use bc_aes::{Aes256Enc, Aes256Pieces};
 use bc_key::Dun;
 use std::marker::Model;
 
@@ -21,10 +21,11 @@ enum Way {
     Decipher,
 }
 
-/// The expanded halves of an XTS key: the first for the data, the second for the data unit's number.
+/// The expanded halves of an XTS key: the first for the data, the second for the data unit's
+/// number.
 #[derive(Drop)]
 pub(crate) struct Xts {
-    data_key: Aes256,
+    data_key: Aes256Pieces,
     tweak_key: Aes256Enc,
 }
 
@@ -48,7 +49,7 @@ impl Xts {
         data_key.copy_from_slice(&raw[..32]);
         tweak_key.copy_from_slice(&raw[32..]);
         Xts {
-            data_key: Aes256::new(&data_key),
+            data_key: Aes256Pieces::new(&data_key),
             tweak_key: Aes256Enc::new(&tweak_key),
         }
     }
@@ -90,7 +91,8 @@ impl Xts {
         u128::from_le_bytes(block)
     }
 
-    /// Takes eight blocks one way, of which the first has this tweak, and gives the tweak of the block after them.
+    /// Takes eight blocks one way, of which the first has this tweak, and gives the tweak of the
+    /// block after them.
     #[inline(always)]
     fn cipher_piece(&self, way: Way, tweak: u128, piece: &mut [u8]) -> u128
         requires { length piece.old ≡ 128 }
@@ -107,12 +109,12 @@ impl Xts {
     /// Takes each block one way, under the first half of the key.
     #[inline(always)]
     fn cipher_blocks(&self, way: Way, piece: &mut [u8])
-        requires { length piece.old % 16 ≡ 0 }
+        requires { length piece.old % 128 ≡ 0 }
         ensures ciphers { EachBlock (block_cipher way (take 32 self.now)) piece.old piece.new }
     {
         match way {
-            Way::Encipher => self.data_key.encrypt_blocks(piece),
-            Way::Decipher => self.data_key.decrypt_blocks(piece),
+            Way::Encipher => self.data_key.encrypt_pieces(piece),
+            Way::Decipher => self.data_key.decrypt_pieces(piece),
         }
     }
 }

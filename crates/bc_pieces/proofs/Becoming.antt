@@ -26,18 +26,18 @@ use Rattle.bc_bio.proofs.RequestLaws.{unit_found}
 use Rattle.bc_medium.specs.declared.entry.Entry.{Entry}
 use Rattle.bc_medium.specs.declared.unit_at.UnitAt.{UnitAt}
 use Rattle.bc_medium.specs.declared.unit_name.UnitName.{UnitName}
-use Rattle.bc_medium.specs.Entries.{name_of_entry, unit_name, IsToldAt, told_by, IsTold}
+use Rattle.bc_medium.specs.Entries.{name_of_entry, unit_name, IsToldAt, told_by, HasAnswer}
 use Rattle.bc_medium.specs.Growth.{IsEntryOf, failed_names}
 use Rattle.bc_medium.specs.KeyedDisk.{Sectors, Faulted, Written, Text}
-use Rattle.bc_medium.specs.LawfulOrders.{name_of}
-use Rattle.bc_medium.specs.Places.{shard_of}
+use Rattle.bc_medium.specs.LawfulOrders.{unit_name_of}
+use Rattle.bc_medium.specs.Layout.{shard_of}
 use Rattle.bc_queue.specs.RequestUnits.{no_unit, named_at, access_at, written_bytes, planned_at, faults_of, with_faults, attempted_in, failed_among}
 use Rattle.bc_queue.specs.Carrying.{AccessFacts, answer_of, content_of}
 use Rattle.bc_queue.specs.Laws.{TagsDiffer}
 use Rattle.bc_queue.proofs.Lists.{get_map, get_or_map, each_filter, each_range}
 use Rattle.bc_queue.proofs.Contents.{same_number}
 use Rattle.bc_queue.proofs.Marks.{over_is}
-use Rattle.bc_pieces.specs.Attempted.{IsCarriedItsWay, CarriesUnits, HasNoFault}
+use Rattle.bc_pieces.specs.AttemptedRequest.{IsCarriedItsWay, CarriesUnits, HasNoFault}
 use Rattle.bc_pieces.specs.Becoming.{MarksFirst, planned_in, IsAnswered, IsStopped, OpensWith, KnowsUnit, KnowsDone, KnowsFault, Becomes}
 use Rattle.bc_pieces.proofs.Walk.{drop_all}
 use Rattle.bc_pieces.proofs.Marks.{not_less, failed_within, no_fault_at, In, in_range, in_filter, member, found, failed_found, IsMarked, marked_by, Source, source}
@@ -111,9 +111,9 @@ answered facts seen old new i e failed before after n planned was now c did =
     let entry : IsEntryOf facts.caller u e = subst (λ p. IsEntryOf facts.caller p e) planned c.entry in
     let at : e.at ≡ at_of facts.caller u = entry.unit in
     let access : e.access ≡ old.access = entry.access in
-    let name : name_of_entry e ≡ name_of facts.caller u = ap unit_name at in
+    let name : name_of_entry e ≡ unit_name_of facts.caller u = ap unit_name at in
     let shard : c.place.shard ≡ shard_of facts.shards u.sector = c.shard ∙ ap (λ (a : UnitAt). shard_of facts.shards a.sector) at in
-    let told : IsToldAt facts.keys (facts.opening c.place.shard) (list_at seen c.place.shard) c.place.index (name_of facts.caller u) (answer_of old.access failed c.bytes) =
+    let told : IsToldAt facts.keys (facts.opening c.place.shard) (list_at seen c.place.shard) c.place.index (unit_name_of facts.caller u) (answer_of old.access failed c.bytes) =
     subst (λ m. IsToldAt facts.keys (facts.opening c.place.shard) (list_at seen c.place.shard) c.place.index m (answer_of old.access failed c.bytes)) name
     (subst (λ a. IsToldAt facts.keys (facts.opening c.place.shard) (list_at seen c.place.shard) c.place.index (name_of_entry e) a)
     (ap (λ a. answer_of a e.failed c.bytes) access ∙ ap (λ b. answer_of old.access b c.bytes) did) c.told) in record {
@@ -125,9 +125,9 @@ answered facts seen old new i e failed before after n planned was now c did =
       written = λ writes. sym was ∙ c.back (access ∙ writes);
       told = told;
       known = λ base opened.
-          let here : IsToldAt facts.keys (Some (base c.place.shard)) (list_at seen c.place.shard) c.place.index (name_of facts.caller u) (answer_of old.access failed c.bytes) =
-          subst (λ o. IsToldAt facts.keys o (list_at seen c.place.shard) c.place.index (name_of facts.caller u) (answer_of old.access failed c.bytes)) opened told in
-          subst (λ s. IsTold (told_by facts.keys (base s) (list_at seen s)) (name_of facts.caller u) (answer_of old.access failed c.bytes)) shard (c.place.index, here);
+          let here : IsToldAt facts.keys (Some (base c.place.shard)) (list_at seen c.place.shard) c.place.index (unit_name_of facts.caller u) (answer_of old.access failed c.bytes) =
+          subst (λ o. IsToldAt facts.keys o (list_at seen c.place.shard) c.place.index (unit_name_of facts.caller u) (answer_of old.access failed c.bytes)) opened told in
+          subst (λ s. HasAnswer (told_by facts.keys (base s) (list_at seen s)) (unit_name_of facts.caller u) (answer_of old.access failed c.bytes)) shard (c.place.index, here);
     }
 
 unit_at : (bios : List MarkedBio) (n k i : ℕ) (marked : MarkedBio) → place_in bios n ≡ record { bio = k; unit = i } → At bios k marked → unit_in bios n ≡ slice_get marked.bio.units i
@@ -240,7 +240,7 @@ known_bio facts seen old new same (Some unit) stopped base opens = knows_fault f
 -- ---- names of failed entries
 
 abbrev named_by : AccessFacts → List MarkedBio → ℕ → UnitName
-named_by old before n = name_of old.caller (planned_at old.keys before n)
+named_by old before n = unit_name_of old.caller (planned_at old.keys before n)
 
 failed_are : (old : AccessFacts) (seen : List (List Entry)) (before after : List MarkedBio) (ns : List ℕ) (es : List Entry) → AllZip (IsCarriedItsWay old seen before after) ns es → failed_names es ≡ map (named_by old before) (failed_among ns es)
 failed_are old seen before after [] [] all = refl
@@ -328,7 +328,7 @@ module _ (old new : AccessFacts) (before after : RequestParts) (made : List Entr
     abbrev number : ℕ → ℕ
     number i = first_of tagged k + i
 
-    -- what is told of a unit of the bio
+    -- what is reported of a unit of the bio
     record UnitOf (i : ℕ) : Type 0 where
       pub place : place_of tagged (number i) ≡ record { bio = k; unit = i }
       pub below : number i < count_units tagged
@@ -356,7 +356,7 @@ module _ (old new : AccessFacts) (before after : RequestParts) (made : List Entr
     long : k < length before.bios → k < length (faults_of before.bios)
     long within = let same = length-map before.bios (λ (m : MarkedBio). m.fault) in omega (arith, same, within)
 
-    -- a unit that isn't behind a fault was attempted; if it met one, the bio is marked by it or by one before
+    -- a unit that isn't after a fault was attempted; if it met one, the bio is marked by it or by one before
     attempted : (i : ℕ) → i < length was.bio.units → k < length before.bios → is_after i is.fault ≡ false → (e : Entry) × Carried (number i) e × (e.failed ≡ true → IsMarked (faults_of after.bios) k i)
     attempted i within bio not_over =
         let u = unit_of i within in
@@ -409,7 +409,7 @@ module _ (old new : AccessFacts) (before after : RequestParts) (made : List Entr
             (source tagged (faults_of before.bios) failed k mark (ap (λ (l : List (Option ℕ)). get_or l k None) (sym c.faults) ∙ mark_is ∙ fault))
 
   -- the names of the failed entries are those of their units
-  names : failed_names made ≡ map (λ n. name_of old.caller (planned_at old.keys before.bios n)) failed
+  names : failed_names made ≡ map (λ n. unit_name_of old.caller (planned_at old.keys before.bios n)) failed
   names = failed_are old new.seen before.bios after.bios numbers made c.carried
 
   module _ (differ : TagsDiffer tagged) (k : ℕ) (was is : MarkedBio) (was_at : At before.bios k was) (is_at : At after.bios k is) (bio : k < length before.bios) where
@@ -419,7 +419,7 @@ module _ (old new : AccessFacts) (before after : RequestParts) (made : List Entr
     mark_told : (unit : ℕ) → IsMarked (faults_of after.bios) k unit → (mark : ℕ) × (is.fault ≡ Some mark) × (mark ≤ unit)
     mark_told unit m = (m.mark, sym (mark_is k was is was_at is_at) ∙ m.is, m.at_most)
 
-    least_of : (n : ℕ) → In n failed → Least (name_of old.caller (planned_at old.keys before.bios n))
+    least_of : (n : ℕ) → In n failed → Least (unit_name_of old.caller (planned_at old.keys before.bios n))
     least_of n there same =
         let below : n < count_units tagged = member (λ m. m < count_units tagged) failed n all_below there in
         let t = bio_at tagged n below in
@@ -436,7 +436,7 @@ module _ (old new : AccessFacts) (before after : RequestParts) (made : List Entr
 
     marks_one : MarksFirst old.caller made was is
     marks_one = record {
-      least = subst (λ l. Each Least l) (sym names) (each_map Least (λ n. name_of old.caller (planned_at old.keys before.bios n)) failed (each_in (λ n. Least (name_of old.caller (planned_at old.keys before.bios n))) failed least_of));
+      least = subst (λ l. Each Least l) (sym names) (each_map Least (λ n. unit_name_of old.caller (planned_at old.keys before.bios n)) failed (each_in (λ n. Least (unit_name_of old.caller (planned_at old.keys before.bios n))) failed least_of));
       failed = of_fault is.fault refl;
     }
       where
@@ -448,10 +448,10 @@ module _ (old new : AccessFacts) (before after : RequestParts) (made : List Entr
             let at = in_place failed s.n s.there in (
               at.0,
               ap (λ (l : List UnitName). slice_get l at.0) names
-                  ∙ get_map (λ n. name_of old.caller (planned_at old.keys before.bios n)) failed at.0
-                  ∙ ap (option_map (λ n. name_of old.caller (planned_at old.keys before.bios n))) at.1
-                  ∙ ap (λ n. Some (name_of old.caller (planned_at old.keys before.bios n))) same
-                  ∙ ap (λ (v : PlannedUnit). Some (name_of old.caller v)) u.planned,
+                  ∙ get_map (λ n. unit_name_of old.caller (planned_at old.keys before.bios n)) failed at.0
+                  ∙ ap (option_map (λ n. unit_name_of old.caller (planned_at old.keys before.bios n))) at.1
+                  ∙ ap (λ n. Some (unit_name_of old.caller (planned_at old.keys before.bios n))) same
+                  ∙ ap (λ (v : PlannedUnit). Some (unit_name_of old.caller v)) u.planned,
             )
 
         of_fault : (o : Option ℕ) → is.fault ≡ o → MatchOption o ⊤ (λ unit. (place : ℕ) × At (failed_names made) place (record { thread = old.caller; op = was.bio.tag; unit = unit }))

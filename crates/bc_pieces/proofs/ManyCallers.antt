@@ -13,7 +13,7 @@ use Rattle.bc_base.proofs.Lists.{at_one, each_at, each_set}
 use Rattle.bc_key.specs.KeyData.{KeyData}
 use Rattle.bc_bio.specs.Windows.{NamedUnit, count_units}
 use Rattle.bc_bio.specs.Requests.{RequestParts, tagged_bios}
-use Rattle.bc_turn.specs.Parts.{Pass}
+use Rattle.bc_turn.specs.PassParts.{Pass}
 use Rattle.bc_medium.specs.declared.entry.Entry.{Entry}
 use Rattle.bc_medium.specs.Medium.{OpeningData, shards_of}
 use Rattle.bc_profile.specs.declared.event.Event.{Event}
@@ -23,14 +23,16 @@ use Rattle.bc_profile.specs.declared.skips.Skip.{Skip}
 use Rattle.bc_profile.specs.Passes.{SlotFacts, HasSpare, Gets, Puts, Noticed, ProgramsSlot, base_in, made_by, quota_of, slots_in}
 use Rattle.bc_profile.specs.Story.{Holds, author_of, note, notes}
 use Rattle.bc_ufs.specs.Controllers.{ControllerData}
-use Rattle.bc_queue.specs.RequestUnits.{planned_part, units_on}
+use Rattle.bc_queue.specs.RequestUnits.{planned_part, count_units_on}
 use Rattle.bc_queue.specs.Queues.{QueueData, CanGo, Dispatches, HasEvents, HasSpareOfUnits, HoldsOnce, IsPass}
 use Rattle.bc_queue.specs.Carrying.{ArePerformable}
-use Rattle.bc_queue.proofs.Lists.{at_set, get_or_map, get_or_set_other, get_set_other, map-set}
-use Rattle.bc_pieces.specs.Pieces.{CarriesPiece, IsOnDevice, NotesOn, at_device, is_piece_on, named_on, part_of, pieces_on}
+use Rattle.bc_queue.proofs.Lists.{get_or_map, get_or_set_other, get_set_other, map-set}
+use Rattle.bc_pieces.specs.Pieces.{CarriesPiece, IsOnDevice, NotesOn, at_device, is_piece_on, named_on, piece_part, pieces_on}
 use Rattle.bc_pieces.specs.ManyCallers.{QueueDevicesData, HasRoomFor, IsReady, TakesOn, facts_over}
-use Rattle.bc_pieces.proofs.Telling.{begins_itself, begins_trans, notes_append}
+use Rattle.bc_pieces.proofs.Telling.{notes_append}
 use Rattle.bc_pieces.proofs.Units.{at_within, part_on, piece_on}
+use Rattle.bc_base.proofs.Members.{at_set}
+use Rattle.bc_medium.proofs.Growing.{begins_itself, begins_trans}
 
 -- ---- one hold
 
@@ -73,14 +75,14 @@ noticed_notes caller old new es is n = record {
       (sym (ap (λ c. own author_of c new.seen) n.caller) ∙ n.own_events);
 }
 
-noticed_made : (old new : SlotFacts) (es : List Event) → Noticed old new es → length (made_by new) ≡ length (made_by old) + length es
+pub noticed_made : (old new : SlotFacts) (es : List Event) → Noticed old new es → length (made_by new) ≡ length (made_by old) + length es
 noticed_made old new es n =
     let many = ap length n.own_events in
     let both = length-append (made_by old) (notes old.caller es) in
     let mapped = length-map es (note old.caller) in
     omega (arith, many, both, mapped)
 
-length_one : {X : Type 0} (n : ℕ) (x : X) → n ≤ 1 → length (take n (x ∷ [])) ≤ 1
+pub length_one : {X : Type 0} (n : ℕ) (x : X) → n ≤ 1 → length (take n (x ∷ [])) ≤ 1
 length_one zero x few = omega arith
 length_one (suc zero) x few = omega arith
 length_one (suc (suc n)) x few = absurd (omega (arith, few))
@@ -136,27 +138,27 @@ module _ {S : Type 0} (devices : QueueDevicesData S) (device : ℕ) where
   module _ (keys : List KeyData) (request : RequestParts) (first count : ℕ) (keyed : devices.queue.medium.keys.keys ≡ keys) (some : 1 ≤ count) (within : first + count ≤ count_units (tagged_bios request.bios))
       (on : IsOnDevice keys devices.targets request first device) where
     -- the pieces with this one first are one more on its device
-    more_here : (rest : List (List NamedUnit)) → pieces_on devices.targets device (part_of keys request first count ∷ rest) ≡ suc (pieces_on devices.targets device rest)
+    more_here : (rest : List (List NamedUnit)) → pieces_on devices.targets device (piece_part keys request first count ∷ rest) ≡ suc (pieces_on devices.targets device rest)
     more_here rest =
-        ap (λ (b : Bool). length (cond b (part_of keys request first count ∷ filter (is_piece_on devices.targets device) rest) (filter (is_piece_on devices.targets device) rest)))
+        ap (λ (b : Bool). length (cond b (piece_part keys request first count ∷ filter (is_piece_on devices.targets device) rest) (filter (is_piece_on devices.targets device) rest)))
         (piece_on keys devices.targets request first count device some within on)
 
-    no_fewer : (other : ℕ) (rest : List (List NamedUnit)) → pieces_on devices.targets other rest ≤ pieces_on devices.targets other (part_of keys request first count ∷ rest)
-    no_fewer other rest = of_bool (is_piece_on devices.targets other (part_of keys request first count))
+    no_fewer : (other : ℕ) (rest : List (List NamedUnit)) → pieces_on devices.targets other rest ≤ pieces_on devices.targets other (piece_part keys request first count ∷ rest)
+    no_fewer other rest = of_bool (is_piece_on devices.targets other (piece_part keys request first count))
       where
-        of_bool : (b : Bool) → length (filter (is_piece_on devices.targets other) rest) ≤ length (cond b (part_of keys request first count ∷ filter (is_piece_on devices.targets other) rest) (filter (is_piece_on devices.targets other) rest))
+        of_bool : (b : Bool) → length (filter (is_piece_on devices.targets other) rest) ≤ length (cond b (piece_part keys request first count ∷ filter (is_piece_on devices.targets other) rest) (filter (is_piece_on devices.targets other) rest))
         of_bool true = omega arith
         of_bool false = omega arith
 
-    entries_more : (shard : ℕ) (rest : List (List NamedUnit)) → sum_by (named_on (shards_of devices.queue.medium) shard) (part_of keys request first count ∷ rest)
-        ≡ units_on (shards_of devices.queue.medium) shard (planned_part devices.queue.medium.keys.keys request.bios first count) + sum_by (named_on (shards_of devices.queue.medium) shard) rest
+    entries_more : (shard : ℕ) (rest : List (List NamedUnit)) → sum_by (named_on (shards_of devices.queue.medium) shard) (piece_part keys request first count ∷ rest)
+        ≡ count_units_on (shards_of devices.queue.medium) shard (planned_part devices.queue.medium.keys.keys request.bios first count) + sum_by (named_on (shards_of devices.queue.medium) shard) rest
     entries_more shard rest =
-        let sum = sum_by-cons (named_on (shards_of devices.queue.medium) shard) (part_of keys request first count) rest in
+        let sum = sum_by-cons (named_on (shards_of devices.queue.medium) shard) (piece_part keys request first count) rest in
         let part = part_on keys request (shards_of devices.queue.medium) shard first count within in
-        let same = ap (λ ks. units_on (shards_of devices.queue.medium) shard (planned_part ks request.bios first count)) keyed in
+        let same = ap (λ ks. count_units_on (shards_of devices.queue.medium) shard (planned_part ks request.bios first count)) keyed in
         omega (arith, sum, part, same)
 
-    pub room_events : (queue : QueueData S) (slots : List SlotFacts) (units : Pass Entry (OpeningData S)) (rest : List (List NamedUnit)) → queue ≡ devices.queue → HasRoomFor devices slots units (part_of keys request first count ∷ rest) → HasEvents queue slots device 2
+    pub room_events : (queue : QueueData S) (slots : List SlotFacts) (units : Pass Entry (OpeningData S)) (rest : List (List NamedUnit)) → queue ≡ devices.queue → HasRoomFor devices slots units (piece_part keys request first count ∷ rest) → HasEvents queue slots device 2
     room_events queue slots units rest same has =
         subst (λ q. HasEvents q slots device 2) (sym same)
         (λ controller at pass here.
@@ -164,7 +166,7 @@ module _ {S : Type 0} (devices : QueueDevicesData S) (device : ℕ) where
         let more = more_here rest in
         omega (arith, spare, more))
 
-    pub room_entries : (queue : QueueData S) (slots : List SlotFacts) (units : Pass Entry (OpeningData S)) (rest : List (List NamedUnit)) → queue ≡ devices.queue → HasRoomFor devices slots units (part_of keys request first count ∷ rest) → HasSpareOfUnits queue units request.bios first count
+    pub room_entries : (queue : QueueData S) (slots : List SlotFacts) (units : Pass Entry (OpeningData S)) (rest : List (List NamedUnit)) → queue ≡ devices.queue → HasRoomFor devices slots units (piece_part keys request first count ∷ rest) → HasSpareOfUnits queue units request.bios first count
     room_entries queue slots units rest same has =
         subst (λ q. HasSpareOfUnits q units request.bios first count) (sym same)
         (λ shard.
@@ -238,7 +240,7 @@ module _ {S : Type 0} (devices : QueueDevicesData S) (device : ℕ) where
         }
 
     pub room_after : (keys : List KeyData) → devices.queue.medium.keys.keys ≡ keys → 1 ≤ count → first + count ≤ count_units (tagged_bios before.bios) → IsOnDevice keys devices.targets before first device → (rest : List (List NamedUnit))
-        → HasRoomFor devices old old_units (part_of keys before first count ∷ rest) → HasRoomFor devices new new_units rest
+        → HasRoomFor devices old old_units (piece_part keys before first count ∷ rest) → HasRoomFor devices new new_units rest
     room_after keys keyed some within on rest has = record {
       entries = λ shard.
           let room = has.entries shard in

@@ -15,20 +15,21 @@ use Rattle.bc_bio.specs.Requests.{place_of, first_fault, is_after}
 use Rattle.bc_medium.specs.declared.entry.Entry.{Entry}
 use Rattle.bc_medium.specs.Entries.{name_of_entry}
 use Rattle.bc_queue.specs.RequestUnits.{faults_of, with_fault_at, with_faults, failed_among}
-use Rattle.bc_queue.proofs.Lists.{get_or_set, get_or_set_other, length-set}
+use Rattle.bc_queue.proofs.Lists.{get_or_set, get_or_set_other}
 use Rattle.bc_queue.proofs.Marks.{over}
-use Rattle.bc_pieces.specs.Attempted.{HasNoFault}
+use Rattle.bc_pieces.specs.AttemptedRequest.{HasNoFault}
 use Rattle.std.proofs.lemmas.List.Elements.{filter-append}
 use Rattle.bc_medium.specs.Growth.{failed_names}
 use Rattle.bc_queue.proofs.Lists.{pairs_append}
 use Rattle.bc_queue.proofs.Contents.{in_order}
+use Rattle.bc_base.proofs.Members.{length-set}
 
 -- ---- marks of later units
 
 pub not_less : (a b : ℕ) → b ≤ a → nat_lt a b ≡ false
 not_less a b le = false_from_ne_true (nat_lt a b) (λ t. let lt = ltb-true a b t in absurd (omega (arith, le, lt)))
 
--- a fault doesn't put its own unit, nor one before it, behind it
+-- a fault doesn't put its own unit, nor one before it, after it
 stays : (m n : ℕ) (fault : Option ℕ) → m ≤ n → is_after m (Some (first_fault n fault)) ≡ is_after m fault
 stays m n None le = not_less n m le
 stays m n (Some fault) le = ⊎_elim

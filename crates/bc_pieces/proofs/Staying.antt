@@ -6,7 +6,7 @@ use Rattle.bc_base.specs.Story.{StartsWith}
 use Rattle.bc_bio.specs.declared.bio.Bio.{Bio}
 use Rattle.bc_bio.specs.declared.marked_bio.MarkedBio.{MarkedBio}
 use Rattle.bc_medium.specs.declared.entry.Entry.{Entry}
-use Rattle.bc_medium.specs.LawfulOrders.{name_of}
+use Rattle.bc_medium.specs.LawfulOrders.{unit_name_of}
 use Rattle.bc_medium.specs.Laws.{AnswersStay, KnownStays}
 use Rattle.bc_queue.specs.Carrying.{AccessFacts, answer_of}
 use Rattle.bc_queue.proofs.Growing.{told_more}
@@ -22,7 +22,7 @@ module _ (stay : AnswersStay) (known_stays : KnownStays) (facts : AccessFacts) (
     content = a.content;
     full = a.full;
     written = a.written;
-    told = told_more stay facts.keys (facts.opening a.place.shard) (list_at seen a.place.shard) (list_at seen' a.place.shard) a.place.index (name_of facts.caller (planned_in facts.keys old i)) (answer_of old.access failed a.bytes) (fronts a.place.shard) a.told;
+    told = told_more stay facts.keys (facts.opening a.place.shard) (list_at seen a.place.shard) (list_at seen' a.place.shard) a.place.index (unit_name_of facts.caller (planned_in facts.keys old i)) (answer_of old.access failed a.bytes) (fronts a.place.shard) a.told;
     known = λ base opened. known_stays facts.keys facts.shards base facts.caller seen seen' (planned_in facts.keys old i) (answer_of old.access failed a.bytes) fronts (a.known base opened);
   }
 

@@ -1,10 +1,9 @@
 -- What pieces tell together.
 use Rattle.std.proofs.Common.{◌≡◌, ℕ, ◌+◌, ◌<◌, ◌≤◌, List, [], ◌∷◌, ◌++◌, length, append-nil, append_assoc, refl, sym, ap, subst, ◌∙◌, arith, Option, Some, None, not}
-use Rattle.std.specs.Prelude.{filter, sum_by, IsSomeAnd}
+use Rattle.std.specs.Prelude.{sum_by, IsSomeAnd}
 use Rattle.std.specs.List.{AllZip, range_with_len}
 use Rattle.std.proofs.lemmas.List.Sums.{sum_by-cons}
 use Rattle.std.proofs.lemmas.List.{map-append}
-use Rattle.std.proofs.lemmas.List.Elements.{filter-append}
 use Rattle.bc_base.specs.Lists.{Each, list_at}
 use Rattle.bc_base.specs.Story.{own, StartsWith}
 use Rattle.bc_bio.specs.declared.context.Context.{Context}
@@ -14,8 +13,7 @@ use Rattle.bc_medium.specs.declared.entry.Entry.{Entry}
 use Rattle.bc_medium.specs.declared.unit_at.UnitAt.{UnitAt}
 use Rattle.bc_medium.specs.declared.via.Via.{Via}
 use Rattle.bc_medium.specs.declared.via.Via.TheVariants as ways
-use Rattle.bc_medium.specs.Entries.{caller_of}
-use Rattle.bc_medium.specs.Growth.{lies_in, Grows}
+use Rattle.bc_medium.specs.Growth.{Grows}
 use Rattle.bc_profile.specs.declared.event.Event.{Event}
 use Rattle.bc_profile.specs.declared.noted.Noted.{Noted}
 use Rattle.bc_profile.specs.Story.{Holds, Programs, author_of, note, notes}
@@ -27,15 +25,10 @@ use Rattle.bc_queue.specs.Carrying.{IsCarried}
 use Rattle.bc_queue.specs.Queues.{IsUnderKey}
 use Rattle.bc_queue.proofs.Lists.{each_filter, each_range}
 use Rattle.bc_queue.proofs.Queues.{zip_right}
-use Rattle.bc_pieces.specs.Pieces.{DeviceFacts, CarriesPiece, CarriesFirst, NotesOn, access_by, at_device, is_piece_on, is_piece_under, named_on, part_of}
-use Rattle.bc_pieces.specs.Told.{GoesByDevice, HasHoldBetween, IsHoldOf, NamesNoEarlier, Rise, Tells, events_on}
+use Rattle.bc_pieces.specs.Pieces.{DeviceFacts, CarriesPiece, CarriesFirst, NotesOn, access_by, at_device, is_piece_on, is_piece_under, named_on, piece_part}
+use Rattle.bc_pieces.specs.PieceEffects.{GoesByDevice, HasHoldBetween, IsHoldOf, NamesNoEarlier, Rise, AddsByDevice, events_on}
 use Rattle.bc_pieces.proofs.Units.{part_on, piece_on, piece_under, sector_on}
-
-pub begins_itself : {E : Type 0} (xs : List E) → StartsWith xs xs
-begins_itself xs = ([], sym (append-nil xs))
-
-pub begins_trans : {E : Type 0} (xs ys zs : List E) → StartsWith ys xs → StartsWith zs ys → StartsWith zs xs
-begins_trans xs ys zs p q = (p.0 ++ q.0, q.1 ∙ ap (λ l. l ++ q.0) p.1 ∙ append_assoc xs p.0 q.0)
+use Rattle.bc_medium.proofs.Growing.{begins_itself, begins_trans, grows_none, grows_append}
 
 pub each_append : {X : Type 0} (P : X → Type 0) (xs ys : List X) → Each P xs → Each P ys → Each P (xs ++ ys)
 each_append P [] ys p q = q
@@ -44,23 +37,6 @@ each_append P (x ∷ xs) ys p q = (p.0, each_append P xs ys p.1 q)
 pub each_more : {X : Type 0} (P Q : X → Type 0) → ((x : X) → P x → Q x) → (xs : List X) → Each P xs → Each Q xs
 each_more P Q more [] p = tt
 each_more P Q more (x ∷ xs) p = (more x p.0, each_more P Q more xs p.1)
-
-module _ (shards caller : ℕ) where
-  pub grows_none : (fronts : List (List Entry)) → Grows shards caller fronts fronts []
-  grows_none fronts = record {
-    fronts = λ shard. begins_itself (list_at fronts shard);
-    own_entries = λ shard within. sym (append-nil (own caller_of caller (list_at fronts shard)));
-  }
-
-  pub grows_append : (a b c : List (List Entry)) (es fs : List Entry) → Grows shards caller a b es → Grows shards caller b c fs → Grows shards caller a c (es ++ fs)
-  grows_append a b c es fs p q = record {
-    fronts = λ shard. begins_trans (list_at a shard) (list_at b shard) (list_at c shard) (p.fronts shard) (q.fronts shard);
-    own_entries = λ shard within.
-        q.own_entries shard within
-        ∙ ap (λ l. l ++ filter (lies_in shards shard) fs) (p.own_entries shard within)
-        ∙ append_assoc (own caller_of caller (list_at a shard)) (filter (lies_in shards shard) es) (filter (lies_in shards shard) fs)
-        ∙ ap (λ l. own caller_of caller (list_at a shard) ++ l) (sym (filter-append (lies_in shards shard) es fs));
-  }
 
 pub notes_append : (caller : ℕ) (a b c : List Noted) (es fs : List Event) → NotesOn caller a b es → NotesOn caller b c fs → NotesOn caller a c (es ++ fs)
 notes_append caller a b c es fs p q = record {
@@ -181,7 +157,7 @@ module _ (name : HoldsNameProgrammings) (name_later : LaterHoldsNameLater) where
 
 -- ---- what pieces tell
 
-unfoldable pub tells_none : (facts : DeviceFacts) → Tells facts facts []
+unfoldable pub tells_none : (facts : DeviceFacts) → AddsByDevice facts facts []
 tells_none facts = record {
   same = record { keys = refl; shards = refl; caller = refl; targets = refl; slots = refl };
   made = [];
@@ -196,7 +172,7 @@ tells_none facts = record {
 }
 
 module _ (name : HoldsNameProgrammings) (name_later : LaterHoldsNameLater) (Exact : DeviceFacts → DeviceFacts → ℕ → List NamedUnit → Type 0) (old mid new : DeviceFacts) (before after : RequestParts) (first : ℕ) (piece : List NamedUnit) (pieces : List (List NamedUnit)) where
-  unfoldable pub tells_more : CarriesFirst Exact old.access.keys old.targets old mid before after first piece → first + length piece ≤ count_units (tagged_bios before.bios) → Tells mid new pieces → Tells old new (piece ∷ pieces)
+  unfoldable pub tells_more : CarriesFirst Exact old.access.keys old.targets old mid before after first piece → first + length piece ≤ count_units (tagged_bios before.bios) → AddsByDevice mid new pieces → AddsByDevice old new (piece ∷ pieces)
   tells_more f within q =
       let p : CarriesPiece old mid before after first f.device (length piece) = f.carries in
       let device : ℕ = f.device in
@@ -234,7 +210,7 @@ module _ (name : HoldsNameProgrammings) (name_later : LaterHoldsNameLater) (Exac
         spare = λ shard.
             let spent = p.carries.spare shard in
             let part = part_on old.access.keys before old.access.shards shard first (length piece) within in
-            let same : named_on old.access.shards shard piece ≡ named_on old.access.shards shard (part_of old.access.keys before first (length piece)) = ap (named_on old.access.shards shard) f.piece_is in
+            let same : named_on old.access.shards shard piece ≡ named_on old.access.shards shard (piece_part old.access.keys before first (length piece)) = ap (named_on old.access.shards shard) f.piece_is in
             let rest : mid.access.spare shard ≤ new.access.spare shard + sum_by (named_on old.access.shards shard) pieces = subst (λ (k : ℕ). mid.access.spare shard ≤ new.access.spare shard + sum_by (named_on k shard) pieces) p.same.shards (q.spare shard) in
             let sum = sum_by-cons (named_on old.access.shards shard) piece pieces in
             omega (arith, spent, part, same, rest, sum);

@@ -10,13 +10,13 @@ use Rattle.bc_key.specs.KeyData.{KeyData}
 use Rattle.bc_bio.specs.declared.context.Context.{Context}
 use Rattle.bc_bio.specs.Windows.{NamedUnit, count_units}
 use Rattle.bc_bio.specs.Requests.{RequestParts, tagged_bios}
-use Rattle.bc_medium.specs.Places.{shard_of}
+use Rattle.bc_medium.specs.Layout.{shard_of}
 use Rattle.bc_stack.specs.declared.target.Target.{Target}
 use Rattle.bc_stack.specs.Devices.{device_at}
 use Rattle.bc_stack.specs.Pieces.{device_of}
-use Rattle.bc_queue.specs.RequestUnits.{named_at, no_unit, planned_at, planned_part, units_on}
-use Rattle.bc_pieces.specs.Pieces.{IsOnDevice, is_piece_on, is_piece_under, named_on, part_of, units_in}
-use Rattle.bc_pieces.proofs.Walk.{length-units_of_request}
+use Rattle.bc_queue.specs.RequestUnits.{named_at, no_unit, planned_at, planned_part, count_units_on}
+use Rattle.bc_pieces.specs.Pieces.{IsOnDevice, is_piece_on, is_piece_under, named_on, piece_part, request_units}
+use Rattle.bc_stack.proofs.PieceLaws.{length-units_of_request}
 
 -- ---- lists
 
@@ -38,21 +38,21 @@ length_cond false x xs y ys same = same
 
 -- a piece has its units on a shard
 pub part_on : (keys : List KeyData) (request : RequestParts) (shards shard first count : ℕ) → first + count ≤ count_units (tagged_bios request.bios)
-    → units_on shards shard (planned_part keys request.bios first count) ≡ named_on shards shard (part_of keys request first count)
+    → count_units_on shards shard (planned_part keys request.bios first count) ≡ named_on shards shard (piece_part keys request first count)
 part_on keys request shards shard first count within =
     let len = length-units_of_request keys (tagged_bios request.bios) in
     go first count (omega (arith, len, within))
   where
     units : List NamedUnit
-    units = units_in keys request
+    units = request_units keys request
 
-    go : (first count : ℕ) → first + count ≤ length units → units_on shards shard (map (planned_at keys request.bios) (range_with_len first count)) ≡ named_on shards shard (take count (drop first units))
+    go : (first count : ℕ) → first + count ≤ length units → count_units_on shards shard (map (planned_at keys request.bios) (range_with_len first count)) ≡ named_on shards shard (take count (drop first units))
     go first zero inside = refl
     go first (suc count) inside =
         let here = at_within units first (omega (arith, inside)) in
         let named : named_at keys request.bios first ≡ here.0 = ap (λ o. unwrap_or o no_unit) here.1 in
         let next : suc first ≡ first + 1 = omega arith in
-        let rest : units_on shards shard (map (planned_at keys request.bios) (range_with_len (first + 1) count)) ≡ named_on shards shard (take count (drop (suc first) units)) = go (first + 1) count (omega (arith, inside)) ∙ ap (λ n. named_on shards shard (take count (drop n units))) (sym next) in
+        let rest : count_units_on shards shard (map (planned_at keys request.bios) (range_with_len (first + 1) count)) ≡ named_on shards shard (take count (drop (suc first) units)) = go (first + 1) count (omega (arith, inside)) ∙ ap (λ n. named_on shards shard (take count (drop n units))) (sym next) in
         length_cond (shard_of shards (named_at keys request.bios first).sector == shard) (planned_at keys request.bios first) (filter (λ u. shard_of shards u.sector == shard) (map (planned_at keys request.bios) (range_with_len (first + 1) count)))
         here.0 (filter (λ u. shard_of shards u.sector == shard) (take count (drop (suc first) units))) rest
         ∙ ap (λ (u : NamedUnit). length (cond (shard_of shards u.sector == shard) (here.0 ∷ filter (λ v. shard_of shards v.sector == shard) (take count (drop (suc first) units))) (filter (λ v. shard_of shards v.sector == shard) (take count (drop (suc first) units))))) named
@@ -60,10 +60,10 @@ part_on keys request shards shard first count within =
 
 -- a piece with a unit lies where its first one does
 pub piece_on : (keys : List KeyData) (targets : List Target) (request : RequestParts) (first count device : ℕ) → 1 ≤ count → first + count ≤ count_units (tagged_bios request.bios) → IsOnDevice keys targets request first device
-    → is_piece_on targets device (part_of keys request first count) ≡ true
+    → is_piece_on targets device (piece_part keys request first count) ≡ true
 piece_on keys targets request first zero device some within on = absurd (omega (arith, some))
 piece_on keys targets request first (suc count) device some within on =
-    let units : List NamedUnit = units_in keys request in
+    let units : List NamedUnit = request_units keys request in
     let len = length-units_of_request keys (tagged_bios request.bios) in
     let here = at_within units first (omega (arith, len, within)) in
     let lies : device_of targets here.0 ≡ device = same_Some (device_of targets here.0) device (sym (ap (option_map (device_of targets)) here.1) ∙ on) in
@@ -71,10 +71,10 @@ piece_on keys targets request first (suc count) device some within on =
 
 -- a piece with a unit is under the key that its first one is under
 pub piece_under : (keys : List KeyData) (request : RequestParts) (first count : ℕ) (under : Context) → 1 ≤ count → first + count ≤ count_units (tagged_bios request.bios) → (named_at keys request.bios first).context ≡ Some under
-    → is_piece_under under.key.0 (part_of keys request first count) ≡ true
+    → is_piece_under under.key.0 (piece_part keys request first count) ≡ true
 piece_under keys request first zero under some within is = absurd (omega (arith, some))
 piece_under keys request first (suc count) under some within is =
-    let units : List NamedUnit = units_in keys request in
+    let units : List NamedUnit = request_units keys request in
     let len = length-units_of_request keys (tagged_bios request.bios) in
     let here = at_within units first (omega (arith, len, within)) in
     let context : here.0.context ≡ Some under = sym (ap (λ (o : Option NamedUnit). (unwrap_or o no_unit).context) here.1) ∙ is in
@@ -84,7 +84,7 @@ piece_under keys request first (suc count) under some within is =
 
 -- a unit of a piece lies on the piece's device, which has its sector
 pub sector_on : (keys : List KeyData) (targets : List Target) (request : RequestParts) (n device : ℕ) → device < length targets → IsOnDevice keys targets request n device → device_at targets (named_at keys request.bios n).sector ≡ Some device
-sector_on keys targets request n device there on = go (Rattle.std.specs.Prelude.slice_get (units_in keys request) n) on
+sector_on keys targets request n device there on = go (Rattle.std.specs.Prelude.slice_get (request_units keys request) n) on
   where
     go : (o : Option NamedUnit) → option_map (device_of targets) o ≡ Some device → device_at targets (unwrap_or o no_unit).sector ≡ Some device
     go None is = absurd (none-some device is)

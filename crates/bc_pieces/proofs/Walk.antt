@@ -6,30 +6,23 @@ use Rattle.std.proofs.lemmas.Bool.{eq-eqb, ne_eqb, cases_eq}
 use Rattle.std.proofs.lemmas.Option.{none-some, same_Some}
 use Rattle.std.proofs.Math.Logic.{⊎_elim}
 use Rattle.std.proofs.lemmas.List.Sums.{sum_by-cons}
-use Rattle.std.proofs.lemmas.List.{length-append}
-use Rattle.std.proofs.lemmas.List.FromFn.{length-map-range_with_len}
 use Rattle.std.specs.Prelude.{IsSomeAnd}
 use Rattle.std.specs.Option.{unwrap_or}
 use Rattle.bc_bio.specs.Extent.{unit_sectors}
 use Rattle.bc_bio.specs.Conditions.{IsFull}
 use Rattle.bc_bio.specs.declared.context.Context.{Context}
-use Rattle.bc_bio.specs.Windows.{TaggedBio, named_unit, named_units}
 use Rattle.bc_queue.specs.RequestUnits.{named_at, no_unit}
-use Rattle.bc_queue.specs.Carrying.{IsPerformable}
+use Rattle.bc_queue.specs.Carrying.{IsPerformableUnit}
 use Rattle.bc_key.specs.KeyData.{KeyData}
 use Rattle.bc_bio.specs.Chunks.{chunks_with, chunk_by}
 use Rattle.bc_bio.specs.Windows.{NamedUnit, count_units, units_of_request}
 use Rattle.bc_bio.specs.Requests.{RequestParts, tagged_bios, unit_in}
 use Rattle.bc_stack.specs.declared.target.Target.{Target}
 use Rattle.bc_stack.specs.Pieces.{device_of, pieces_of}
-use Rattle.bc_pieces.specs.Pieces.{DeviceFacts, CarriesPiece, CarriesFirst, CarriesPieces, HasCarried, IsOnDevice, part_of, pieces_in, units_in}
+use Rattle.bc_pieces.specs.Pieces.{DeviceFacts, CarriesPiece, CarriesFirst, CarriesPieces, HasCarried, IsOnDevice, piece_part, pieces_in, request_units}
+use Rattle.bc_stack.proofs.PieceLaws.{length-units_of_request, slice_get-drop}
 
 -- ---- lists
-
-pub slice_get-drop : {X : Type 0} (xs : List X) (n i : ℕ) → slice_get (drop n xs) i ≡ slice_get xs (n + i)
-slice_get-drop xs zero i = ap (slice_get xs) (let same : i ≡ 0 + i = omega arith in same)
-slice_get-drop [] (suc n) i = refl
-slice_get-drop (x ∷ xs) (suc n) i = slice_get-drop xs n i ∙ ap (slice_get (x ∷ xs)) (let same : suc (n + i) ≡ suc n + i = omega arith in same)
 
 drop_nil : {X : Type 0} (k : ℕ) → drop {A = X} k [] ≡ []
 drop_nil zero = refl
@@ -64,15 +57,6 @@ sum_end {X = X} (ys ∷ xss) xs =
     let fewer = sum_by-cons (λ (l : List X). length l) ys xss in
     let rest = sum_end xss xs in
     omega (arith, more, fewer, rest)
-
-pub length-units_of_request : (keys : List KeyData) (bios : List TaggedBio) → length (units_of_request keys bios) ≡ count_units bios
-length-units_of_request keys [] = refl
-length-units_of_request keys (tagged ∷ bios) =
-    let here = length-map-range_with_len (named_unit keys tagged) 0 tagged.bio.units in
-    let both = length-append (named_units keys tagged) (units_of_request keys bios) in
-    let rest = length-units_of_request keys bios in
-    let sum = sum_by-cons (λ (t : TaggedBio). t.bio.units) tagged bios in
-    omega (arith, here, both, rest, sum)
 
 -- ---- one chunk
 
@@ -131,7 +115,7 @@ on_device targets units first count device n rest is here within least below =
     ∙ in_chunk number (drop first units) count device (n - first) rest is zeroth (omega (arith, least, below)) (omega (arith, least, below, within, len))
 
 -- a unit that can be performed still can, where it is as it was
-pub still_performable : (keys : List KeyData) (Takes : ℕ → Option Context → Type 0) (before now : RequestParts) (n : ℕ) → tagged_bios now.bios ≡ tagged_bios before.bios → unit_in now.bios n ≡ unit_in before.bios n → IsPerformable keys Takes before.bios n → IsPerformable keys Takes now.bios n
+pub still_performable : (keys : List KeyData) (Takes : ℕ → Option Context → Type 0) (before now : RequestParts) (n : ℕ) → tagged_bios now.bios ≡ tagged_bios before.bios → unit_in now.bios n ≡ unit_in before.bios n → IsPerformableUnit keys Takes before.bios n → IsPerformableUnit keys Takes now.bios n
 still_performable keys Takes before now n tags unit is =
     let named : named_at keys now.bios n ≡ named_at keys before.bios n = ap (λ ts. unwrap_or (slice_get (units_of_request keys ts) n) no_unit) tags in record {
       full = subst (λ (u : NamedUnit). IsSomeAnd (unit_in now.bios n) (IsFull (unit_sectors keys u.context))) (sym named) (subst (λ o. IsSomeAnd o (IsFull (unit_sectors keys (named_at keys before.bios n).context))) (sym unit) is.full);
@@ -173,21 +157,21 @@ module _ (Exact : DeviceFacts → DeviceFacts → ℕ → List NamedUnit → Typ
   }
 
   -- the next piece of what is left, over the request as it was
-  pub next_piece : (before now : RequestParts) (first count : ℕ) → tagged_bios now.bios ≡ tagged_bios before.bios → pieces_of targets (drop first (units_in keys now)) ≡ part_of keys now first count ∷ pieces_of targets (drop count (drop first (units_in keys now)))
-      → pieces_of targets (drop first (units_in keys before)) ≡ part_of keys now first count ∷ pieces_of targets (drop (first + count) (units_in keys before))
+  pub next_piece : (before now : RequestParts) (first count : ℕ) → tagged_bios now.bios ≡ tagged_bios before.bios → pieces_of targets (drop first (request_units keys now)) ≡ piece_part keys now first count ∷ pieces_of targets (drop count (drop first (request_units keys now)))
+      → pieces_of targets (drop first (request_units keys before)) ≡ piece_part keys now first count ∷ pieces_of targets (drop (first + count) (request_units keys before))
   next_piece before now first count tags is =
-      let same : units_in keys now ≡ units_in keys before = ap (units_of_request keys) tags in
+      let same : request_units keys now ≡ request_units keys before = ap (units_of_request keys) tags in
       sym (ap (λ us. pieces_of targets (drop first us)) same) ∙ is
-      ∙ ap (λ us. part_of keys now first count ∷ pieces_of targets us) (drop_drop (units_in keys now) first count ∙ ap (λ us. drop (first + count) us) same)
+      ∙ ap (λ us. piece_part keys now first count ∷ pieces_of targets us) (drop_drop (request_units keys now) first count ∙ ap (λ us. drop (first + count) us) same)
 
   pub carried_more : (old mid new : DeviceFacts) (before now after : RequestParts) (first device count : ℕ) → HasCarried Exact keys targets old mid before now first
-      → pieces_of targets (drop first (units_in keys now)) ≡ part_of keys now first count ∷ pieces_of targets (drop count (drop first (units_in keys now)))
-      → device < length targets → IsOnDevice keys targets now first device → 1 ≤ count → first + count ≤ count_units (tagged_bios now.bios) → CarriesPiece mid new now after first device count → Exact mid new device (part_of keys now first count)
+      → pieces_of targets (drop first (request_units keys now)) ≡ piece_part keys now first count ∷ pieces_of targets (drop count (drop first (request_units keys now)))
+      → device < length targets → IsOnDevice keys targets now first device → 1 ≤ count → first + count ≤ count_units (tagged_bios now.bios) → CarriesPiece mid new now after first device count → Exact mid new device (piece_part keys now first count)
       → HasCarried Exact keys targets old new before after (first + count)
   carried_more old mid new before now after first device count h is there on some within s exact =
-      let piece : List NamedUnit = part_of keys now first count in
+      let piece : List NamedUnit = piece_part keys now first count in
       let units = length-units_of_request keys (tagged_bios now.bios) in
-      let len : length piece ≡ count = length_part (units_in keys now) first count (omega (arith, units, within)) in
+      let len : length piece ≡ count = length_part (request_units keys now) first count (omega (arith, units, within)) in
       let many = ap count_units h.bios in
       let sum = sum_end h.done piece in record {
         done = h.done ++ piece ∷ [];
@@ -195,14 +179,14 @@ module _ (Exact : DeviceFacts → DeviceFacts → ℕ → List NamedUnit → Typ
         carried = carries_more old mid new before now after 0 first h.done piece h.carried (omega (arith, h.reaches)) (record {
           device = device;
           has_device = there;
-          on_device = λ n least below. on_device targets (units_in keys now) first count device n (pieces_of targets (drop count (drop first (units_in keys now)))) is on (omega (arith, units, within)) least (omega (arith, len, below));
+          on_device = λ n least below. on_device targets (request_units keys now) first count device n (pieces_of targets (drop count (drop first (request_units keys now)))) is on (omega (arith, units, within)) least (omega (arith, len, below));
           some = omega (arith, len, some);
-          piece_is = ap (λ k. part_of keys now first k) (sym len);
+          piece_is = ap (λ k. piece_part keys now first k) (sym len);
           carries = subst (λ k. CarriesPiece mid new now after first device k) (sym len) s;
           exact = exact;
         });
         reaches = omega (arith, sum, len, h.reaches);
-        whole = h.whole ∙ ap (λ l. h.done ++ l) (next_piece before now first count h.bios is) ∙ sym (append_assoc h.done (piece ∷ []) (pieces_of targets (drop (first + count) (units_in keys before))));
+        whole = h.whole ∙ ap (λ l. h.done ++ l) (next_piece before now first count h.bios is) ∙ sym (append_assoc h.done (piece ∷ []) (pieces_of targets (drop (first + count) (request_units keys before))));
         keys_are = s.same.keys ∙ h.keys_are;
         targets_are = s.same.targets ∙ h.targets_are;
         bios = s.carries.bios ∙ h.bios;
@@ -212,5 +196,5 @@ module _ (Exact : DeviceFacts → DeviceFacts → ℕ → List NamedUnit → Typ
   pub carried_all : (old new : DeviceFacts) (before after : RequestParts) (first : ℕ) → HasCarried Exact keys targets old new before after first → count_units (tagged_bios before.bios) ≤ first → CarriesPieces Exact keys targets old new before after 0 (pieces_in keys targets before)
   carried_all old new before after first h past =
       let units = length-units_of_request keys (tagged_bios before.bios) in
-      let none = drop_all (units_in keys before) first (omega (arith, units, past)) in
+      let none = drop_all (request_units keys before) first (omega (arith, units, past)) in
       subst (λ ps. CarriesPieces Exact keys targets old new before after 0 ps) (sym (h.whole ∙ ap (λ us. h.done ++ pieces_of targets us) none ∙ append-nil h.done)) h.carried

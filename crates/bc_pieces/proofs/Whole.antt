@@ -1,6 +1,6 @@
 -- The pieces of a request, as one.
-use Rattle.std.proofs.Common.{◌≡◌, ℕ, zero, suc, ◌+◌, ◌<◌, ◌≤◌, inl, inr, Bool, true, false, cond, not, List, [], ◌∷◌, ◌++◌, length, take, drop, map, append-nil, append_assoc, refl, sym, ap, subst, ◌∙◌, arith, Option, Some, length-drop}
-use Rattle.std.specs.Prelude.{filter, slice_get, sum_by}
+use Rattle.std.proofs.Common.{◌≡◌, ℕ, zero, suc, ◌+◌, ◌<◌, ◌≤◌, inl, inr, Bool, true, false, cond, not, List, [], ◌∷◌, ◌++◌, length, take, drop, map, append-nil, append_assoc, refl, sym, ap, subst, ◌∙◌, arith, length-drop}
+use Rattle.std.specs.Prelude.{filter, sum_by}
 use Rattle.std.specs.List.{AllZip, range_with_len}
 use Rattle.std.proofs.Math.Logic.{⊎_elim}
 use Rattle.std.proofs.lemmas.Bool.{cases_lt}
@@ -9,63 +9,38 @@ use Rattle.std.proofs.lemmas.List.Sums.{sum_by-cons, fold-append}
 use Rattle.bc_base.specs.Lists.{Each, list_at}
 use Rattle.bc_base.specs.Story.{StartsWith}
 use Rattle.bc_key.specs.KeyData.{KeyData}
-use Rattle.bc_bio.specs.declared.access.Access.{Access}
-use Rattle.bc_bio.specs.declared.unit.Unit.{Unit}
 use Rattle.bc_bio.specs.declared.marked_bio.MarkedBio.{MarkedBio}
-use Rattle.bc_bio.specs.PlannedUnit.{PlannedUnit}
 use Rattle.bc_bio.specs.Windows.{NamedUnit, TaggedBio, count_units}
 use Rattle.bc_bio.specs.Requests.{RequestParts, tagged_bios, place_of, is_after, is_over, unit_in}
 use Rattle.bc_medium.specs.declared.entry.Entry.{Entry}
 use Rattle.bc_medium.specs.declared.unit_name.UnitName.{UnitName}
 use Rattle.bc_medium.specs.declared.via.Via.{Via}
 use Rattle.bc_medium.specs.declared.via.Via.TheVariants as ways
-use Rattle.bc_medium.specs.Entries.{name_of_entry}
 use Rattle.bc_medium.specs.Growth.{failed_names, Attempts, IsEntryOf}
-use Rattle.bc_medium.specs.LawfulOrders.{name_of, is_attempted}
+use Rattle.bc_medium.specs.LawfulOrders.{unit_name_of, is_attempted}
 use Rattle.bc_medium.specs.Laws.{AnswersStay}
 use Rattle.bc_profile.specs.Laws.{HoldsNameProgrammings, LaterHoldsNameLater}
 use Rattle.bc_stack.specs.declared.target.Target.{Target}
-use Rattle.bc_queue.specs.RequestUnits.{named_at, access_at, written_bytes, planned_at, planned_part, faults_of, with_fault_at, with_faults, attempted_in, failed_among}
-use Rattle.bc_queue.specs.Carrying.{AccessFacts, GoesOn, IsCarried, CarriesOut, answer_of}
+use Rattle.bc_queue.specs.RequestUnits.{planned_at, planned_part, faults_of, with_fault_at, with_faults, attempted_in, failed_among}
+use Rattle.bc_queue.specs.Carrying.{AccessFacts, HasSameWay, IsCarried, CarriesOut}
 use Rattle.bc_queue.specs.Laws.{AttemptedByNames, TagsDiffer, MarkSame}
-use Rattle.bc_queue.proofs.Lists.{at_append, zip_append, zip_more, range_split, each_filter, each_range, filter_same}
+use Rattle.bc_queue.proofs.Lists.{zip_more, range_split, each_filter, each_range, filter_same}
 use Rattle.bc_queue.proofs.Marks.{over, over_is}
-use Rattle.bc_queue.proofs.Growing.{told_more}
-use Rattle.bc_queue.proofs.Walk.{same_access_at, same_named_at}
+use Rattle.bc_queue.proofs.Walk.{same_named_at, same_planned, carried_more}
 use Rattle.bc_stack.specs.Pieces.{pieces_of}
-use Rattle.bc_pieces.specs.Pieces.{DeviceFacts, CarriesFirst, CarriesPieces, HasCarried, pieces_in, units_in, part_of, access_by}
-use Rattle.bc_pieces.specs.Told.{Tells}
-use Rattle.bc_pieces.specs.Attempted.{by_way, IsCarriedItsWay, CarriesUnits, CarriesWhole, HasNoFault, IsWhole}
-use Rattle.bc_pieces.proofs.Walk.{drop_all, length-units_of_request}
+use Rattle.bc_pieces.specs.Pieces.{DeviceFacts, CarriesFirst, CarriesPieces, HasCarried, pieces_in, request_units, piece_part, access_by}
+use Rattle.bc_pieces.specs.PieceEffects.{AddsByDevice}
+use Rattle.bc_pieces.specs.AttemptedRequest.{by_way, IsCarriedItsWay, CarriesUnits, CarriesWhole, HasNoFault, IsWholeRequest}
+use Rattle.bc_pieces.proofs.Walk.{drop_all}
 use Rattle.bc_pieces.proofs.Telling.{tells_none, tells_more}
 use Rattle.bc_pieces.proofs.Marks.{all_stay, failed_within, failed_append, names_append, no_fault_at}
 use Rattle.bc_pieces.proofs.Becoming.{becomes_all, marks_all}
+use Rattle.bc_base.proofs.Members.{zip_append}
+use Rattle.bc_stack.proofs.PieceLaws.{length-units_of_request}
 
 -- ---- one unit, over longer orders, and of the request as it was at first
 
-carried_more : AnswersStay → (facts : AccessFacts) (seen seen' : List (List Entry)) (old mid new : List MarkedBio) (n : ℕ) (e : Entry) → ((shard : ℕ) → StartsWith (list_at seen' shard) (list_at seen shard))
-    → unit_in new n ≡ unit_in mid n → IsCarried facts seen old mid n e → IsCarried facts seen' old new n e
-carried_more stay facts seen seen' old mid new n e fronts same c =
-    let begins = fronts c.place.shard in record {
-      entry = c.entry;
-      way = c.way;
-      place = c.place;
-      shard = c.shard;
-      stands = subst (λ l. slice_get l c.place.index ≡ Some e) (sym begins.1) (at_append (list_at seen c.place.shard) begins.0 c.place.index e c.stands);
-      bytes = c.bytes;
-      content = same ∙ c.content;
-      full = c.full;
-      back = c.back;
-      told = told_more stay facts.keys (facts.opening c.place.shard) (list_at seen c.place.shard) (list_at seen' c.place.shard) c.place.index (name_of_entry e) (answer_of e.access e.failed c.bytes) begins c.told;
-    }
-
-same_planned : (keys : List KeyData) (old new : List MarkedBio) (n : ℕ) → tagged_bios new ≡ tagged_bios old → unit_in new n ≡ unit_in old n → planned_at keys new n ≡ planned_at keys old n
-same_planned keys old new n tags unit =
-    ap (λ (u : NamedUnit). let p : PlannedUnit = record { tag = u.tag; unit = u.unit; access = access_at new n; context = u.context; sector = u.sector; bytes = written_bytes (access_at new n) (unit_in new n) } in p) (same_named_at keys old new n tags)
-    ∙ ap (λ (a : Access). let p : PlannedUnit = record { tag = (named_at keys old n).tag; unit = (named_at keys old n).unit; access = a; context = (named_at keys old n).context; sector = (named_at keys old n).sector; bytes = written_bytes a (unit_in new n) } in p) (same_access_at old new n tags)
-    ∙ ap (λ (x : Option Unit). let p : PlannedUnit = record { tag = (named_at keys old n).tag; unit = (named_at keys old n).unit; access = access_at old n; context = (named_at keys old n).context; sector = (named_at keys old n).sector; bytes = written_bytes (access_at old n) x } in p) unit
-
-carried_first : (facts mid : AccessFacts) (seen : List (List Entry)) (first old new : List MarkedBio) (n : ℕ) (e : Entry) → GoesOn facts mid → tagged_bios old ≡ tagged_bios first → unit_in old n ≡ unit_in first n
+carried_first : (facts mid : AccessFacts) (seen : List (List Entry)) (first old new : List MarkedBio) (n : ℕ) (e : Entry) → HasSameWay facts mid → tagged_bios old ≡ tagged_bios first → unit_in old n ≡ unit_in first n
     → IsCarried mid seen old new n e → IsCarried facts seen first new n e
 carried_first facts mid seen first old new n e goes tags unit c =
     let d : IsCarried (record facts { seen = mid.seen; spare = mid.spare }) seen old new n e = subst (λ f. IsCarried f seen old new n e) goes c in record {
@@ -83,7 +58,7 @@ carried_first facts mid seen first old new n e goes tags unit c =
 
 -- ---- units of one way are units each of its own
 
-zip_each : {X Y : Type 0} (R S : X → Y → Type 0) (xs : List X) (ys : List Y) → ((x : X) (y : Y) → R x y → S x y) → AllZip R xs ys → AllZip S xs ys
+pub zip_each : {X Y : Type 0} (R S : X → Y → Type 0) (xs : List X) (ys : List Y) → ((x : X) (y : Y) → R x y → S x y) → AllZip R xs ys → AllZip S xs ys
 zip_each R S [] [] f all = tt
 zip_each R S [] (y ∷ ys) f all = absurd all
 zip_each R S (x ∷ xs) [] f all = absurd all
@@ -116,7 +91,7 @@ units_none old new request first = record {
 }
 
 module _ (stay : AnswersStay) (old mid new : AccessFacts) (before now after : RequestParts) (first count more : ℕ) (es fs : List Entry) where
-  pub units_append : ((via : Via) → GoesOn (by_way via old) (by_way via mid)) → ((shard : ℕ) → StartsWith (list_at new.seen shard) (list_at mid.seen shard))
+  pub units_append : ((via : Via) → HasSameWay (by_way via old) (by_way via mid)) → ((shard : ℕ) → StartsWith (list_at new.seen shard) (list_at mid.seen shard))
       → CarriesUnits old mid before now first count es → CarriesUnits mid new now after (first + count) more fs → CarriesUnits old new before after first (count + more) (es ++ fs)
   units_append goes fronts p q =
       let next : ℕ = first + count in
@@ -176,12 +151,12 @@ take_short [] (suc k) = omega arith
 take_short (x ∷ xs) zero = omega arith
 take_short (x ∷ xs) (suc k) = let rest = take_short xs k in omega (arith, rest)
 
-piece_within : (keys : List KeyData) (request : RequestParts) (first : ℕ) (piece : List NamedUnit) → piece ≡ part_of keys request first (length piece) → first ≤ count_units (tagged_bios request.bios) → first + length piece ≤ count_units (tagged_bios request.bios)
+piece_within : (keys : List KeyData) (request : RequestParts) (first : ℕ) (piece : List NamedUnit) → piece ≡ piece_part keys request first (length piece) → first ≤ count_units (tagged_bios request.bios) → first + length piece ≤ count_units (tagged_bios request.bios)
 piece_within keys request first piece is within =
     let units = length-units_of_request keys (tagged_bios request.bios) in
-    let left = length-drop first (units_in keys request) in
-    let short = take_short (drop first (units_in keys request)) (length piece) in
-    let same : length piece ≡ length (part_of keys request first (length piece)) = ap length is in
+    let left = length-drop first (request_units keys request) in
+    let short = take_short (drop first (request_units keys request)) (length piece) in
+    let same : length piece ≡ length (piece_part keys request first (length piece)) = ap length is in
     omega (arith, units, left, short, same, within)
 
 fresh : (keys : List KeyData) (caller : ℕ) (bios : List MarkedBio) → HasNoFault bios → MarkSame keys caller [] bios
@@ -189,7 +164,7 @@ fresh keys caller bios none n within = ap not (sym (over_is bios n ∙ ap (is_af
 
 -- what pieces tell; what became of the units; and that the marks are those of the failed entries' names
 pub record Follows (old new : DeviceFacts) (before after : RequestParts) (first count : ℕ) (pieces : List (List NamedUnit)) : Type 0 where
-  pub tells : Tells old new pieces
+  pub tells : AddsByDevice old new pieces
   pub units : CarriesUnits old.access new.access before after first count tells.made
   pub marks : (met : List UnitName) → TagsDiffer (tagged_bios before.bios) → MarkSame old.access.keys old.access.caller met before.bios → MarkSame old.access.keys old.access.caller (met ++ failed_names tells.made) after.bios
 
@@ -254,20 +229,20 @@ attempts_all : (old new : AccessFacts) (before after : RequestParts) (made : Lis
 attempts_all old new before after made units marks =
     let total : ℕ = count_units (tagged_bios before.bios) in
     let many : count_units (tagged_bios after.bios) ≡ total = ap count_units units.bios in
-    let test : ℕ → Bool = λ n. is_attempted (failed_names made) (name_of old.caller (planned_at old.keys before.bios n)) in
+    let test : ℕ → Bool = λ n. is_attempted (failed_names made) (unit_name_of old.caller (planned_at old.keys before.bios n)) in
     let named : (n : ℕ) → n < total → test n ≡ not (is_over after.bios n) = λ n within.
     ap (λ (u : NamedUnit). is_attempted (failed_names made) (record { thread = old.caller; op = u.tag; unit = u.unit })) (sym (same_named_at old.keys before.bios after.bios n units.bios))
     ∙ marks n (omega (arith, within, many)) in
     let numbers : filter test (range_with_len 0 total) ≡ attempted_in after.bios 0 total =
     filter_same test (λ n. not (is_over after.bios n)) (range_with_len 0 total) (each_range (λ n. test n ≡ not (is_over after.bios n)) 0 total (λ k from below. named k (omega (arith, below)))) in
     subst (λ us. AllZip (IsEntryOf old.caller) us made)
-    (sym (filter_mapped (planned_at old.keys before.bios) (λ u. is_attempted (failed_names made) (name_of old.caller u)) (range_with_len 0 total) ∙ ap (map (planned_at old.keys before.bios)) numbers))
+    (sym (filter_mapped (planned_at old.keys before.bios) (λ u. is_attempted (failed_names made) (unit_name_of old.caller u)) (range_with_len 0 total) ∙ ap (map (planned_at old.keys before.bios)) numbers))
     (entries_of old new.seen before.bios after.bios (attempted_in after.bios 0 total) made units.carried)
 
 -- ---- a whole request
 
 whole_of : (old new : AccessFacts) (before after : RequestParts) (made : List Entry) → CarriesUnits old new before after 0 (count_units (tagged_bios before.bios)) made → (TagsDiffer (tagged_bios before.bios) → MarkSame old.keys old.caller (failed_names made) after.bios)
-    → HasNoFault before.bios → IsWhole old new before after made
+    → HasNoFault before.bios → IsWholeRequest old new before after made
 whole_of old new before after made units marks none = record {
   attempts = λ differ. attempts_all old new before after made units (marks differ);
   marks = λ differ. marks_all old new before after made units none differ;
@@ -285,7 +260,7 @@ carries_whole stay law name name_later Exact keys targets old new before after p
       whole = λ none. whole_of old.access new.access before after f.tells.made f.units (λ differ. f.marks [] differ (fresh old.access.keys old.access.caller before.bios none)) none;
     }
 
-pub one_way : AttemptedByNames → (old new : AccessFacts) (before after : RequestParts) (p : CarriesOut old new before after 0 (count_units (tagged_bios before.bios))) → HasNoFault before.bios → IsWhole old new before after p.made
+pub one_way : AttemptedByNames → (old new : AccessFacts) (before after : RequestParts) (p : CarriesOut old new before after 0 (count_units (tagged_bios before.bios))) → HasNoFault before.bios → IsWholeRequest old new before after p.made
 one_way law old new before after p none =
     let total : ℕ = count_units (tagged_bios before.bios) in
     whole_of old new before after p.made (each_its_way old new before after 0 total p)
@@ -296,6 +271,6 @@ pub pieces_reach : (Exact : DeviceFacts → DeviceFacts → ℕ → List NamedUn
     → sum_by length (pieces_in keys targets before) ≡ count_units (tagged_bios before.bios)
 pieces_reach Exact keys targets old new before after first h past =
     let units = length-units_of_request keys (tagged_bios before.bios) in
-    let none = drop_all (units_in keys before) first (omega (arith, units, past)) in
+    let none = drop_all (request_units keys before) first (omega (arith, units, past)) in
     let same : pieces_in keys targets before ≡ h.done = h.whole ∙ ap (λ us. h.done ++ pieces_of targets us) none ∙ append-nil h.done in
     ap (λ (ps : List (List NamedUnit)). sum_by length ps) same ∙ omega (arith, h.reaches, h.within, past)

@@ -18,8 +18,8 @@ use Rattle.bc_medium.specs.declared.entry.Entry.{Entry}
 use Rattle.bc_medium.specs.Entries.{IsToldAt}
 use Rattle.bc_medium.specs.Growth.{Knows, failed_names}
 use Rattle.bc_medium.specs.KeyedDisk.{Sectors, UnitAnswer, Faulted, Written, Text}
-use Rattle.bc_medium.specs.LawfulOrders.{name_of}
-use Rattle.bc_medium.specs.Places.{shard_of}
+use Rattle.bc_medium.specs.LawfulOrders.{unit_name_of}
+use Rattle.bc_medium.specs.Layout.{shard_of}
 use Rattle.bc_queue.specs.RequestUnits.{written_bytes}
 use Rattle.bc_queue.specs.Carrying.{AccessFacts, answer_of, content_of}
 
@@ -36,7 +36,7 @@ planned_in keys bio i =
     }
 
 -- Unit number i of a bio was attempted, and met a fault or none: at this place of its shard's order the keyed disk
--- answers it so, and so does what its caller knows, where the sectors at opening are told. A read that met none has
+-- answers it so, and so does what its caller knows, where the sectors at opening are reported. A read that met none has
 -- then the bytes that it was answered with; of a write the bytes are in the order, or its own again after a fault.
 pub record IsAnswered (facts : AccessFacts) (seen : List (List Entry)) (old new : Bio) (i : ℕ) (failed : Bool)
     : Type 0 where
@@ -47,12 +47,12 @@ pub record IsAnswered (facts : AccessFacts) (seen : List (List Entry)) (old new 
   pub full : IsFull (unit_sectors facts.keys (planned_in facts.keys old i).context) (Full bytes)
   pub written : old.access ≡ Write → At old.units i (Full bytes)
   pub told : IsToldAt facts.keys (facts.opening place.shard) (list_at seen place.shard) place.index
-      (name_of facts.caller (planned_in facts.keys old i)) (answer_of old.access failed bytes)
+      (unit_name_of facts.caller (planned_in facts.keys old i)) (answer_of old.access failed bytes)
   pub known : (base : ℕ → Sectors) → facts.opening place.shard ≡ Some (base place.shard)
       → Knows facts.keys facts.shards base facts.caller seen (planned_in facts.keys old i)
       (answer_of old.access failed bytes)
 
--- the first of a bio's units that met a fault is this one: those before it met none, and those behind it are as they
+-- the first of a bio's units that met a fault is this one: those before it met none, and those after it are as they
 -- were
 pub record IsStopped (facts : AccessFacts) (seen : List (List Entry)) (old new : Bio) (unit : ℕ) : Type 0 where
   pub within : unit < length old.units
@@ -64,7 +64,7 @@ pub record IsStopped (facts : AccessFacts) (seen : List (List Entry)) (old new :
 abbrev pub planned_units : List KeyData → Bio → List PlannedUnit
 planned_units keys bio = map (planned_in keys bio) (range_with_len 0 (length bio.units))
 
--- the shard of each sector had these sectors at opening, and that is told
+-- the shard of each sector had these sectors at opening, and that is reported
 abbrev pub OpensWith : AccessFacts → (ℕ → Sectors) → Type 0
 OpensWith facts base =
     (sector : ℕ) → facts.opening (shard_of facts.shards sector) ≡ Some (base (shard_of facts.shards sector))
@@ -89,7 +89,7 @@ KnowsFault facts seen base old unit =
     × KnowsUnit facts seen base (planned_in facts.keys old unit) Faulted
 
 -- What became of a bio: with no mark, each of its units was carried out without a fault; a mark is the number of the
--- first unit that met one. Its caller knows just that, where the sectors at opening are told.
+-- first unit that met one. Its caller knows just that, where the sectors at opening are reported.
 pub record Becomes (facts : AccessFacts) (seen : List (List Entry)) (old new : MarkedBio) : Type 0 where
   pub same : tagged_of new.bio ≡ tagged_of old.bio
   pub outcome : MatchOption new.fault

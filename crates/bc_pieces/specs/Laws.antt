@@ -10,15 +10,15 @@ use Rattle.bc_bio.specs.Windows.{count_units}
 use Rattle.bc_medium.specs.declared.entry.Entry.{Entry}
 use Rattle.bc_medium.specs.declared.via.Via.{Via}
 use Rattle.bc_queue.specs.RequestUnits.{planned_part}
-use Rattle.bc_queue.specs.Carrying.{AccessFacts, CarriesOut, GoesOn}
-use Rattle.bc_pieces.specs.Attempted.{by_way, CarriesUnits, HasNoFault, IsWhole}
+use Rattle.bc_queue.specs.Carrying.{AccessFacts, CarriesOut, HasSameWay}
+use Rattle.bc_pieces.specs.AttemptedRequest.{by_way, CarriesUnits, HasNoFault, IsWholeRequest}
 use Rattle.bc_pieces.specs.Becoming.{Becomes, planned_units}
 
 -- two parts of a request, one after the other, are one part
 abbrev pub PartsAppend : Type 0
 PartsAppend =
     (old mid new : AccessFacts) (before now after : RequestParts) (first count more : ℕ) (es fs : List Entry)
-    → ((via : Via) → GoesOn (by_way via old) (by_way via mid))
+    → ((via : Via) → HasSameWay (by_way via old) (by_way via mid))
     → ((shard : ℕ) → StartsWith (list_at new.seen shard) (list_at mid.seen shard))
     → CarriesUnits old mid before now first count es → CarriesUnits mid new now after (first + count) more fs
     → CarriesUnits old new before after first (count + more) (es ++ fs)
@@ -42,4 +42,4 @@ abbrev pub OneWayIsWhole : Type 0
 OneWayIsWhole =
     (old new : AccessFacts) (before after : RequestParts)
     (carries : CarriesOut old new before after 0 (count_units (tagged_bios before.bios)))
-    → HasNoFault before.bios → IsWhole old new before after carries.made
+    → HasNoFault before.bios → IsWholeRequest old new before after carries.made

@@ -1,6 +1,6 @@
 pub mod Pieces
-pub mod Told
+pub mod PieceEffects
 pub mod Becoming
-pub mod Attempted
+pub mod AttemptedRequest
 pub mod Laws
 pub mod ManyCallers

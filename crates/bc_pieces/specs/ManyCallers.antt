@@ -5,7 +5,7 @@ use Rattle.bc_base.specs.Lists.{AllAt, Each}
 use Rattle.bc_base.specs.Sectors.{Sectors}
 use Rattle.bc_bio.specs.declared.context.Context.{Context}
 use Rattle.bc_bio.specs.Windows.{NamedUnit}
-use Rattle.bc_turn.specs.Parts.{Pass}
+use Rattle.bc_turn.specs.PassParts.{Pass}
 use Rattle.bc_medium.specs.declared.entry.Entry.{Entry}
 use Rattle.bc_medium.specs.declared.via.Via.TheVariants as ways
 use Rattle.bc_medium.specs.Medium.{OpeningData, shards_of}

@@ -1,6 +1,7 @@
 -- What carrying out a request over the devices of a disk does, whatever a caller's way to them: the pieces of the
 -- request, one after the other, each by its device under one hold of its key.
-use Rattle.std.specs.Prelude.{◌≡◌, ℕ, ◌+◌, ◌<◌, ◌≤◌, ◌==◌, Bool, false, List, [], ◌∷◌, ◌++◌, filter, length, take, drop, slice_get, sum_by, Option, Some, if◌then◌else◌}
+use Rattle.std.specs.Prelude.{◌≡◌, ℕ, ◌+◌, ◌<◌, ◌≤◌, ◌==◌, Bool, false, List, [], ◌∷◌, ◌++◌, filter, length, take, drop}
+use Rattle.std.specs.Prelude.{slice_get, sum_by, Option, Some, if◌then◌else◌}
 use Rattle.std.specs.Option.{option_map, option_map_or}
 use Rattle.bc_base.specs.Lists.{Each, list_at}
 use Rattle.bc_base.specs.Story.{own, StartsWith}
@@ -8,7 +9,7 @@ use Rattle.bc_key.specs.KeyData.{KeyData}
 use Rattle.bc_bio.specs.declared.context.Context.{Context}
 use Rattle.bc_bio.specs.Windows.{NamedUnit, count_units, units_of_request}
 use Rattle.bc_bio.specs.Requests.{RequestParts, tagged_bios, unit_in}
-use Rattle.bc_medium.specs.Places.{shard_of}
+use Rattle.bc_medium.specs.Layout.{shard_of}
 use Rattle.bc_medium.specs.declared.via.Via.{Via}
 use Rattle.bc_medium.specs.declared.via.Via.TheVariants as ways
 use Rattle.bc_profile.specs.declared.event.Event.{Event}
@@ -19,7 +20,7 @@ use Rattle.bc_profile.specs.Story.{Holds, author_of, notes}
 use Rattle.bc_stack.specs.declared.target.Target.{Target}
 use Rattle.bc_stack.specs.Pieces.{device_of, LiesOnDevice, pieces_of}
 use Rattle.bc_queue.specs.RequestUnits.{named_at}
-use Rattle.bc_queue.specs.Carrying.{AccessFacts, CarriesOut, IsPerformable}
+use Rattle.bc_queue.specs.Carrying.{AccessFacts, CarriesOut, IsPerformableUnit}
 use Rattle.bc_queue.specs.Queues.{IsUnderKey}
 
 -- a caller's way to the devices of a disk: its way to the data units, where that of a unit is left open; the devices'
@@ -43,12 +44,12 @@ pub record SameDisk (old new : DeviceFacts) : Type 0 where
   pub slots : new.slots ≡ old.slots
 
 -- the data units of a request
-abbrev pub units_in : List KeyData → RequestParts → List NamedUnit
-units_in keys request = units_of_request keys (tagged_bios request.bios)
+abbrev pub request_units : List KeyData → RequestParts → List NamedUnit
+request_units keys request = units_of_request keys (tagged_bios request.bios)
 
 -- its pieces
 abbrev pub pieces_in : List KeyData → List Target → RequestParts → List (List NamedUnit)
-pieces_in keys targets request = pieces_of targets (units_in keys request)
+pieces_in keys targets request = pieces_of targets (request_units keys request)
 
 -- how many of these units lie in a shard
 abbrev pub named_on : ℕ → ℕ → List NamedUnit → ℕ
@@ -69,13 +70,13 @@ abbrev pub pieces_on : List Target → ℕ → List (List NamedUnit) → ℕ
 pieces_on targets device pieces = length (filter (is_piece_on targets device) pieces)
 
 -- so many of its units, from this number on
-abbrev pub part_of : List KeyData → RequestParts → ℕ → ℕ → List NamedUnit
-part_of keys request first count = take count (drop first (units_in keys request))
+abbrev pub piece_part : List KeyData → RequestParts → ℕ → ℕ → List NamedUnit
+piece_part keys request first count = take count (drop first (request_units keys request))
 
 -- unit number n of a request lies on this device
 abbrev pub IsOnDevice : List KeyData → List Target → RequestParts → ℕ → ℕ → Type 0
 IsOnDevice keys targets request n device =
-    option_map (device_of targets) (slice_get (units_in keys request) n) ≡ Some device
+    option_map (device_of targets) (slice_get (request_units keys request) n) ≡ Some device
 
 -- what one hold adds to a device's journal: at most the programming of the slot with the key, and then that it is idle
 pub record AreOfOneHold (key slot : ℕ) (made : List Event) : Type 0 where
@@ -124,7 +125,7 @@ pub record CarriesFirst (Exact : DeviceFacts → DeviceFacts → ℕ → List Na
   pub has_device : device < length targets
   pub on_device : (n : ℕ) → first ≤ n → n < first + length piece → IsOnDevice keys targets before n device
   pub some : 1 ≤ length piece
-  pub piece_is : piece ≡ part_of keys before first (length piece)
+  pub piece_is : piece ≡ piece_part keys before first (length piece)
   pub carries : CarriesPiece old new before after first device (length piece)
   pub exact : Exact old new device piece
 
@@ -142,7 +143,7 @@ pub record GoesByDevices (keys : List KeyData) (targets : List Target) (Takes : 
   pub located : (n : ℕ) → n < count_units (tagged_bios request.bios)
       → LiesOnDevice keys targets (tagged_bios request.bios) n
   pub taken : (n device : ℕ) → n < count_units (tagged_bios request.bios) → IsOnDevice keys targets request n device
-      → IsPerformable keys (Takes device) request.bios n
+      → IsPerformableUnit keys (Takes device) request.bios n
 
 -- Private: of a request the units below this number were carried out by pieces, and those from there on are as they
 -- were.
@@ -152,7 +153,7 @@ pub record HasCarried (Exact : DeviceFacts → DeviceFacts → ℕ → List Name
   pub within : first ≤ count_units (tagged_bios before.bios)
   pub carried : CarriesPieces Exact keys targets old now before after 0 done
   pub reaches : sum_by length done ≡ first
-  pub whole : pieces_in keys targets before ≡ done ++ pieces_of targets (drop first (units_in keys before))
+  pub whole : pieces_in keys targets before ≡ done ++ pieces_of targets (drop first (request_units keys before))
   pub keys_are : now.access.keys ≡ keys
   pub targets_are : now.targets ≡ targets
   pub bios : tagged_bios after.bios ≡ tagged_bios before.bios

@@ -5,7 +5,7 @@ ghost use Rattle.bc_bio.specs.declared.context.Context.{Context};
 ghost use Rattle.bc_bio.specs.Windows.{IsRequest, NamedUnit, count_units};
 ghost use Rattle.bc_bio.specs.Requests.{tagged_bios};
 ghost use Rattle.bc_queue.specs.Carrying.{ArePerformable};
-ghost use Rattle.bc_pieces.specs.Pieces.{CarriesPiece, DeviceFacts, IsOnDevice, part_of};
+ghost use Rattle.bc_pieces.specs.Pieces.{CarriesPiece, DeviceFacts, IsOnDevice, piece_part};
 
 use bc_bio::Request;
 use bc_key::Keys;
@@ -52,13 +52,13 @@ pub trait DeviceAccess<R, P> {
             IsOnDevice keys.now.keys (facts self.now pass.old).targets request.old n device }
         requires units { ArePerformable keys.now.keys (takes self.now device) request.old.bios first count }
         requires room { (rest : List (List NamedUnit)) ×
-            affords self.now pass.old (part_of keys.now.keys request.old first count ∷ rest) }
+            affords self.now pass.old (piece_part keys.now.keys request.old first count ∷ rest) }
         ensures ready { is_ready self.now pass.new }
         ensures carries { CarriesPiece (facts self.now pass.old) (facts self.now pass.new) request.old request.new first
             device count }
         ensures room { (rest : List (List NamedUnit)) →
-            affords self.now pass.old (part_of keys.now.keys request.old first count ∷ rest) →
+            affords self.now pass.old (piece_part keys.now.keys request.old first count ∷ rest) →
             affords self.now pass.new rest }
         ensures exact { exact (facts self.now pass.old) (facts self.now pass.new) device
-            (part_of keys.now.keys request.old first count) };
+            (piece_part keys.now.keys request.old first count) };
 }

@@ -4,7 +4,7 @@ ghost use Rattle.std.specs.Prelude.{◌≡◌, List, ◌++◌};
 ghost use Rattle.bc_bio.specs.Windows.{IsRequest, NamedUnit};
 ghost use Rattle.bc_bio.specs.Requests.{tagged_bios};
 ghost use Rattle.bc_pieces.specs.Pieces.{GoesByDevices, pieces_in};
-ghost use Rattle.bc_pieces.specs.Attempted.{CarriesWhole};
+ghost use Rattle.bc_pieces.specs.AttemptedRequest.{CarriesWhole};
 ghost use Rattle.bc_pieces.specs.ManyCallers.{HaveControllers, HasRoomFor, IsReady, TakesOn, devices_of, facts_over};
 
 use crate::{DeviceAccess, carry_out_pieces};

@@ -4,8 +4,8 @@ ghost use Rattle.std.specs.Prelude.{◌≡◌, List, ◌++◌};
 ghost use Rattle.bc_bio.specs.Windows.{IsRequest, NamedUnit};
 ghost use Rattle.bc_bio.specs.Requests.{tagged_bios};
 ghost use Rattle.bc_pieces.specs.Pieces.{CarriesPieces, GoesByDevices, pieces_in};
-ghost use Rattle.bc_pieces.specs.Told.{Tells};
-ghost use Rattle.bc_pieces.specs.Attempted.{CarriesWhole};
+ghost use Rattle.bc_pieces.specs.PieceEffects.{AddsByDevice};
+ghost use Rattle.bc_pieces.specs.AttemptedRequest.{CarriesWhole};
 
 use crate::DeviceAccess;
 use bc_bio::Request;
@@ -37,7 +37,7 @@ pub fn carry_out_pieces<R, P, A: DeviceAccess<R, P>>(
     ensures carries { CarriesPieces A.exact keys.now.keys stack.now.targets (A.facts access.now pass.old)
         (A.facts access.now pass.new) request.old request.new 0
         (pieces_in keys.now.keys stack.now.targets request.old) }
-    ensures tells { Tells (A.facts access.now pass.old) (A.facts access.now pass.new)
+    ensures tells { AddsByDevice (A.facts access.now pass.old) (A.facts access.now pass.new)
         (pieces_in keys.now.keys stack.now.targets request.old) }
     ensures whole { CarriesWhole (A.facts access.now pass.old) (A.facts access.now pass.new) request.old request.new
         (pieces_in keys.now.keys stack.now.targets request.old) }

@@ -9,7 +9,7 @@ use Rattle.bc_profile.specs.declared.noted.Noted.{Noted}
 use Rattle.bc_profile.specs.declared.skips.Skip.{Skip}
 use Rattle.bc_profile.specs.SlotJournal.{Slots, Allowed, MayProgram, InNoSlot, after_event, key_of}
 use Rattle.bc_profile.specs.SlotTable.{TableData}
-use Rattle.bc_profile.specs.Stamps.{IsTold, Named}
+use Rattle.bc_profile.specs.Stamps.{MatchesJournal, Named}
 use Rattle.bc_profile.specs.Story.{Holds, IsGone, event_in, events_of, note, slots_told}
 use Rattle.bc_profile.specs.Book.{IsBook}
 use Rattle.bc_profile.proofs.KeyLemmas.{key_inside, slots_push, named_program, named_idle, named_evict, named_reset, named_busy, gone_evicted, told_more, same_count}
@@ -32,7 +32,7 @@ module _ (table : TableData) (epochs : List ℕ) (story : List Noted) (limit cap
         slots_left =
             slots ∙ ap (λ s. after_event s e) is.slots_left ∙ sym (told_push (length keys) story n)
             ∙ ap (λ k. slots_told k (story ++ n ∷ [])) (sym count) ∙ ap (slots_told (length table'.slots.keys)) (sym grows);
-        told = subst (IsTold table'.slots.keys epochs') (sym journal)
+        told = subst (MatchesJournal table'.slots.keys epochs') (sym journal)
             (told_more keys table'.slots.keys epochs epochs' (events_of story) e is.told (subst (λ s. Allowed s e) is.slots_left may)
             (ap (λ (s : Slots). s.keys) slots ∙ ap (λ s. (after_event s e).keys) is.slots_left) many named);
         within = let l = ap length grows ∙ length-append story (n ∷ []) in omega (arith, room, l);
@@ -44,7 +44,7 @@ module _ (table : TableData) (epochs : List ℕ) (story : List Noted) (limit cap
   pub quiet : (table' : TableData) → table'.slots ≡ table.slots → IsBook table' epochs story limit capacity
   quiet table' same = record {
     slots_left = same ∙ is.slots_left ∙ ap (λ (s : Slots). slots_told (length s.keys) story) (sym same);
-    told = subst (λ (s : Slots). IsTold s.keys epochs (events_of story)) (sym same) is.told;
+    told = subst (λ (s : Slots). MatchesJournal s.keys epochs (events_of story)) (sym same) is.told;
     within = is.within;
     small = is.small;
     reserved = is.reserved;

@@ -3,15 +3,15 @@ use Rattle.std.proofs.Common.{◌≡◌, inl, inr, ℕ, ◌+◌, ◌≤◌, Bool
 use Rattle.std.specs.Prelude.{IfSome, ◌==◌, Result, Ok, Err, MatchResult, OnOk}
 use Rattle.std.proofs.Math.Logic.{⊎_elim}
 use Rattle.bc_base.specs.Lists.{AllAt, EachFrom}
-use Rattle.bc_turn.specs.Parts.{Changes, without_turn, TakesLater, GoesOn}
+use Rattle.bc_turn.specs.PassParts.{Changes, without_turn, TakesLater, GoesOn}
 use Rattle.bc_profile.specs.declared.event.Event.{Event}
 use Rattle.bc_profile.specs.declared.event.Event.TheVariants as events
 use Rattle.bc_profile.specs.declared.noted.Noted.{Noted}
 use Rattle.bc_profile.specs.declared.slot_word.SlotWord.{SlotWord}
 use Rattle.bc_profile.specs.SlotJournal.{InNoSlot, MayProgram, key_of}
 use Rattle.bc_profile.specs.Story.{IsGone, author_of, slots_told}
-use Rattle.bc_profile.specs.Book.{BookData, HasRoom, Hits, ProgramsOne, TakesHold, AllHeld, IsHeldBy, Empties, TakesOut, IsBusy, NoneFree, recorded, events_of_put, slots_of}
-use Rattle.bc_profile.specs.Passes.{KeepsTo, HoldFacts, SlotFacts, ProfileData, IsOf, IsHold, HasSpare, Noticed, OneAtRest, Gets, ProgramsSlot, Puts, Evicts, Refuses, FoundHeld, AllFoundHeld, facts_of, seen_of, slots_in}
+use Rattle.bc_profile.specs.Book.{BookData, HasRoom, Hits, ProgramsOne, TakesHold, AllHeld, IsHeldBy, Empties, TakesOut, IsBusy, NoneFree, book_with_events, events_of_put, slots_of}
+use Rattle.bc_profile.specs.Passes.{KeepsTo, HoldFacts, SlotFacts, ProfileData, IsOf, IsHold, HasSpare, Noticed, OneAtRest, Gets, ProgramsSlot, Puts, Evicts, RefusesEviction, FoundHeld, AllFoundHeld, facts_of, seen_of, slots_in}
 use Rattle.bc_profile.proofs.Visits.{P, Adds, story_of, has_room, may_give, still_one, still_of, of_front, noticed, noticed_more, keeps, adds_none}
 
 module _ (t now : ProfileData) (p : P) (h : Option HoldFacts) (pass : SlotFacts) (view : t ≡ now) (pass_view : facts_of p h ≡ pass) (one : OneAtRest p.caller p.parts) (of : IsOf now pass) where
@@ -53,7 +53,7 @@ module _ (t now : ProfileData) (p : P) (h : Option HoldFacts) (pass : SlotFacts)
 
 -- ---- what each call adds
 
-pub adds_these : (c d : ℕ) (v v' : BookData) (es : List Event) (refs : List ℕ) → v' ≡ recorded v c es refs → c ≡ d → Adds d v v' es
+pub adds_these : (c d : ℕ) (v v' : BookData) (es : List Event) (refs : List ℕ) → v' ≡ book_with_events v c es refs → c ≡ d → Adds d v v' es
 adds_these c d v v' es refs is same =
     subst (λ n. Adds n v v' es) same (record { story = ap (λ (z : BookData). z.story) is; count = ap (λ (z : BookData). z.count) is; limit = ap (λ (z : BookData). z.limit) is })
 
@@ -93,7 +93,7 @@ evict_few slot_in refs_in c key v v' (Ok x) empties =
 evict_few slot_in refs_in c key v v' (Err busy) is = record { events = events.Busy (slot_in busy) key (refs_in busy) ∷ []; adds = adds_these c c v v' (events.Busy (slot_in busy) key (refs_in busy) ∷ []) _ is.made refl; few = omega arith }
 
 -- a reset that was made, or not
-pub reset_adds : (c d : ℕ) (v v' : BookData) (done : Bool) → v' ≡ cond done (recorded v c (events.Reset ∷ []) v.refs) v → c ≡ d → Adds d v v' (cond done (events.Reset ∷ []) [])
+pub reset_adds : (c d : ℕ) (v v' : BookData) (done : Bool) → v' ≡ cond done (book_with_events v c (events.Reset ∷ []) v.refs) v → c ≡ d → Adds d v v' (cond done (events.Reset ∷ []) [])
 reset_adds c d v v' true is same = adds_these c d v v' (events.Reset ∷ []) v.refs is same
 reset_adds c d v v' false is same = adds_nothing d v v' is
 
@@ -157,7 +157,7 @@ module _ (t now : ProfileData) (p : P) (h : Option HoldFacts) (pass : SlotFacts)
     gone = gone;
   }
 
-  pub refuses : (key slot refs : ℕ) → IsBusy v v' c key slot refs → Refuses (slots_in now) pass (facts_of p2 h') key slot refs
+  pub refuses : (key slot refs : ℕ) → IsBusy v v' c key slot refs → RefusesEviction (slots_in now) pass (facts_of p2 h') key slot refs
   refuses key slot refs busy =
       let n = these (events.Busy slot key refs ∷ []) (adds_these c c v v' (events.Busy slot key refs ∷ []) _ busy.made refl) (omega arith) in record {
         noticed = n.0;

@@ -1,5 +1,5 @@
 -- What a hold tells by the front of the story that was seen: it names its programming, later holds of a key name no earlier
--- one, and a hold behind an eviction a later one.
+-- one, and a hold after an eviction a later one.
 use Rattle.std.proofs.Common.{◌≡◌, ℕ, zero, suc, ◌+◌, ◌<◌, ◌≤◌, ◌⊎◌, inl, inr, Bool, cond, List, [], ◌∷◌, ◌++◌, length, refl, sym, ap, subst, ◌∙◌, arith, Option, Some, None}
 use Rattle.std.specs.Prelude.{◌≢◌, filter_map, slice_get, All}
 use Rattle.std.specs.List.{enumerate_from, last_or, cons_option}
@@ -79,12 +79,12 @@ held_inside count front key slot epoch holds =
     let same = count_events (opening count) (events_of front) in
     let all = length-replicate {A = Option ℕ} count None in omega (arith, inside, same, all)
 
--- the last one is there already, or stands behind the first of these
+-- the last one is there already, or stands after the first of these
 last_from : (key first slot epoch : ℕ) (o : Option (ℕ × ℕ)) (journal : List Event) → last_or o (from_place key first journal) ≡ Some (slot, epoch) → (o ≡ Some (slot, epoch)) ⊎ (first ≤ epoch)
 last_from key first slot epoch o journal is =
     ⊎_elim (λ (e : o ≡ Some (slot, epoch)). inl e) (λ (there : IsThere key first slot epoch journal). inr (let e = there.1 in omega (arith, e))) (last_there key first slot epoch o journal is)
 
--- a programming of the key isn't behind the last one
+-- a programming of the key isn't after the last one
 not_behind : (key first slot epoch place s : ℕ) (skipped : List Skip) (o : Option (ℕ × ℕ)) (journal : List Event) → slice_get journal place ≡ Some (events.Program s key skipped)
     → last_or o (from_place key first journal) ≡ Some (slot, epoch) → first + place ≤ epoch
 not_behind key first slot epoch place s skipped o [] at is = absurd (none-some (events.Program s key skipped) at)
@@ -107,7 +107,7 @@ pub never_earlier : (count : ℕ) (front : List Noted) (key slot epoch place oth
 never_earlier count front key slot epoch place other holds programs =
     let le = not_behind key 0 slot epoch place other programs.0 None (events_of front) programs.1 holds.last in omega (arith, le)
 
--- ---- behind an eviction
+-- ---- after an eviction
 
 behind : (key slot s epoch first : ℕ) (o : Option (ℕ × ℕ)) (slots : Slots) (more : List Event) → All (λ other. other ≢ Some key) slots.keys
     → key_of (after_events slots more) slot ≡ Some key → last_or o (from_place key first more) ≡ Some (s, epoch) → first ≤ epoch
@@ -152,7 +152,7 @@ get_front [] ys n x at = absurd (none-some x at)
 get_front (y ∷ xs) ys zero x at = at
 get_front (y ∷ xs) ys (suc n) x at = get_front xs ys n x at
 
--- a programming in a front stands in each longer one
+-- a programming in a prefix stands in each longer one
 pub programs_more : (before front : List Noted) (epoch slot key : ℕ) → StartsWith front before → Programs before epoch slot key → Programs front epoch slot key
 programs_more before front epoch slot key begins programs = (
   programs.0,

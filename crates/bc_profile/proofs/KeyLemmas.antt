@@ -14,33 +14,33 @@ use Rattle.bc_profile.specs.declared.event.Event.TheVariants as events
 use Rattle.bc_profile.specs.declared.skips.Skip.{Skip}
 use Rattle.bc_profile.specs.SlotJournal.{Slots, Allowed, EachEvent, after_event, after_events, opening, slots_after}
 use Rattle.bc_profile.specs.Programmings.{programming_at, last_programming}
-use Rattle.bc_profile.specs.OneCaller.{is_key}
-use Rattle.bc_profile.specs.Stamps.{Named, IsTold}
+use Rattle.bc_profile.specs.OneCaller.{has_key}
+use Rattle.bc_profile.specs.Stamps.{Named, MatchesJournal}
 
 -- ---- the slot that has a key
 
 equal : (a b : ℕ) → (a == b) ≡ true → a ≡ b
 equal a b e = ⊎_elim (λ (same : a ≡ b). same) (λ (differ : a ≢ b). absurd (true≢false (sym e ∙ ne_eqb a b differ))) (cases_eq a b)
 
-is_that : (key : ℕ) (has : Option ℕ) → is_key key has ≡ true → has ≡ Some key
+is_that : (key : ℕ) (has : Option ℕ) → has_key key has ≡ true → has ≡ Some key
 is_that key None e = absurd (true≢false (sym e))
 is_that key (Some other) e = ap (λ (k : ℕ). Some k) (equal other key e)
 
-pub slot_has : (key : ℕ) (keys : List (Option ℕ)) (slot : ℕ) → position (is_key key) keys ≡ Some slot → (slot < length keys) × (get_or keys slot None ≡ Some key)
+pub slot_has : (key : ℕ) (keys : List (Option ℕ)) (slot : ℕ) → position (has_key key) keys ≡ Some slot → (slot < length keys) × (get_or keys slot None ≡ Some key)
 slot_has key keys slot found =
-    let at = position-Some (is_key key) keys slot None found in (at.0, is_that key (get_or keys slot None) at.1)
+    let at = position-Some (has_key key) keys slot None found in (at.0, is_that key (get_or keys slot None) at.1)
 
-pub in_no_slot : (key : ℕ) (keys : List (Option ℕ)) → position (is_key key) keys ≡ None → All (λ other. other ≢ Some key) keys
+pub in_no_slot : (key : ℕ) (keys : List (Option ℕ)) → position (has_key key) keys ≡ None → All (λ other. other ≢ Some key) keys
 in_no_slot key keys none k d inside is =
     ⊎_elim
-    (λ (found : position_or_len (is_key key) keys < length keys).
-    none-some (position_or_len (is_key key) keys)
-    (sym none ∙ ap (λ (b : Bool). cond b (Some (position_or_len (is_key key) keys)) None) (lt-ltb (position_or_len (is_key key) keys) (length keys) found)))
-    (λ (past : length keys ≤ position_or_len (is_key key) keys).
+    (λ (found : position_or_len (has_key key) keys < length keys).
+    none-some (position_or_len (has_key key) keys)
+    (sym none ∙ ap (λ (b : Bool). cond b (Some (position_or_len (has_key key) keys)) None) (lt-ltb (position_or_len (has_key key) keys) (length keys) found)))
+    (λ (past : length keys ≤ position_or_len (has_key key) keys).
     true≢false
-    (sym (ap (is_key key) is ∙ eq-eqb key key refl)
-    ∙ fails_before_first (is_key key) keys k d (omega (arith, inside, past))))
-    (cases_lt (position_or_len (is_key key) keys) (length keys))
+    (sym (ap (has_key key) is ∙ eq-eqb key key refl)
+    ∙ fails_before_first (has_key key) keys k d (omega (arith, inside, past))))
+    (cases_lt (position_or_len (has_key key) keys) (length keys))
 
 pub key_gone : (keys : List (Option ℕ)) (slot key : ℕ) → All (λ other. other ≢ Some key) keys → get_or keys slot None ≡ Some key → ⊥
 key_gone keys slot key gone is =
@@ -137,10 +137,10 @@ gone_evicted keys epochs journal slot key inside was named i d less is =
     let same : i ≡ slot = ap (λ (p : ℕ × ℕ). p.0) (same_Some (i, get_or epochs i 0) (slot, get_or epochs slot 0) (sym (named i key other) ∙ named slot key was)) in
     none-some key (sym (get_or-set_same keys slot None None inside) ∙ subst (λ z. get_or (slice_set keys slot None) z None ≡ Some key) same here)
 
--- ---- what is told, with one event more
+-- ---- what is reported, with one event more
 
-pub told_more : (keys keys' : List (Option ℕ)) (epochs epochs' : List ℕ) (journal : List Event) (e : Event) → IsTold keys epochs journal → Allowed (slots_after (length keys) journal) e
-    → keys' ≡ (after_event (slots_after (length keys) journal) e).keys → length epochs' ≡ length epochs → Named keys' epochs' (journal ++ e ∷ []) → IsTold keys' epochs' (journal ++ e ∷ [])
+pub told_more : (keys keys' : List (Option ℕ)) (epochs epochs' : List ℕ) (journal : List Event) (e : Event) → MatchesJournal keys epochs journal → Allowed (slots_after (length keys) journal) e
+    → keys' ≡ (after_event (slots_after (length keys) journal) e).keys → length epochs' ≡ length epochs → Named keys' epochs' (journal ++ e ∷ []) → MatchesJournal keys' epochs' (journal ++ e ∷ [])
 told_more keys keys' epochs epochs' journal e told may left many named =
     let count : length keys' ≡ length keys = ap length left ∙ same_count (slots_after (length keys) journal) e ∙ sym (ap length told.keys_left) in record {
       keys_left = left ∙ sym (ap (λ s. s.keys) (slots_push (length keys) journal e)) ∙ ap (λ n. (slots_after n (journal ++ e ∷ [])).keys) (sym count);

@@ -1,39 +1,13 @@
 -- Membership, and lists without a number twice.
-use Rattle.std.proofs.Common.{◌≡◌, ◌≢◌, ℕ, zero, suc, ◌+◌, ◌<◌, ◌≤◌, ◌⊎◌, inl, inr, Bool, true, false, cond, List, [], ◌∷◌, ◌++◌, length, refl, sym, ap, subst, ◌∙◌, arith}
-use Rattle.std.specs.Prelude.{◌==◌, ◌||◌, not, filter}
+use Rattle.std.proofs.Common.{◌≡◌, ◌≢◌, ℕ, zero, suc, ◌+◌, ◌<◌, ◌≤◌, ◌⊎◌, Bool, true, false, cond, List, [], ◌∷◌, ◌++◌, length, refl, sym, ap, subst, ◌∙◌, arith}
+use Rattle.std.specs.Prelude.{◌==◌, ◌||◌, not}
 use Rattle.std.specs.List.{AllByRecursion, list_any}
 use Rattle.std.proofs.Math.Logic.{⊎_elim}
 use Rattle.std.proofs.lemmas.Bool.{true≢false, eq-eqb, ne_eqb, cases_eq}
 use Rattle.std.proofs.lemmas.List.Folds.{list_any-append}
 use Rattle.bc_profile.specs.SlotJournal.{without}
 use Rattle.bc_profile.specs.SlotTable.{Distinct}
-
--- x is an element
-abbrev pub In : {X : Type 0} → X → List X → Type 0
-In x [] = ⊥
-In x (y ∷ ys) = (y ≡ x) ⊎ In x ys
-
-pub all_at : {X : Type 0} (P : X → Type 0) (xs : List X) (x : X) → AllByRecursion P xs → In x xs → P x
-all_at P [] x all at = absurd at
-all_at P (y ∷ ys) x all at = ⊎_elim (λ (e : y ≡ x). subst P e all.0) (λ (more : In x ys). all_at P ys x all.1 more) at
-
-pub all_from_in : {X : Type 0} (P : X → Type 0) (xs : List X) → ((x : X) → In x xs → P x) → AllByRecursion P xs
-all_from_in P [] f = tt
-all_from_in P (x ∷ xs) f = (f x (inl refl), all_from_in P xs (λ y at. f y (inr at)))
-
-pub in_append_left : {X : Type 0} (xs ys : List X) (x : X) → In x xs → In x (xs ++ ys)
-in_append_left [] ys x at = absurd at
-in_append_left (z ∷ zs) ys x at = ⊎_elim (λ (e : z ≡ x). inl e) (λ (more : In x zs). inr (in_append_left zs ys x more)) at
-
-pub in_of_filter : {X : Type 0} (p : X → Bool) (xs : List X) (x : X) → In x (filter p xs) → In x xs × (p x ≡ true)
-in_of_filter p [] x at = absurd at
-in_of_filter p (y ∷ ys) x at =
-    (elim (p y) as (λ (b : Bool). p y ≡ b → In x (cond b (y ∷ filter p ys) (filter p ys)) → In x (y ∷ ys) × (p x ≡ true)) [
-      | true ↦ λ is here. ⊎_elim
-          (λ (e : y ≡ x). (inl e, sym (ap p e) ∙ is))
-          (λ (more : In x (filter p ys)). let r = in_of_filter p ys x more in (inr r.0, r.1)) here
-      | false ↦ λ is here. let r = in_of_filter p ys x here in (inr r.0, r.1)
-    ]) refl at
+use Rattle.bc_base.proofs.Members.{in_of_filter, all_at, all_from_in}
 
 -- a number twice is in no list of these
 or_left : (a b : Bool) → (a || b) ≡ false → a ≡ false

@@ -7,13 +7,13 @@ use Rattle.std.proofs.lemmas.List.{length-append, length-map}
 use Rattle.bc_base.specs.Lists.{Each, EachFrom, AllAt}
 use Rattle.bc_base.specs.Story.{own, StartsWith, IsFront}
 use Rattle.bc_turn.specs.Turning.{one_if, sum_of}
-use Rattle.bc_turn.specs.Parts as parts
-use Rattle.bc_turn.specs.Parts.{Part, Pass, CellData, TurnsData, part_key, cell_key, new_part, is_caller}
+use Rattle.bc_turn.specs.PassParts as parts
+use Rattle.bc_turn.specs.PassParts.{Part, Pass, CellData, TurnsData, part_key, cell_key, new_part, is_caller}
 use Rattle.bc_profile.specs.declared.noted.Noted.{Noted}
 use Rattle.bc_profile.specs.SlotJournal.{IsLawful}
 use Rattle.bc_profile.specs.Story.{author_of, events_of}
 use Rattle.bc_profile.specs.Book.{BookData}
-use Rattle.bc_profile.specs.Passes.{BaseData, KeepsTo, SlotFacts, ProfileData, IsOf, IsFree, HasOneAtRest, IsClosed, IsProfile, base_of, new_pass, pass_of, seen_of}
+use Rattle.bc_profile.specs.Passes.{BaseData, KeepsTo, SlotFacts, ProfileData, IsOf, IsFree, HasOneAtRest, IsClosedStory, IsProfile, base_of, new_pass, pass_of, seen_of}
 use Rattle.bc_profile.proofs.Visits.{only, is_of, story_of}
 
 -- ---- opening
@@ -83,7 +83,7 @@ module _ (t : ProfileData) (book : BookData) where
       )
 
   pub is_closed : (quotas : List ℕ) (seats : List (Pass Noted BaseData)) (passes : List SlotFacts) → IsProfile t.turns quotas → Each HasOneAtRest seats → map pass_of seats ≡ passes
-      → parts.IsClosed story_of KeepsTo author_of t.turns seats 0 book → IsLawful book.count (events_of book.story) → IsClosed t passes book.story
+      → parts.IsClosed story_of KeepsTo author_of t.turns seats 0 book → IsLawful book.count (events_of book.story) → IsClosedStory t passes book.story
   is_closed quotas seats passes is rest same closed lawful = record {
     lawful = subst (λ n. IsLawful n (events_of book.story)) (its_slots t.turns.cells is.one closed.0) lawful;
     fronts = subst (Each (λ (pass : SlotFacts). IsFront author_of pass.caller pass.seen book.story)) same (fronts_are seats rest closed.1);

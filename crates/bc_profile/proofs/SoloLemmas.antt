@@ -12,7 +12,7 @@ use Rattle.bc_profile.specs.SlotJournal.{Slots, InNoSlot, MayProgram, after_even
 use Rattle.bc_profile.specs.Programmings.{Holds}
 use Rattle.bc_profile.specs.OneCaller.{first_idle}
 use Rattle.bc_profile.specs.Rows.{cleared, row_of, HasRow}
-use Rattle.bc_profile.specs.Stamps.{IsTold, AreStamped, next_stamp, owed, HasRoom, IsSolo}
+use Rattle.bc_profile.specs.Stamps.{MatchesJournal, AreStamped, next_stamp, owed, HasReserve, IsSolo}
 use Rattle.bc_profile.proofs.KeyLemmas.{slots_push, named_program, named_idle, named_evict, named_reset, gone_evicted, told_more}
 use Rattle.bc_profile.proofs.StampLemmas.{least_first, first_of_order, none_before, stamped_program, stamped_hold, stamped_idle, stamped_evict, stamped_reset}
 
@@ -29,8 +29,8 @@ stamped_more count count' journal journal' e held stamps same more stamped =
     sym (slots_push count journal e) ∙ ap (λ n. slots_after n (journal ++ e ∷ [])) (sym same) ∙ ap (slots_after count') (sym more) in
     subst (λ n. AreStamped (slots_after count' journal') held stamps n) next (subst (λ s. AreStamped s held stamps (next_stamp count journal + 1)) slots stamped)
 
-room_more : (count count' : ℕ) (journal journal' : List Event) (e : Event) (held held' : Option ℕ) (quota capacity capacity' : ℕ) → HasRoom count journal held quota capacity → count' ≡ count → journal' ≡ journal ++ e ∷ []
-    → length journal + 1 + owed held' ≤ quota → capacity' ≡ capacity → HasRoom count' journal' held' quota capacity'
+room_more : (count count' : ℕ) (journal journal' : List Event) (e : Event) (held held' : Option ℕ) (quota capacity capacity' : ℕ) → HasReserve count journal held quota capacity → count' ≡ count → journal' ≡ journal ++ e ∷ []
+    → length journal + 1 + owed held' ≤ quota → capacity' ≡ capacity → HasReserve count' journal' held' quota capacity'
 room_more count count' journal journal' e held held' quota capacity capacity' room same more fits roomy = record {
   some = let s = room.some in omega (arith, s, same);
   few = let f = room.few in omega (arith, f, same);
@@ -40,13 +40,13 @@ room_more count count' journal journal' e held held' quota capacity capacity' ro
 }
 
 -- the slot of a key, by the event that is kept for it
-pub told_holds : (keys : List (Option ℕ)) (epochs : List ℕ) (journal : List Event) (slot key : ℕ) → IsTold keys epochs journal → get_or keys slot None ≡ Some key → Holds (length keys) journal key slot (get_or epochs slot 0)
+pub told_holds : (keys : List (Option ℕ)) (epochs : List ℕ) (journal : List Event) (slot key : ℕ) → MatchesJournal keys epochs journal → get_or keys slot None ≡ Some key → Holds (length keys) journal key slot (get_or epochs slot 0)
 told_holds keys epochs journal slot key told has = record {
   last = told.named slot key has;
   has_key = ap (λ k. get_or k slot None) (sym told.keys_left) ∙ has;
 }
 
-all_true : (test : ℕ → Bool) (first n : ℕ) → ((k : ℕ) → k < first + n → test k ≡ true) → list_all test (range_with_len first n) ≡ true
+pub all_true : (test : ℕ → Bool) (first n : ℕ) → ((k : ℕ) → k < first + n → test k ≡ true) → list_all test (range_with_len first n) ≡ true
 all_true test first zero each = refl
 all_true test first (suc n) each =
     ap (λ (b : Bool). b && list_all test (range_with_len (first + 1) n)) (each first (omega arith))
@@ -83,7 +83,7 @@ module _ (keys : List (Option ℕ)) (epochs stamps : List ℕ) (rows registers :
       keeps_program key row journal' capacity' nowhere numbered is_row spare more roomy =
           let many = length-set keys least (Some key) in
           let left = ap (λ k. slice_set k least (Some key)) is.told.keys_left in record {
-            told = subst (IsTold (slice_set keys least (Some key)) (slice_set epochs least (length journal))) (sym more)
+            told = subst (MatchesJournal (slice_set keys least (Some key)) (slice_set epochs least (length journal))) (sym more)
                 (told_more keys (slice_set keys least (Some key)) epochs (slice_set epochs least (length journal)) journal (events.Program least key []) is.told (may_program key nowhere) left
                 (length-set epochs least (length journal)) (named_program keys epochs journal least key [] is.told.named nowhere inside is.told.as_many));
             stamped = stamped_more (length keys) (length (slice_set keys least (Some key))) journal journal' (events.Program least key []) (Some least) stamps many more
@@ -109,7 +109,7 @@ module _ (keys : List (Option ℕ)) (epochs stamps : List ℕ) (rows registers :
     keeps_evict slot key journal' capacity' inside has spare more roomy =
         let many = length-set keys slot None in
         let left = ap (λ k. slice_set k slot None) is.told.keys_left in record {
-          told = subst (IsTold (slice_set keys slot None) epochs) (sym more)
+          told = subst (MatchesJournal (slice_set keys slot None) epochs) (sym more)
               (told_more keys (slice_set keys slot None) epochs epochs journal (events.Evict slot key) is.told (ap (λ k. get_or k slot None) (sym is.told.keys_left) ∙ has) left refl
               (named_evict keys epochs journal slot key inside is.told.named));
           stamped = stamped_more (length keys) (length (slice_set keys slot None)) journal journal' (events.Evict slot key) None stamps many more
@@ -133,7 +133,7 @@ module _ (keys : List (Option ℕ)) (epochs stamps : List ℕ) (rows registers :
     pub keeps_reset : (registers' : List (List ℕ)) (journal' : List Event) (capacity' : ℕ) → registers' ≡ map (row_of rows) keys → length journal + 1 ≤ quota → journal' ≡ journal ++ events.Reset ∷ [] → capacity' ≡ capacity
         → IsSolo keys epochs stamps rows registers' journal' None quota capacity'
     keeps_reset registers' journal' capacity' written spare more roomy = record {
-      told = subst (IsTold keys epochs) (sym more) (told_more keys keys epochs epochs journal events.Reset is.told tt is.told.keys_left refl (named_reset keys epochs journal is.told.named));
+      told = subst (MatchesJournal keys epochs) (sym more) (told_more keys keys epochs epochs journal events.Reset is.told tt is.told.keys_left refl (named_reset keys epochs journal is.told.named));
       stamped = stamped_more (length keys) (length keys) journal journal' events.Reset None stamps refl more (stamped_reset (slots_after (length keys) journal) stamps (next_stamp (length keys) journal) is.stamped);
       written = written;
       with_rows = is.with_rows;
@@ -151,7 +151,7 @@ module _ (keys : List (Option ℕ)) (epochs stamps : List ℕ) (rows registers :
       let inside = is.held_is_slot slot refl in
       let many = ap length is.told.keys_left in
       let is_slot : slot < length (slots_after (length keys) journal).keys = omega (arith, inside, many) in record {
-        told = subst (IsTold keys epochs) (sym more) (told_more keys keys epochs epochs journal (events.Idle slot) is.told is_slot is.told.keys_left refl (named_idle keys epochs journal slot is.told.named));
+        told = subst (MatchesJournal keys epochs) (sym more) (told_more keys keys epochs epochs journal (events.Idle slot) is.told is_slot is.told.keys_left refl (named_idle keys epochs journal slot is.told.named));
         stamped = stamped_more (length keys) (length keys) journal journal' (events.Idle slot) None (slice_set stamps slot (length keys + length journal)) refl more
             (stamped_idle (slots_after (length keys) journal) stamps (next_stamp (length keys) journal) slot is_slot is.stamped);
         written = is.written;

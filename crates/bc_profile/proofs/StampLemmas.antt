@@ -11,9 +11,9 @@ use Rattle.std.proofs.lemmas.List.Folds.{list_any-append, Any-from_list_any}
 use Rattle.std.proofs.lemmas.List.Elements.{All-filter, All-push, filter_passes}
 use Rattle.std.proofs.lemmas.List.Kept.{AllPairs-filter}
 use Rattle.std.proofs.lemmas.List.Quantifiers.{all_pairs_push}
-use Rattle.std.proofs.lemmas.Map.Views.{any-filter_same}
 use Rattle.bc_profile.specs.SlotJournal.{Slots, without, is_listed, idle_order}
 use Rattle.bc_profile.specs.Stamps.{AreStamped}
+use Rattle.bc_profile.proofs.TableLemmas.{listed_without}
 
 -- ---- the least stamp
 
@@ -53,11 +53,6 @@ none_before slots first rest is =
     ∙ ap (λ (b : Bool). cond (not b) (first ∷ take_while (λ other. not (other == first)) (rest ++ others)) []) (eq-eqb first first refl))
 
 -- ---- slots that leave the list or are put at its end
-
--- others are listed as before
-listed_without : (list : List ℕ) (slot o : ℕ) → o ≢ slot → list_any (λ other. other == o) (without slot list) ≡ list_any (λ other. other == o) list
-listed_without list slot o apart =
-    any-filter_same (λ other. other == o) (λ other. not (other == slot)) true (λ k is. ap not (ne_eqb k slot (λ same. apart (sym (equal k o is) ∙ same)))) list
 
 apart_without : (slot : ℕ) (list : List ℕ) → All (λ other. other ≢ slot) (without slot list)
 apart_without slot list k d inside same = true≢false (sym (filter_passes (λ other. not (other == slot)) list k d inside) ∙ ap not (eq-eqb (get_or (without slot list) k d) slot same))

@@ -1,13 +1,13 @@
--- Entries of callers, quotas, and fronts of a story.
+-- Entries of callers, quotas, and prefixes of a story.
 use Rattle.std.proofs.Common.{◌≡◌, ◌≢◌, ℕ, ◌+◌, ◌-◌, ◌<◌, ◌≤◌, List, [], ◌∷◌, ◌++◌, length, set, get_or, refl, sym, ap, ◌∙◌, subst, arith, eq-eqb, ne_eqb, append-nil}
 use Rattle.std.specs.Prelude.{sum, ◌==◌}
 use Rattle.std.proofs.lemmas.List.{append_assoc, get_or_past, get_or-set_same, get_or-set_other}
 use Rattle.std.proofs.lemmas.List.Elements.{filter-append}
-use Rattle.std.proofs.lemmas.List.Sums.{sum_by-set}
 use mathlib.Core.Logic.{dite}
 use native.Mathlib.Decide.{dec_lt, ℕ_discrete}
 use Rattle.bc_base.specs.Lists.{Each}
 use Rattle.bc_base.specs.Story.{own, StartsWith}
+use Rattle.bc_base.proofs.Members.{sum-set}
 
 module _ {E : Type 0} where
   pub begins_itself : (story : List E) → StartsWith story story
@@ -30,9 +30,6 @@ module _ {E : Type 0} where
       rw (ne_eqb (by e) caller (λ same. apart (sym each.0 ∙ same))) (own_other by caller other story each.1 apart)
 
 -- ---- callers that keep within their quotas leave room
-
-sum-set : (q : List ℕ) (i v : ℕ) → i < length q → sum (set q i v) + get_or q i 0 ≡ sum q + v
-sum-set q i v l = sum_by-set (λ x. x) q i v 0 l
 
 module _ {E : Type 0} (by : E → ℕ) where
   within_less : (es : List E) (q : List ℕ) (c n : ℕ) → c < length q → n ≤ get_or q c 0 → ((d : ℕ) → d ≢ c → length (own by d es) ≤ get_or q d 0) → length (own by c es) ≤ n → (d : ℕ) → length (own by d es) ≤ get_or (set q c n) d 0

@@ -13,9 +13,10 @@ use Rattle.std.proofs.lemmas.Map.Views.{any-filter_same}
 use Rattle.bc_profile.specs.declared.limits.TheConstants.{MAX_SLOTS}
 use Rattle.bc_profile.specs.declared.skips.Skip.{Skip}
 use Rattle.bc_profile.specs.SlotJournal.{Slots, without, is_listed, key_of, IsHeld, MayProgram}
-use Rattle.bc_profile.proofs.MemberLemmas.{In, all_at, all_from_in, in_of_filter, distinct_without, distinct_push, gone_without, pigeons}
+use Rattle.bc_profile.proofs.MemberLemmas.{distinct_without, distinct_push, gone_without, pigeons}
 use Rattle.bc_profile.proofs.SkipLemmas.{skipped}
 use Rattle.bc_profile.specs.SlotTable.{IsTable, WasFound, refs_of, is_held, one_more}
+use Rattle.bc_base.proofs.Members.{In, in_of_filter, all_at, all_from_in}
 
 pub many_held : (n : ℕ) → 1 ≤ n → not (n == 0) ≡ true
 many_held n some = ap not (ne_eqb n 0 (λ none. absurd (omega (arith, some, none))))
@@ -91,7 +92,7 @@ pub equal : (a b : ℕ) → (a == b) ≡ true → a ≡ b
 equal a b e = ⊎_elim (λ (same : a ≡ b). same) (λ (differ : a ≢ b). absurd (true≢false (sym e ∙ ne_eqb a b differ))) (cases_eq a b)
 
 -- a slot that is taken off the list: others are listed as before
-listed_without : (list : List ℕ) (slot o : ℕ) → o ≢ slot → list_any (λ other. other == o) (without slot list) ≡ list_any (λ other. other == o) list
+pub listed_without : (list : List ℕ) (slot o : ℕ) → o ≢ slot → list_any (λ other. other == o) (without slot list) ≡ list_any (λ other. other == o) list
 listed_without list slot o apart = any-filter_same (λ other. other == o) (λ other. not (other == slot)) true (λ k is. ap not (ne_eqb k slot (λ same. apart (sym (equal k o is) ∙ same)))) list
 
 without_within : (list : List ℕ) (slot n : ℕ) → AllByRecursion (λ o. o < n) list → AllByRecursion (λ o. o < n) (without slot list)

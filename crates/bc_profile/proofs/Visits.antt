@@ -8,8 +8,8 @@ use mathlib.Core.Option.{some-injective}
 use Rattle.std.proofs.lemmas.Option.{same_Some}
 use Rattle.bc_base.specs.Lists.{Each, At, AllAt}
 use Rattle.bc_base.specs.Story.{StartsWith, own}
-use Rattle.bc_turn.specs.Parts as parts
-use Rattle.bc_turn.specs.Parts.{Part, Pass, CellData, TurnsData, Changes, part, part_key, cell_key, without_turn, TakesLater, GoesOn}
+use Rattle.bc_turn.specs.PassParts as parts
+use Rattle.bc_turn.specs.PassParts.{Part, Pass, CellData, TurnsData, Changes, part, part_key, cell_key, without_turn, TakesLater, GoesOn}
 use Rattle.bc_profile.specs.declared.event.Event.{Event}
 use Rattle.bc_profile.specs.declared.limits.TheConstants.{MAX_EVENTS}
 use Rattle.bc_profile.specs.declared.noted.Noted.{Noted}

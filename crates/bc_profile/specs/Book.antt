@@ -1,5 +1,5 @@
--- The book of a device that has many callers: its story, and how many references each slot has. What the calls of a book
--- do: each records the events that it names, and changes the references.
+-- The book of a device that has many callers: its story, and how many references each slot has.
+-- What the calls of a book do: each records the events that it names, and changes the references.
 use Rattle.std.specs.Prelude.{◌≡◌, ◌⊎◌, ℕ, ◌-◌, ◌<◌, ◌≤◌, ◌==◌, List, [], ◌∷◌, ◌++◌, length, slice_set, Some, if◌then◌else◌}
 use Rattle.std.specs.List.{AllByRecursion}
 use Rattle.bc_profile.specs.declared.event.Event.{Event}
@@ -11,7 +11,7 @@ use Rattle.bc_profile.specs.declared.slot_word.SlotState.TheVariants as states
 use Rattle.bc_profile.specs.declared.slot_word.SlotWord.{SlotWord}
 use Rattle.bc_profile.specs.SlotJournal.{Slots, InNoSlot, MayProgram, key_of}
 use Rattle.bc_profile.specs.SlotTable.{TableData, WasFound, refs_of, one_more}
-use Rattle.bc_profile.specs.Stamps.{IsTold}
+use Rattle.bc_profile.specs.Stamps.{MatchesJournal}
 use Rattle.bc_profile.specs.Story.{Holds, events_of, notes, slots_told}
 
 -- how many slots there are, the story, the references of each slot, and how many events fit
@@ -30,22 +30,22 @@ abbrev pub HasRoom : BookData → Type 0
 HasRoom book = length book.story < book.limit
 
 -- these events of the caller are recorded, and the slots have these references
-abbrev pub recorded : BookData → ℕ → List Event → List ℕ → BookData
-recorded book caller events refs = record book { story = book.story ++ notes caller events; refs = refs }
+abbrev pub book_with_events : BookData → ℕ → List Event → List ℕ → BookData
+book_with_events book caller events refs = record book { story = book.story ++ notes caller events; refs = refs }
 
 -- the slot has the key, and gets a reference more
 pub record Hits (old new : BookData) (key slot : ℕ) : Type 0 where
   pub has_key : key_of (slots_of old) slot ≡ Some key
-  pub counted : new ≡ recorded old 0 [] (slice_set old.refs slot (one_more (refs_of old.refs slot)))
+  pub counted : new ≡ book_with_events old 0 [] (slice_set old.refs slot (one_more (refs_of old.refs slot)))
 
--- the slot is the first of the idle order that isn't held, and was programmed with the key, which no slot had. Those
--- before it are named with the references that they have
+-- the slot is the first of the idle order that isn't held, and was programmed with the key, which
+-- no slot had. Those before it are named with the references that they have
 pub record ProgramsOne (old new : BookData) (caller key slot : ℕ) : Type 0 where
   pub skipped : List Skip
   pub may : MayProgram (slots_of old) slot key skipped
   pub found : AllByRecursion (WasFound old.refs) skipped
   pub free : refs_of old.refs slot ≡ 0
-  pub made : new ≡ recorded old caller (events.Program slot key skipped ∷ []) (slice_set old.refs slot 1)
+  pub made : new ≡ book_with_events old caller (events.Program slot key skipped ∷ []) (slice_set old.refs slot 1)
 
 -- a hold of the key was taken, of this slot
 abbrev pub TakesHold : BookData → BookData → ℕ → ℕ → ℕ → Type 0
@@ -73,13 +73,13 @@ events_of_put slot left = if left == 0 then events.Idle slot ∷ [] else []
 abbrev pub given_back : BookData → ℕ → ℕ → BookData
 given_back book caller slot =
     let left = refs_of book.refs slot - 1 in
-    recorded book caller (events_of_put slot left) (slice_set book.refs slot left)
+    book_with_events book caller (events_of_put slot left) (slice_set book.refs slot left)
 
 -- the slot has the key and isn't held, and the key was taken out of it
 pub record TakesOut (old new : BookData) (caller key slot : ℕ) : Type 0 where
   pub has_key : key_of (slots_of old) slot ≡ Some key
   pub free : refs_of old.refs slot ≡ 0
-  pub made : new ≡ recorded old caller (events.Evict slot key ∷ []) old.refs
+  pub made : new ≡ book_with_events old caller (events.Evict slot key ∷ []) old.refs
 
 -- the key is in no slot now: it was in none, or was taken out of one that isn't held
 abbrev pub Empties : BookData → BookData → ℕ → ℕ → Type 0
@@ -91,12 +91,13 @@ pub record IsBusy (old new : BookData) (caller key slot refs : ℕ) : Type 0 whe
   pub has_key : key_of (slots_of old) slot ≡ Some key
   pub referenced : 1 ≤ refs
   pub counted : refs ≡ refs_of old.refs slot
-  pub made : new ≡ recorded old caller (events.Busy slot key refs ∷ []) old.refs
+  pub made : new ≡ book_with_events old caller (events.Busy slot key refs ∷ []) old.refs
 
--- what the book keeps behind its type: slots and epochs as the story leaves them, and room for the events to come
+-- what the book keeps, which its type doesn't show: slots and epochs as the story leaves them, and room for the
+-- events to come
 pub record IsBook (table : TableData) (epochs : List ℕ) (story : List Noted) (limit capacity : ℕ) : Type 0 where
   pub slots_left : table.slots ≡ slots_told (length table.slots.keys) story
-  pub told : IsTold table.slots.keys epochs (events_of story)
+  pub told : MatchesJournal table.slots.keys epochs (events_of story)
   pub within : length story ≤ limit
   pub small : limit < MAX_EVENTS
   pub reserved : limit ≤ capacity

@@ -1,11 +1,11 @@
--- What contracts see of a profile and of its callers' passes, and what its calls tell: the front of the story that the call
--- saw, and the events that it added.
+-- What contracts see of a profile and of its callers' passes, and what its calls tell: the front of
+-- the story that the call saw, and the events that it added.
 use Rattle.std.specs.Prelude.{◌≡◌, ◌⊎◌, ℕ, ◌+◌, ◌<◌, ◌≤◌, ◌==◌, true, false, List, [], ◌∷◌, ◌++◌, map, length, sum, Option, Some, None, IfSome, slice_index_or}
 use Rattle.atomic_table.specs.Seated.{TableId}
 use Rattle.std.specs.List.{list_any}
 use Rattle.bc_base.specs.Lists.{Each, EachFrom}
 use Rattle.bc_base.specs.Story.{own, StartsWith, IsFront}
-use Rattle.bc_turn.specs.Parts.{Part, Pass, TurnsData, CellData, part_key, cell_key}
+use Rattle.bc_turn.specs.PassParts.{Part, Pass, TurnsData, CellData, part_key, cell_key}
 use Rattle.bc_profile.specs.declared.event.Event.{Event}
 use Rattle.bc_profile.specs.declared.event.Event.TheVariants as events
 use Rattle.bc_profile.specs.declared.limits.TheConstants.{MAX_EVENTS}
@@ -34,7 +34,8 @@ pub record KeepsTo (base : BaseData) (book : BookData) : Type 0 where
   pub small : book.limit < MAX_EVENTS
   pub within : (caller : ℕ) → length (own author_of caller book.story) ≤ quota_of base caller
 
--- a hold: its slot and key, the place of the event that programmed the slot with it, and the key's register row
+-- a hold: its slot and key, the place of the event that programmed the slot with it, and the key's
+-- register row
 pub record HoldFacts : Type 0 where
   pub slot : ℕ
   pub key : ℕ
@@ -70,7 +71,8 @@ slots_in profile = (base_in profile).slots
 abbrev pub row_at : ProfileData → ℕ → List ℕ
 row_at profile key = slice_index_or profile.rows key cleared
 
--- what a hold means, whatever others do meanwhile: this event of the front programmed the slot with the key, whose row it has
+-- what a hold means, whatever others do meanwhile: this event of the front programmed the slot with
+-- the key, whose row it has
 pub record IsHold (profile : ProfileData) (front : List Noted) (hold : HoldFacts) : Type 0 where
   pub is_slot : hold.slot < slots_in profile
   pub programmed : Programs front hold.epoch hold.slot hold.key
@@ -94,7 +96,8 @@ made_by pass = own author_of pass.caller pass.seen
 abbrev pub HasSpare : ProfileData → SlotFacts → ℕ → Type 0
 HasSpare profile pass events = length (made_by pass) + events ≤ quota_of (base_in profile) pass.caller
 
--- a call saw the story as far as this front, and added these events; the caller's own grew by just these
+-- a call saw the story as far as this front, and added these events; the caller's own grew by just
+-- these
 pub record Noticed (old new : SlotFacts) (events : List Event) : Type 0 where
   pub front : List Noted
   pub begins : StartsWith front old.seen
@@ -135,13 +138,14 @@ pub record TakesOutOf (slots : ℕ) (old new : SlotFacts) (key slot : ℕ) : Typ
   pub noticed : Noticed old new (events.Evict slot key ∷ [])
   pub has_key : key_of (slots_told slots noticed.front) slot ≡ Some key
 
--- what an eviction adds that empties: that the key was taken out of its slot; nothing where no slot has it
+-- what an eviction adds that empties: that the key was taken out of its slot; nothing where no slot
+-- has it
 pub record Evicts (slots : ℕ) (old new : SlotFacts) (key : ℕ) : Type 0 where
   pub made : Noticed old new [] ⊎ ((slot : ℕ) × TakesOutOf slots old new key slot)
   pub gone : IsGone slots new.seen key
 
 -- what an eviction adds that is refused: that the key's slot was found with so many references
-pub record Refuses (slots : ℕ) (old new : SlotFacts) (key slot refs : ℕ) : Type 0 where
+pub record RefusesEviction (slots : ℕ) (old new : SlotFacts) (key slot refs : ℕ) : Type 0 where
   pub noticed : Noticed old new (events.Busy slot key refs ∷ [])
   pub has_key : key_of (slots_told slots noticed.front) slot ≡ Some key
   pub referenced : 1 ≤ refs
@@ -183,9 +187,9 @@ abbrev pub AreAllHere : ProfileData → List SlotFacts → Type 0
 AreAllHere profile passes =
     (caller : ℕ) → caller < profile.turns.callers → list_any (λ pass. pass.caller == caller) passes ≡ true
 
--- what a closed story is: its events are a lawful journal; each pass's front begins it and has all entries of its caller; and
--- nobody else made one
-pub record IsClosed (profile : ProfileData) (passes : List SlotFacts) (story : List Noted) : Type 0 where
+-- what a closed story is: its events are a lawful journal; each pass's seen front begins it and has all
+-- entries of its caller; and nobody else made one
+pub record IsClosedStory (profile : ProfileData) (passes : List SlotFacts) (story : List Noted) : Type 0 where
   pub lawful : IsLawful (slots_in profile) (events_of story)
   pub fronts : Each (λ pass. IsFront author_of pass.caller pass.seen story) passes
   pub strangers : (caller : ℕ) → profile.turns.callers ≤ caller → own author_of caller story ≡ []

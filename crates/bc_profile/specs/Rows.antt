@@ -1,4 +1,5 @@
--- The registers of the slots: a slot has the register row of its key, and is clear where it has none.
+-- The registers of the slots: a slot has the register row of its key, and is clear where it has
+-- none.
 use Rattle.std.specs.Prelude.{ℕ, ◌<◌, List, All, replicate, Option, Some, None, slice_index_or}
 use Rattle.std.specs.Option.{option_map_or}
 use Rattle.bc_profile.specs.declared.limits.TheConstants.{ROW_WORDS}

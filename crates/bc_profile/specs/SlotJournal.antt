@@ -1,6 +1,7 @@
--- The journal of a device's keyslots: which events may come, and what they leave. The state is the key of each slot and
--- the list of idle slots, as in Linux's Documentation/block/inline-encryption.rst: the least recently idle slot is the
--- first to be programmed with another key.
+-- The journal of a device's keyslots: which events may come, and what they leave. The state is the
+-- key of each slot and the list of idle slots, as in Linux's
+-- Documentation/block/inline-encryption.rst: the least recently idle slot is the first to be
+-- programmed with another key.
 use Rattle.std.specs.Prelude.{◌≡◌, ◌≢◌, ℕ, ◌<◌, ◌≤◌, Bool, IsTrue, not, ◌==◌, List, [], ◌∷◌, ◌++◌, map, length, replicate, fold, take_while, filter, All, Option, Some, None, IsSome, slice_index_or, slice_set, ⊤}
 use Rattle.std.specs.List.{range_with_len, list_any, list_all}
 use Rattle.bc_profile.specs.declared.event.Event.{Event}
@@ -41,7 +42,8 @@ pub record IsHeld (slots : Slots) (skip : Skip) : Type 0 where
   pub referenced : 1 ≤ skip.refs
   pub keyed : IsSome (key_of slots skip.slot)
 
--- when a slot may be programmed with a key: those before it in the idle order were passed over, since they were held
+-- when a slot may be programmed with a key: those before it in the idle order were passed over,
+-- since they were held
 pub record MayProgram (slots : Slots) (slot key : ℕ) (skipped : List Skip) : Type 0 where
   pub is_slot : slot < length slots.keys
   pub key_in_no_slot : InNoSlot slots key

@@ -1,5 +1,6 @@
--- The slots of a device that has many callers: beside the key of each slot and the list of idle slots, how many references
--- each slot has; and what the calls of that table do. No public contract speaks of the table itself.
+-- The slots of a device that has many callers: beside the key of each slot and the list of idle
+-- slots, how many references each slot has; and what the calls of that table do. No public contract
+-- speaks of the table itself.
 use Rattle.std.specs.Prelude.{◌≡◌, ℕ, ◌+◌, ◌-◌, ◌<◌, ◌≤◌, ◌==◌, Bool, true, false, List, [], ◌∷◌, Some, slice_set, slice_index_or, length, map, find, take_while, replicate, IsSome, not, if◌then◌else◌, ⊤}
 use Rattle.std.specs.List.{AllByRecursion, list_any}
 use Rattle.bc_profile.specs.SlotJournal.{Slots, opening, InNoSlot, MayProgram, after_event, key_of, is_listed}
@@ -51,17 +52,18 @@ AllHeld table = (slot : ℕ) → slot < length table.slots.keys → 1 ≤ refs_o
 abbrev pub with_refs : TableData → ℕ → ℕ → TableData
 with_refs table slot refs = record table { refs = slice_set table.refs slot refs }
 
--- a hold was taken: of the slot that has the key, or of the first slot of the idle order that isn't held
-abbrev pub Takes : TableData → TableData → ℕ → Took → Type 0
-Takes old new key (took.Found slot) =
+-- a hold was taken: of the slot that has the key, or of the first slot of the idle order that isn't
+-- held
+abbrev pub TakesSlot : TableData → TableData → ℕ → Took → Type 0
+TakesSlot old new key (took.Found slot) =
     (key_of old.slots slot ≡ Some key) × (new ≡ with_refs old slot (one_more (refs_of old.refs slot)))
-Takes old new key (took.Programmed slot skipped) =
+TakesSlot old new key (took.Programmed slot skipped) =
     MayProgram old.slots slot key skipped × AllByRecursion (WasFound old.refs) skipped × (refs_of old.refs slot ≡ 0)
     × (new ≡ record {
       slots = after_event old.slots (events.Program slot key skipped);
       refs = slice_set old.refs slot 1;
     })
-Takes old new key took.None = InNoSlot old.slots key × AllHeld old × (new ≡ old)
+TakesSlot old new key took.None = InNoSlot old.slots key × AllHeld old × (new ≡ old)
 
 -- a hold was given back: where it was the last one, the slot is idle
 abbrev pub GivesBack : TableData → TableData → ℕ → Bool → Type 0
@@ -72,11 +74,11 @@ GivesBack old new slot false =
     (1 < refs_of old.refs slot) × (new ≡ with_refs old slot (refs_of old.refs slot - 1))
 
 -- a key was taken out of its slot, unless that one is held
-abbrev pub Empties : TableData → TableData → ℕ → Emptied → Type 0
-Empties old new key emptied.Nowhere = InNoSlot old.slots key × (new ≡ old)
-Empties old new key (emptied.Held slot refs) =
+abbrev pub TableEmpties : TableData → TableData → ℕ → Emptied → Type 0
+TableEmpties old new key emptied.Nowhere = InNoSlot old.slots key × (new ≡ old)
+TableEmpties old new key (emptied.Held slot refs) =
     (key_of old.slots slot ≡ Some key) × (1 ≤ refs) × (refs ≡ refs_of old.refs slot) × (new ≡ old)
-Empties old new key (emptied.Taken slot) =
+TableEmpties old new key (emptied.Taken slot) =
     (key_of old.slots slot ≡ Some key) × (refs_of old.refs slot ≡ 0)
     × (new ≡ record old { slots = after_event old.slots (events.Evict slot key) })
 

@@ -1,4 +1,5 @@
--- What contracts see of a keyslot manager for one caller, and the one thing that its calls do: they record events.
+-- What contracts see of a keyslot manager for one caller, and the one thing that its calls do: they
+-- record events.
 use Rattle.std.specs.Prelude.{ℕ, ◌+◌, ◌<◌, ◌≤◌, List, [], ◌++◌, length, Option, None, ⊤}
 use Rattle.bc_profile.specs.declared.event.Event.{Event}
 use Rattle.bc_profile.specs.declared.uses.Use.{Use}
@@ -6,7 +7,8 @@ use Rattle.bc_profile.specs.declared.uses.Use.TheVariants as uses
 use Rattle.bc_profile.specs.SlotJournal.{Slots, slots_after, key_of}
 use Rattle.bc_profile.specs.Rows.{row_of}
 
--- how many slots there are, the register row of each key, the journal, the slot that is held, and how many events fit
+-- how many slots there are, the register row of each key, the journal, the slot that is held, and
+-- how many events fit
 pub record SoloData : Type 0 where
   pub count : ℕ
   pub rows : List (List ℕ)
@@ -15,12 +17,12 @@ pub record SoloData : Type 0 where
   pub quota : ℕ
 
 -- nothing is recorded, and no slot is held
-abbrev pub opened : ℕ → List (List ℕ) → ℕ → SoloData
-opened count rows quota = record { count = count; rows = rows; journal = []; held = None; quota = quota }
+abbrev pub opened_solo : ℕ → List (List ℕ) → ℕ → SoloData
+opened_solo count rows quota = record { count = count; rows = rows; journal = []; held = None; quota = quota }
 
 -- these events are recorded, and then this slot is held, or none
-abbrev pub recorded : SoloData → List Event → Option ℕ → SoloData
-recorded solo events held = record solo { journal = solo.journal ++ events; held = held }
+abbrev pub solo_with_events : SoloData → List Event → Option ℕ → SoloData
+solo_with_events solo events held = record solo { journal = solo.journal ++ events; held = held }
 
 -- the slots as the journal leaves them
 abbrev pub slots_of : SoloData → Slots

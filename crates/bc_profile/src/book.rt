@@ -6,7 +6,7 @@ ghost use Rattle.bc_profile.specs.declared.event.Event.TheVariants as events;
 ghost use Rattle.bc_profile.specs.declared.limits.TheConstants.{MAX_SLOTS, MAX_EVENTS};
 ghost use Rattle.bc_profile.specs.SlotJournal.{IsLawful};
 ghost use Rattle.bc_profile.specs.Story.{Holds, IsGone, events_of};
-ghost use Rattle.bc_profile.specs.Book.{HasRoom, TakesHold, NoneFree, AllHeld, IsHeldBy, Empties, IsBusy, given_back, recorded};
+ghost use Rattle.bc_profile.specs.Book.{HasRoom, TakesHold, NoneFree, AllHeld, IsHeldBy, Empties, IsBusy, given_back, book_with_events};
 
 use crate::lists::copies;
 use crate::table::{Emptied, SlotTable, Took};
@@ -14,9 +14,11 @@ use crate::{BookBase, Event, Noted, SlotState, SlotWord, Words};
 use bc_turn::Story;
 use std::alloc::{AllocError, Global};
 use std::marker::Model;
+use thiserror::Error;
 
 /// Why a key isn't taken out: its slot was found with so many references.
-#[derive(Clone, Copy, Debug, PartialEq, Eq)]
+#[derive(Clone, Copy, Debug, PartialEq, Eq, Error)]
+#[error("the key's slot {slot} has {refs} references")]
 pub struct Busy {
     pub slot: u16,
     pub refs: u16,
@@ -89,8 +91,9 @@ impl Book {
         self.story.len()
     }
 
-    /// Takes a hold of the key for a caller: its slot, and the place in the story of the event that programmed the slot
-    /// with it. None where no slot has the key and each is held. There is room for an event.
+    /// Takes a hold of the key for a caller: its slot, and the place in the story of the event that
+    /// programmed the slot with it. None where no slot has the key and each is held. There is room
+    /// for an event.
     pub(crate) fn take_hold(&mut self, caller: u16, key: u16) -> Option<(u16, u32)>
         requires room { HasRoom self.old }
         ensures taken { IfSome result (λ hold. TakesHold self.old self.new caller key hold.0) }
@@ -133,8 +136,8 @@ impl Book {
         words
     }
 
-    /// Gives a hold of the slot back for a caller. Where no reference is left the slot is idle, which is recorded. There is
-    /// room for an event.
+    /// Gives a hold of the slot back for a caller. Where no reference is left the slot is idle,
+    /// which is recorded. There is room for an event.
     pub(crate) fn give_back(&mut self, caller: u16, slot: u16)
         requires room { HasRoom self.old }
         requires slot { slot < self.old.count }
@@ -148,7 +151,8 @@ impl Book {
         }
     }
 
-    /// Takes the key out of its slot for a caller, unless that one is held; both are recorded. There is room for an event.
+    /// Takes the key out of its slot for a caller, unless that one is held; both are recorded.
+    /// There is room for an event.
     ///
     /// # Errors
     ///
@@ -179,12 +183,13 @@ impl Book {
         }
     }
 
-    /// Records a reset by a caller where no slot is held, and tells whether it did. There is room for an event.
+    /// Records a reset by a caller where no slot is held, and tells whether it did. There is room
+    /// for an event.
     pub(crate) fn reset(&mut self, caller: u16) -> bool
         requires room { HasRoom self.old }
         ensures idle { result ≡ list_all (λ refs. refs == 0) self.old.refs }
         ensures made { self.new ≡
-            if result then recorded self.old caller (events.Reset ∷ []) self.old.refs else self.old }
+            if result then book_with_events self.old caller (events.Reset ∷ []) self.old.refs else self.old }
     {
         let idle = self.table.is_idle();
         if idle {

@@ -4,8 +4,8 @@ ghost use Rattle.std.specs.Prelude.{◌≡◌};
 use std::marker::Model;
 use std::snapshot::Snapshot;
 
-/// What no call changes of a [`Book`](crate::Book): how many slots there are, and how many events each caller may make. It
-/// has no bytes.
+/// What no call changes of a [`Book`](crate::Book): how many slots there are, and how many events
+/// each caller may make. It has no bytes.
 #[derive(Drop)]
 pub struct BookBase {
     slots: Snapshot<u16>,

@@ -5,8 +5,8 @@ use crate::Row;
 use bc_key::KeyNo;
 use std::marker::Model;
 
-/// A hold of a key: the slot that has it while the hold is there, and the place in the story of the event that programmed the
-/// slot with it. A pass has one hold at most.
+/// A hold of a key: the slot that has it while the hold is there, and the place in the story of the
+/// event that programmed the slot with it. A pass has one hold at most.
 #[derive(Debug, Drop)]
 pub struct Hold {
     slot: u16,

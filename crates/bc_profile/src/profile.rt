@@ -6,7 +6,7 @@ ghost use Rattle.bc_profile.specs.declared.noted.Noted.{Noted};
 ghost use Rattle.bc_profile.specs.declared.event.Event.TheVariants.{Reset};
 ghost use Rattle.bc_profile.specs.declared.limits.TheConstants.{ROW_WORDS, MAX_SLOTS, MAX_EVENTS};
 ghost use Rattle.bc_profile.specs.Story.{Holds, events_of};
-ghost use Rattle.bc_profile.specs.Passes.{IsOf, HasSpare, Noticed, Gets, AllFoundHeld, Puts, Evicts, Refuses, slots_in, row_at, base_in, quota_of, made_by, new_pass, AreAllHere, IsClosed, IsFree};
+ghost use Rattle.bc_profile.specs.Passes.{IsOf, HasSpare, Noticed, Gets, AllFoundHeld, Puts, Evicts, RefusesEviction, slots_in, row_at, base_in, quota_of, made_by, new_pass, AreAllHere, IsClosedStory, IsFree};
 
 use crate::seats::{seat, take_events, unseat};
 use crate::{Book, BookBase, Busy, Event, Hold, Row, SlotPass, Words};
@@ -16,9 +16,11 @@ use std::alloc::{AllocError, Global};
 use std::marker::Model;
 use std::sync::Wait;
 use std::thread;
+use thiserror::Error;
 
 /// Why no hold was taken: no slot has the key, and each was found held.
-#[derive(Debug, Drop)]
+#[derive(Debug, Drop, Error)]
+#[error("no slot has the key, and each is held")]
 pub struct AllHeld {
     /// What each slot was found to be.
     pub words: Words,
@@ -54,9 +56,10 @@ fn total(quotas: &[u32]) -> u32
 }
 
 impl Profile {
-    /// A device with `slots` slots, 1 to [`MAX_SLOTS`](crate::MAX_SLOTS), none of which has a key, and a pass for each caller,
-    /// whose numbers are 0, 1 and so on in order. `rows` has the register row of each key at the key's number, of at most
-    /// 4096, and `quotas` how many events each caller may make, of 1 to 65,535 callers.
+    /// A device with `slots` slots, 1 to [`MAX_SLOTS`](crate::MAX_SLOTS), none of which has a key,
+    /// and a pass for each caller, whose numbers are 0, 1 and so on in order. `rows` has the
+    /// register row of each key at the key's number, of at most 4096, and `quotas` how many events
+    /// each caller may make, of 1 to 65,535 callers.
     ///
     /// # Errors
     ///
@@ -97,8 +100,9 @@ impl Profile {
 
     /// The journal at the end. All passes are here, and none has a hold.
     ///
-    /// The journal is the events of a story: a lawful journal, which begins with what each pass has seen, and in which the
-    /// events of a caller are those that its pass made, each once, in its order.
+    /// The journal is the events of a story: a lawful journal, which begins with what each pass has
+    /// seen, and in which the events of a caller are those that its pass made, each once, in its
+    /// order.
     ///
     /// # Errors
     ///
@@ -108,7 +112,7 @@ impl Profile {
         requires free { Each (λ pass. pass.hold ≡ None) passes.items }
         requires here { AreAllHere self passes.items }
         ensures closed { IfOk result (λ journal. (story : List Noted) × (journal.items ≡ events_of story)
-            × IsClosed self passes.items story) }
+            × IsClosedStory self passes.items story) }
         ensures back { IfErr result (λ back. (back.0 ≡ self) × (back.1.items ≡ passes.items)) }
     {
         let limit = total(self.quotas.as_slice()) as usize;
@@ -149,9 +153,10 @@ impl Profile {
         }
     }
 
-    /// Takes a hold of the key, if a slot has it or a slot isn't held. Such a slot, the first of the idle order, is programmed
-    /// with the key where none has it. Paired with [`Profile::put`]. The pass has no hold and a spare of two events, of which
-    /// one is kept for the call of `put`; the key has a row.
+    /// Takes a hold of the key, if a slot has it or a slot isn't held. Such a slot, the first of
+    /// the idle order, is programmed with the key where none has it. Paired with [`Profile::put`].
+    /// The pass has no hold and a spare of two events, of which one is kept for the call of `put`;
+    /// the key has a row.
     ///
     /// # Errors
     ///
@@ -182,7 +187,8 @@ impl Profile {
         Ok(hold)
     }
 
-    /// Takes a hold of the key, as [`Profile::try_get`]; while no slot has the key and all are held it tries again.
+    /// Takes a hold of the key, as [`Profile::try_get`]; while no slot has the key and all are held
+    /// it tries again.
     pub fn get<R: Wait>(&self, rt: &R, pass: &mut SlotPass, key: KeyNo) -> Hold
         requires pass { IsOf self.now pass.old }
         requires free { pass.old.hold ≡ None }
@@ -203,7 +209,8 @@ impl Profile {
         unreachable!()
     }
 
-    /// Gives the hold of the pass back. Where no reference is left the slot is idle. The pass has a spare of an event.
+    /// Gives the hold of the pass back. Where no reference is left the slot is idle. The pass has a
+    /// spare of an event.
     pub fn put<R: Wait>(&self, rt: &R, pass: &mut SlotPass, hold: Hold)
         requires pass { IsOf self.now pass.old }
         requires held { pass.old.hold ≡ Some hold }
@@ -218,7 +225,8 @@ impl Profile {
         pass.hold = None;
     }
 
-    /// Takes the key out of its slot, if a slot has it, unless that one is held. The pass has no hold and a spare of an event.
+    /// Takes the key out of its slot, if a slot has it, unless that one is held. The pass has no
+    /// hold and a spare of an event.
     ///
     /// # Errors
     ///
@@ -232,7 +240,7 @@ impl Profile {
         ensures free { pass.new.hold ≡ None }
         ensures evicted { MatchResult result
             (λ _. Evicts (slots_in self.now) pass.old pass.new key.0)
-            (λ busy. Refuses (slots_in self.now) pass.old pass.new key.0 busy.slot busy.refs) }
+            (λ busy. RefusesEviction (slots_in self.now) pass.old pass.new key.0 busy.slot busy.refs) }
     {
         let mut book = self.turns.take(rt, &mut pass.turn, 0);
         let evicted = book.evict(pass.turn.number(), key.0);
@@ -240,8 +248,8 @@ impl Profile {
         evicted
     }
 
-    /// Resets the device: all slots are programmed again, once none is held; until then it tries again. Keys, events and the
-    /// idle order stay. The pass has no hold and a spare of an event.
+    /// Resets the device: all slots are programmed again, once none is held; until then it tries
+    /// again. Keys, events and the idle order stay. The pass has no hold and a spare of an event.
     pub fn reset<R: Wait>(&self, rt: &R, pass: &mut SlotPass)
         requires pass { IsOf self.now pass.old }
         requires free { pass.old.hold ≡ None }

@@ -2,14 +2,14 @@
 ghost use Rattle.std.specs.Prelude.{◌≡◌, ℕ, ◌<◌, ◌≤◌, length, position, slice_index, find, not, MatchOption, None};
 ghost use Rattle.std.specs.List.{AllByRecursion};
 ghost use Rattle.bc_profile.specs.declared.limits.TheConstants.{MAX_SLOTS};
-ghost use Rattle.bc_profile.specs.OneCaller.{is_key};
+ghost use Rattle.bc_profile.specs.OneCaller.{has_key};
 ghost use Rattle.bc_profile.specs.SlotTable.{IsFirstFree, is_held};
 
 use crate::{Skip, Skips};
 
 /// The first slot that has the key.
 pub(crate) fn slot_with(keys: &[Option<u16>], key: u16) -> Option<usize>
-    ensures { result ≡ position (is_key key) keys.now }
+    ensures { result ≡ position (has_key key) keys.now }
 {
     keys.iter().position(|has| *has == Some(key))
 }
@@ -29,7 +29,8 @@ pub(crate) fn least(stamps: &[u32]) -> usize
     least
 }
 
-/// The first slot of the list that isn't held, and those before it with their references. None where each is held.
+/// The first slot of the list that isn't held, and those before it with their references. None
+/// where each is held.
 pub(crate) fn first_free(list: &[u16], refs: &[u16]) -> Option<(u16, Skips)>
     requires few { length list.now ≤ MAX_SLOTS }
     requires slots { AllByRecursion (λ slot. slot < length refs.now) list.now }

@@ -20,7 +20,8 @@ pub(crate) fn seat(mut turns: Vec<TurnPass<Book>>, passes: &mut Vec<SlotPass>)
     }
 }
 
-/// Takes the passes of turns out of these, which have no hold. There is room for them in `turns`, which is empty.
+/// Takes the passes of turns out of these, which have no hold. There is room for them in `turns`,
+/// which is empty.
 pub(crate) fn unseat(mut passes: Vec<SlotPass>, turns: &mut Vec<TurnPass<Book>>)
     requires free { Each (λ pass. pass.hold ≡ None) passes.items }
     requires empty { turns.old.items ≡ [] }

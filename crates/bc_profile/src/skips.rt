@@ -13,7 +13,8 @@ pub struct Skip {
     pub refs: u16,
 }
 
-/// The slots that a programming passed over, in the idle order: at most [`MAX_SLOTS`]. Takes no memory.
+/// The slots that a programming passed over, in the idle order: at most [`MAX_SLOTS`]. Takes no
+/// memory.
 #[derive(Debug, Drop, PartialEq, Eq)]
 pub struct Skips {
     skips: ArrayVec<Skip, MAX_SLOTS>,

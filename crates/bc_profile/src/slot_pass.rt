@@ -6,7 +6,8 @@ use crate::{Book, Hold};
 use bc_turn::TurnPass;
 use std::marker::Model;
 
-/// A caller's pass of a [`Profile`](crate::Profile): its number, how far it has seen the story, and the hold that it has.
+/// A caller's pass of a [`Profile`](crate::Profile): its number, how far it has seen the story, and
+/// the hold that it has.
 #[derive(Drop)]
 pub struct SlotPass {
     pub(crate) turn: TurnPass<Book>,

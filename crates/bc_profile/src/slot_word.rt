@@ -18,8 +18,8 @@ pub enum SlotState {
     Claimed,
 }
 
-/// What a slot is found to be: its references, its state, its key, and the place in the journal of the event that
-/// programmed it with the key. Key and place are 0 where it has no key.
+/// What a slot is found to be: its references, its state, its key, and the place in the journal of
+/// the event that programmed it with the key. Key and place are 0 where it has no key.
 #[derive(Clone, Copy, Debug, Default, PartialEq, Eq)]
 pub struct SlotWord {
     pub refs: u16,
@@ -28,7 +28,8 @@ pub struct SlotWord {
     pub epoch: u32,
 }
 
-/// What the slots of a device are found to be, in the order of their numbers: at most [`MAX_SLOTS`]. Takes no memory.
+/// What the slots of a device are found to be, in the order of their numbers: at most
+/// [`MAX_SLOTS`]. Takes no memory.
 #[derive(Debug, Drop)]
 pub struct Words {
     words: ArrayVec<SlotWord, MAX_SLOTS>,

@@ -1,14 +1,15 @@
 //! The keyslot manager for one caller.
 //!
-//! Each slot has a stamp, which says when it became idle last, so the least recently idle slot is the one with the least
-//! stamp. All calls but [`Solo::open`] take no memory, and but [`Solo::reset`] go over the slots once or twice.
+//! Each slot has a stamp, which says when it became idle last, so the least recently idle slot is
+//! the one with the least stamp. All calls but [`Solo::open`] take no memory, and but
+//! [`Solo::reset`] go over the slots once or twice.
 ghost use Rattle.std.specs.Prelude.{◌≡◌, ◌+◌, ◌*◌, ◌<◌, ◌≤◌, [], ◌∷◌, length, Some, None, IfOk};
 ghost use Rattle.bc_profile.specs.declared.limits.TheConstants.{MAX_SLOTS, MAX_EVENTS};
 ghost use Rattle.bc_profile.specs.declared.event.Event.TheVariants as events;
 ghost use Rattle.bc_profile.specs.SlotJournal.{InNoSlot, IsLawful, AllIdle};
 ghost use Rattle.bc_profile.specs.Programmings.{Holds};
 ghost use Rattle.bc_profile.specs.OneCaller.{slot_with, slot_for, first_idle, events_of_hold, events_of_eviction};
-ghost use Rattle.bc_profile.specs.Solo.{HasSpare, opened, recorded, slots_of, row_in};
+ghost use Rattle.bc_profile.specs.Solo.{HasSpare, opened_solo, solo_with_events, slots_of, row_in};
 
 use crate::lists::{copies, numbers};
 use crate::registers::{CLEARED, Row, program_again};
@@ -57,8 +58,8 @@ impl Model for Solo {
 }
 
 impl Solo {
-    /// A device with `slots` slots, 1 to [`MAX_SLOTS`], none of which has a key. `rows` has the register row of each key
-    /// at the key's number, and the journal has room for `events` events.
+    /// A device with `slots` slots, 1 to [`MAX_SLOTS`], none of which has a key. `rows` has the
+    /// register row of each key at the key's number, and the journal has room for `events` events.
     ///
     /// # Errors
     ///
@@ -67,7 +68,7 @@ impl Solo {
         requires some { 1 ≤ slots }
         requires few { slots ≤ MAX_SLOTS }
         requires events { events < MAX_EVENTS }
-        ensures { IfOk result (λ solo. solo ≡ opened slots rows.items events) }
+        ensures { IfOk result (λ solo. solo ≡ opened_solo slots rows.items events) }
     {
         let count = usize::from(slots);
         Ok(Solo {
@@ -89,17 +90,18 @@ impl Solo {
         self.quota - self.journal.len() as u32
     }
 
-    /// Takes a hold of the key: its slot, and the place in the journal of the event that programmed the slot with it.
-    /// Where no slot has the key, the least recently idle slot is programmed with it first.
+    /// Takes a hold of the key: its slot, and the place in the journal of the event that programmed
+    /// the slot with it. Where no slot has the key, the least recently idle slot is programmed with
+    /// it first.
     ///
-    /// Paired with [`Solo::put`] of the slot, and no other hold is taken before it. The key has a row, and the journal
-    /// has room for two events, of which one is kept for the call of `put`.
+    /// Paired with [`Solo::put`] of the slot, and no other hold is taken before it. The key has a
+    /// row, and the journal has room for two events, of which one is kept for the call of `put`.
     pub fn hold(&mut self, key: KeyNo) -> (u16, u32)
         requires free { self.old.held ≡ None }
         requires key { key.0 < length self.old.rows }
         requires spare { HasSpare self.old 2 }
         ensures records { self.new ≡
-            recorded self.old (events_of_hold (slots_of self.old) key.0) (Some result.0) }
+            solo_with_events self.old (events_of_hold (slots_of self.old) key.0) (Some result.0) }
         ensures slot { result.0 ≡ slot_for (slots_of self.old) key.0 }
         ensures holds { Holds self.new.count self.new.journal key.0 result.0 result.1 }
     {
@@ -117,7 +119,7 @@ impl Solo {
         requires nowhere { slot_with (slots_of self.old) key.0 ≡ None }
         requires spare { HasSpare self.old 2 }
         ensures records { self.new ≡
-            recorded self.old (events.Program result.0 key.0 [] ∷ []) (Some result.0) }
+            solo_with_events self.old (events.Program result.0 key.0 [] ∷ []) (Some result.0) }
         ensures slot { result.0 ≡ first_idle (slots_of self.old) }
         ensures holds { Holds self.new.count self.new.journal key.0 result.0 result.1 }
     {
@@ -146,7 +148,7 @@ impl Solo {
     /// Gives back the hold of the slot, which is idle from now on and keeps its key.
     pub fn put(&mut self, slot: u16)
         requires { self.old.held ≡ Some slot }
-        ensures { self.new ≡ recorded self.old (events.Idle slot ∷ []) None }
+        ensures { self.new ≡ solo_with_events self.old (events.Idle slot ∷ []) None }
     {
         let stamp = (self.keys.len() + self.journal.len()) as u32;
         self.stamps[usize::from(slot)] = stamp;
@@ -154,14 +156,14 @@ impl Solo {
         self.held = None;
     }
 
-    /// Takes the key out of its slot and clears the registers, if a slot has it. No slot is held, the key has a row, and
-    /// the journal has room for an event.
+    /// Takes the key out of its slot and clears the registers, if a slot has it. No slot is held,
+    /// the key has a row, and the journal has room for an event.
     pub fn evict(&mut self, key: KeyNo)
         requires free { self.old.held ≡ None }
         requires key { key.0 < length self.old.rows }
         requires spare { HasSpare self.old 1 }
         ensures records { self.new ≡
-            recorded self.old (events_of_eviction (slots_of self.old) key.0) None }
+            solo_with_events self.old (events_of_eviction (slots_of self.old) key.0) None }
         ensures gone { InNoSlot (slots_of self.new) key.0 }
     {
         if let Some(slot) = slot_with(self.keys.as_slice(), key.0) {
@@ -174,13 +176,13 @@ impl Solo {
         }
     }
 
-    /// Resets the device: clears the registers of all slots, and programs each slot that has a key with it again. Slots
-    /// keep their keys, and stay in the order in which they became idle. No slot is held, and the journal has room for an
-    /// event.
+    /// Resets the device: clears the registers of all slots, and programs each slot that has a key
+    /// with it again. Slots keep their keys, and stay in the order in which they became idle. No
+    /// slot is held, and the journal has room for an event.
     pub fn reset(&mut self)
         requires free { self.old.held ≡ None }
         requires spare { HasSpare self.old 1 }
-        ensures { self.new ≡ recorded self.old (events.Reset ∷ []) None }
+        ensures { self.new ≡ solo_with_events self.old (events.Reset ∷ []) None }
     {
         program_again(
             self.registers.as_mut_slice(),

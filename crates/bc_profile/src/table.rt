@@ -3,7 +3,7 @@ ghost use Rattle.std.specs.Prelude.{◌≡◌, ◌<◌, ◌≤◌, ◌==◌, len
 ghost use Rattle.std.specs.List.{list_all};
 ghost use Rattle.bc_profile.specs.declared.limits.TheConstants.{MAX_SLOTS};
 ghost use Rattle.bc_profile.specs.SlotJournal.{without, key_of};
-ghost use Rattle.bc_profile.specs.SlotTable.{Takes, GivesBack, Empties, new_table, one_more, refs_of};
+ghost use Rattle.bc_profile.specs.SlotTable.{TakesSlot, GivesBack, TableEmpties, new_table, one_more, refs_of};
 
 use crate::lists::copies;
 use crate::search::{first_free, slot_with};
@@ -17,7 +17,8 @@ use std::marker::Model;
 pub(crate) struct SlotTable {
     /// The key of each slot.
     keys: Vec<Option<u16>>,
-    /// The idle slots, and those that got a hold while they were idle; the least recently idle one first.
+    /// The idle slots, and those that got a hold while they were idle; the least recently idle one
+    /// first.
     list: ArrayVec<u16, MAX_SLOTS>,
     /// The references of each slot.
     refs: Vec<u16>,
@@ -121,7 +122,7 @@ impl SlotTable {
 
     /// Takes a hold of the key.
     pub(crate) fn take_hold(&mut self, key: u16) -> Took
-        ensures { Takes self.old self.new key result }
+        ensures { TakesSlot self.old self.new key result }
     {
         if let Some(slot) = slot_with(self.keys.as_slice(), key) {
             self.refs[slot] = counted(self.refs[slot]);
@@ -154,7 +155,7 @@ impl SlotTable {
 
     /// Takes the key out of its slot, unless that one is held.
     pub(crate) fn take_out(&mut self, key: u16) -> Emptied
-        ensures { Empties self.old self.new key result }
+        ensures { TableEmpties self.old self.new key result }
     {
         let Some(slot) = slot_with(self.keys.as_slice(), key) else {
             return Emptied::Nowhere;

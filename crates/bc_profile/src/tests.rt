@@ -105,7 +105,8 @@ fn holds_name_their_programming(rt: HostRuntime) -> Result<(), Fail> {
     Ok(())
 }
 
-/// What the fold of a journal says of a use: the key of each slot, the list of idle slots, and what is recorded.
+/// What the fold of a journal says of a use: the key of each slot, the list of idle slots, and what
+/// is recorded.
 fn fold_use(
     keys: &mut Vec<Option<u16>>,
     list: &mut Vec<u16>,

@@ -1,7 +1,7 @@
 //! What one caller does with a device.
 ghost use Rattle.std.specs.Prelude.{◌≡◌, ◌*◌, length, All, None};
 ghost use Rattle.bc_profile.specs.OneCaller.{events_of_use, journal_of};
-ghost use Rattle.bc_profile.specs.Solo.{HasSpare, NamesRow, recorded, slots_of};
+ghost use Rattle.bc_profile.specs.Solo.{HasSpare, NamesRow, solo_with_events, slots_of};
 
 use crate::Solo;
 use bc_key::KeyNo;
@@ -18,13 +18,13 @@ pub enum Use {
 }
 
 impl Solo {
-    /// Carries out the uses, one after the other, by the calls that they are named after. No slot is held, each key has
-    /// a row, and the journal has room for two events for each use.
+    /// Carries out the uses, one after the other, by the calls that they are named after. No slot
+    /// is held, each key has a row, and the journal has room for two events for each use.
     pub fn carry_out(&mut self, uses: &[Use])
         requires free { self.old.held ≡ None }
         requires keys { All (NamesRow (length self.old.rows)) uses.now }
         requires spare { HasSpare self.old (2 * length uses.now) }
-        ensures { self.new ≡ recorded self.old (journal_of (slots_of self.old) uses.now) None }
+        ensures { self.new ≡ solo_with_events self.old (journal_of (slots_of self.old) uses.now) None }
     {
         for one in uses {
             self.carry_out_one(*one);
@@ -36,7 +36,7 @@ impl Solo {
         requires free { self.old.held ≡ None }
         requires key { NamesRow (length self.old.rows) one }
         requires spare { HasSpare self.old 2 }
-        ensures { self.new ≡ recorded self.old (events_of_use (slots_of self.old) one) None }
+        ensures { self.new ≡ solo_with_events self.old (events_of_use (slots_of self.old) one) None }
     {
         match one {
             Use::Hold(key) => {

@@ -13,7 +13,8 @@ use Rattle.bc_bio.specs.declared.unit_place.UnitPlace.{UnitPlace}
 use Rattle.bc_bio.specs.Windows.{TaggedBio}
 use Rattle.bc_bio.specs.Requests.{RequestParts, tagged_of, tagged_bios, place_of, place_in, with_bio_of, with_fault, first_fault, unit_in, with_unit}
 use Rattle.bc_queue.specs.RequestUnits.{faults_of, with_fault_at}
-use Rattle.bc_queue.proofs.Lists.{at_set, get_set_other, map-set, map-set_same, get_map, get_or_map, length-set}
+use Rattle.bc_queue.proofs.Lists.{get_set_other, map-set, map-set_same, get_map, get_or_map}
+use Rattle.bc_base.proofs.Members.{at_set, length-set}
 
 -- ---- places
 

@@ -1,5 +1,5 @@
 -- Accesses one after the other: how the orders grow, and what stays known.
-use Rattle.std.proofs.Common.{◌≡◌, ◌≢◌, ℕ, ◌+◌, ◌<◌, ◌≤◌, Bool, true, false, cond, List, [], ◌∷◌, ◌++◌, length, append-nil, append_assoc, refl, sym, ap, subst, ◌∙◌, Option}
+use Rattle.std.proofs.Common.{◌≡◌, ◌≢◌, ℕ, ◌+◌, Bool, cond, List, [], ◌∷◌, ◌++◌, append-nil, sym, ap, subst, ◌∙◌, Option}
 use Rattle.std.specs.Prelude.{◌==◌, filter}
 use Rattle.std.proofs.Math.Logic.{⊎_elim}
 use Rattle.std.proofs.lemmas.Bool.{eq-eqb, ne_eqb, cases_eq}
@@ -10,34 +10,13 @@ use Rattle.bc_key.specs.KeyData.{KeyData}
 use Rattle.bc_medium.specs.declared.entry.Entry.{Entry}
 use Rattle.bc_medium.specs.declared.unit_name.UnitName.{UnitName}
 use Rattle.bc_medium.specs.KeyedDisk.{Sectors, UnitAnswer}
-use Rattle.bc_medium.specs.Places.{shard_of}
+use Rattle.bc_medium.specs.Layout.{shard_of}
 use Rattle.bc_medium.specs.Entries.{caller_of, IsToldAt}
 use Rattle.bc_medium.specs.Growth.{Appended, lies_in, Grows}
 use Rattle.bc_medium.specs.Laws.{AnswersStay}
-
-pub begins_itself : {E : Type 0} (xs : List E) → StartsWith xs xs
-begins_itself xs = ([], sym (append-nil xs))
-
-pub begins_trans : {E : Type 0} (xs ys zs : List E) → StartsWith ys xs → StartsWith zs ys → StartsWith zs xs
-begins_trans xs ys zs p q = (p.0 ++ q.0, q.1 ∙ ap (λ l. l ++ q.0) p.1 ∙ append_assoc xs p.0 q.0)
+use Rattle.bc_medium.proofs.Growing.{begins_itself, begins_trans}
 
 module _ (shards caller : ℕ) where
-  pub grows_none : (fronts : List (List Entry)) → Grows shards caller fronts fronts []
-  grows_none fronts = record {
-    fronts = λ shard. begins_itself (list_at fronts shard);
-    own_entries = λ shard within. sym (append-nil (own caller_of caller (list_at fronts shard)));
-  }
-
-  pub grows_append : (a b c : List (List Entry)) (es fs : List Entry) → Grows shards caller a b es → Grows shards caller b c fs → Grows shards caller a c (es ++ fs)
-  grows_append a b c es fs p q = record {
-    fronts = λ shard. begins_trans (list_at a shard) (list_at b shard) (list_at c shard) (p.fronts shard) (q.fronts shard);
-    own_entries = λ shard within.
-        q.own_entries shard within
-        ∙ ap (λ l. l ++ filter (lies_in shards shard) fs) (p.own_entries shard within)
-        ∙ append_assoc (own caller_of caller (list_at a shard)) (filter (lies_in shards shard) es) (filter (lies_in shards shard) fs)
-        ∙ ap (λ l. own caller_of caller (list_at a shard) ++ l) (sym (filter-append (lies_in shards shard) es fs));
-  }
-
   -- one access
   pub grows_one : (shard : ℕ) (old new : List (List Entry)) (before : List Entry) (e : Entry) → Appended caller shard old new before e → caller_of e ≡ caller → shard_of shards e.at.sector ≡ shard
       → Grows shards caller old new (e ∷ [])
@@ -60,7 +39,7 @@ module _ (shards caller : ℕ) where
         (cases_eq other shard);
   }
 
--- what was told at a place is told there along each longer order
+-- what was answered at a place is answered there along each longer order
 pub told_more : AnswersStay → (keys : List KeyData) (contents : Option Sectors) (order longer : List Entry) (place : ℕ) (name : UnitName) (answer : UnitAnswer) → StartsWith longer order → IsToldAt keys contents order place name answer → IsToldAt keys contents longer place name answer
 told_more stay keys contents order longer place name answer begins told =
     subst (λ l. IsToldAt keys contents l place name answer) (sym begins.1) (stay keys contents order begins.0 place name answer told)

@@ -1,5 +1,5 @@
 -- Places, maps and zips of lists, and ranges of numbers.
-use Rattle.std.proofs.Common.{◌≡◌, ◌≢◌, ℕ, zero, suc, ◌+◌, ◌-◌, ◌<◌, ◌≤◌, ◌⊎◌, inl, inr, Bool, true, false, cond, List, [], ◌∷◌, ◌++◌, length, map, set, get_or, append-nil, append_assoc, refl, sym, ap, subst, ◌∙◌, arith, Option, Some, None}
+use Rattle.std.proofs.Common.{◌≡◌, ◌≢◌, ℕ, zero, suc, ◌+◌, ◌-◌, ◌<◌, ◌≤◌, ◌⊎◌, inl, inr, Bool, true, false, cond, List, [], ◌∷◌, ◌++◌, length, map, set, get_or, refl, sym, ap, ◌∙◌, arith}
 use Rattle.std.specs.Prelude.{filter, slice_get, zip}
 use Rattle.std.specs.Option.{option_map}
 use Rattle.std.specs.List.{AllZip, range_with_len}
@@ -17,11 +17,6 @@ at_append (z ∷ xs) ys (suc k) x at = at_append xs ys k x at
 pub at_end : {A : Type 0} (xs : List A) (x : A) → At (xs ++ x ∷ []) (length xs) x
 at_end [] x = refl
 at_end (z ∷ xs) x = at_end xs x
-
-pub at_set : {A : Type 0} (xs : List A) (k : ℕ) (x y : A) → At xs k x → At (set xs k y) k y
-at_set [] k x y at = absurd (none-some x at)
-at_set (z ∷ xs) zero x y at = refl
-at_set (z ∷ xs) (suc k) x y at = at_set xs k x y at
 
 pub get_set_other : {A : Type 0} (xs : List A) (k j : ℕ) (y : A) → j ≢ k → slice_get (set xs k y) j ≡ slice_get xs j
 get_set_other [] k j y other = refl
@@ -43,11 +38,6 @@ get_or_set [] k y d = inr refl
 get_or_set (x ∷ xs) zero y d = inl refl
 get_or_set (x ∷ xs) (suc k) y d =
     ⊎_elim (λ (here : get_or (set xs k y) k d ≡ y). inl here) (λ (same : set xs k y ≡ xs). inr (ap (λ l. x ∷ l) same)) (get_or_set xs k y d)
-
-pub length-set : {A : Type 0} (xs : List A) (k : ℕ) (y : A) → length (set xs k y) ≡ length xs
-length-set [] k y = refl
-length-set (x ∷ xs) zero y = refl
-length-set (x ∷ xs) (suc k) y = ap suc (length-set xs k y)
 
 -- ---- maps
 
@@ -73,12 +63,6 @@ get_or_map f (z ∷ xs) (suc k) x d at = get_or_map f xs k x d at
 
 -- ---- two lists beside each other
 
-pub zip_append : {X Y : Type 0} (R : X → Y → Type 0) (xs xs' : List X) (ys ys' : List Y) → AllZip R xs ys → AllZip R xs' ys' → AllZip R (xs ++ xs') (ys ++ ys')
-zip_append R [] xs' [] ys' p q = q
-zip_append R [] xs' (y ∷ ys) ys' p q = absurd p
-zip_append R (x ∷ xs) xs' [] ys' p q = absurd p
-zip_append R (x ∷ xs) xs' (y ∷ ys) ys' p q = (p.0, zip_append R xs xs' ys ys' p.1 q)
-
 pub zip_more : {X Y : Type 0} (P : X → Type 0) (R S : X → Y → Type 0) (xs : List X) (ys : List Y) → ((x : X) (y : Y) → P x → R x y → S x y) → Each P xs → AllZip R xs ys → AllZip S xs ys
 zip_more P R S [] [] f each all = tt
 zip_more P R S [] (y ∷ ys) f each all = absurd all
@@ -92,21 +76,6 @@ pairs_append R (x ∷ xs) xs' [] ys' all = absurd all
 pairs_append R (x ∷ xs) xs' (y ∷ ys) ys' all = ap (λ l. (x, y) ∷ l) (pairs_append R xs xs' ys ys' all.1)
 
 -- ---- ranges
-
-pub range_push : (n m : ℕ) → range_with_len n (m + 1) ≡ range_with_len n m ++ (n + m) ∷ []
-range_push n zero = ap (λ (k : ℕ). k ∷ []) (sym (none n))
-  where
-    none : (n : ℕ) → n + 0 ≡ n
-    none n = omega arith
-range_push n (suc m) =
-    ap (range_with_len n) (plus m)
-    ∙ ap (λ (l : List ℕ). n ∷ l) (range_push (n + 1) m ∙ ap (λ (k : ℕ). range_with_len (n + 1) m ++ k ∷ []) (over n m))
-  where
-    plus : (m : ℕ) → suc m + 1 ≡ suc (m + 1)
-    plus m = omega arith
-
-    over : (n m : ℕ) → n + 1 + m ≡ n + suc m
-    over n m = omega arith
 
 -- a range is a shorter one and what follows it
 pub range_split : (first n m : ℕ) → range_with_len first (n + m) ≡ range_with_len first n ++ range_with_len (first + n) m

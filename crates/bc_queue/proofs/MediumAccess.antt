@@ -9,16 +9,16 @@ use Rattle.std.proofs.lemmas.List.Elements.{filter-append}
 use Rattle.bc_base.specs.declared.place.Place.{Place}
 use Rattle.bc_base.specs.Lists.{At, AllAt, list_at}
 use Rattle.bc_base.specs.Story.{own}
-use Rattle.bc_turn.specs.Parts.{Pass, CellData}
+use Rattle.bc_turn.specs.PassParts.{Pass, CellData}
 use Rattle.bc_medium.specs.declared.entry.Entry.{Entry}
 use Rattle.bc_medium.specs.declared.via.Via.{Via}
 use Rattle.bc_medium.specs.KeyedDisk.{Sectors, UnitAnswer}
-use Rattle.bc_medium.specs.Places.{shard_of}
+use Rattle.bc_medium.specs.Layout.{shard_of}
 use Rattle.bc_medium.specs.Entries.{caller_of, name_of_entry, IsToldAt}
 use Rattle.bc_medium.specs.Growth.{Appended, Performs}
 use Rattle.bc_medium.specs.Medium.{MediumData, OpeningData, shards_of, seen_by, own_at, quota_of, Accesses, AnswersSeen}
 use Rattle.bc_queue.specs.Carrying.{AccessFacts, AccessesOne, one_on}
-use Rattle.bc_ufs.specs.Controllers.{via_of}
+use Rattle.bc_ufs.specs.Controllers.{via_by_device}
 use Rattle.bc_queue.specs.Queues.{InlineData, opening_of, spare_of, facts_by}
 
 pub both_ok : {A E : Type 0} (r : Result A E) (P Q R : A → Type 0) → IfOk r P → IfOk r Q → ((x : A) → P x → Q x → R x) → IfOk r R
@@ -83,7 +83,7 @@ module _ {S : Type 0} (contents : S → Option Sectors) where
       appended : (d : Accesses m old new e place) → Appended old.caller place.shard (seen_by old) (seen_by new) d.0 e
       appended d = subst (λ (n : ℕ). Appended n place.shard (seen_by old) (seen_by new) d.0 e) by d.1.appended
 
-  -- over the medium as it is behind the way
+  -- over the medium as the way has it
   pub accesses_one : (m k : MediumData S) (via : Via) (old new : P) (e : Entry) (answer : UnitAnswer) (place : Place) → k ≡ m → new.caller ≡ old.caller → caller_of e ≡ old.caller → Accesses k old new e place → AnswersSeen contents k new (name_of_entry e) answer place
       → AccessesOne (facts_by contents m via old) (facts_by contents m via new) e answer place
   accesses_one m k via old new e answer place same caller by does seen =
@@ -96,7 +96,7 @@ module _ {S : Type 0} (contents : S → Option Sectors) where
 
   -- by a way through a controller, which stays the same
   pub accesses_under : (way now : InlineData S) (old new : P) (e : Entry) (answer : UnitAnswer) (place : Place) → now ≡ way → new.caller ≡ old.caller → caller_of e ≡ old.caller → Accesses way.medium old new e place → AnswersSeen contents way.medium new (name_of_entry e) answer place
-      → AccessesOne (facts_by contents way.medium (via_of way.controller way.hold) old) (facts_by contents now.medium (via_of now.controller now.hold) new) e answer place
+      → AccessesOne (facts_by contents way.medium (via_by_device way.controller way.hold) old) (facts_by contents now.medium (via_by_device now.controller now.hold) new) e answer place
   accesses_under way now old new e answer place same caller by does seen =
-      subst (λ (w : InlineData S). AccessesOne (facts_by contents way.medium (via_of way.controller way.hold) old) (facts_by contents w.medium (via_of w.controller w.hold) new) e answer place) (sym same)
-      (one way.medium (via_of way.controller way.hold) old new e answer place caller by does seen)
+      subst (λ (w : InlineData S). AccessesOne (facts_by contents way.medium (via_by_device way.controller way.hold) old) (facts_by contents w.medium (via_by_device w.controller w.hold) new) e answer place) (sym same)
+      (one way.medium (via_by_device way.controller way.hold) old new e answer place caller by does seen)

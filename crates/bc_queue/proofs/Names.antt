@@ -1,35 +1,32 @@
 -- Requests that were carried out, by the names of their units.
-use Rattle.std.proofs.Common.{◌≡◌, ◌≢◌, ℕ, zero, suc, ◌+◌, ◌-◌, ◌<◌, ◌≤◌, ◌⊎◌, inl, inr, Bool, true, false, cond, not, List, [], ◌∷◌, ◌++◌, length, map, set, get_or, append-nil, append_assoc, refl, sym, ap, subst, ◌∙◌, arith, Option, Some, None}
-use Rattle.std.specs.Prelude.{◌==◌, ◌&&◌, ◌||◌, nat_lt, min, filter, fold, zip, slice_get}
+use Rattle.std.proofs.Common.{◌≡◌, ◌≢◌, ℕ, suc, ◌+◌, ◌-◌, ◌<◌, ◌≤◌, ◌⊎◌, Bool, true, false, cond, not, List, [], ◌∷◌, ◌++◌, length, map, set, get_or, append-nil, append_assoc, refl, sym, ap, subst, ◌∙◌, arith, Option, Some, None}
+use Rattle.std.specs.Prelude.{◌==◌, ◌&&◌, ◌||◌, nat_lt, filter, zip, slice_get}
 use Rattle.std.specs.Option.{unwrap_or}
 use Rattle.std.specs.List.{AllZip, list_any, range_with_len}
 use Rattle.std.proofs.Math.Logic.{⊎_elim}
-use Rattle.std.proofs.lemmas.Bool.{true≢false, eq-eqb, ne_eqb, eqb-true, cases_eq, cases_lt, ltb-true, ltb-false, lt-ltb, false_from_ne_true, cases_Bool}
-use Rattle.std.proofs.lemmas.List.{map-append}
+use Rattle.std.proofs.lemmas.Bool.{true≢false, eq-eqb, ne_eqb, cases_eq, cases_lt, ltb-true, ltb-false, lt-ltb, false_from_ne_true}
 use Rattle.std.proofs.lemmas.List.Sums.{sum_by-cons}
-use Rattle.std.proofs.lemmas.Option.{same_Some, slice_get-get_or}
+use Rattle.std.proofs.lemmas.Option.{slice_get-get_or}
 use Rattle.std.proofs.Math.Nat.{min-eq_left, min-eq_right}
-use Rattle.bc_base.specs.Lists.{At, Each}
+use Rattle.bc_base.specs.Lists.{Each}
 use Rattle.bc_key.specs.KeyData.{KeyData}
 use Rattle.bc_bio.specs.declared.marked_bio.MarkedBio.{MarkedBio}
 use Rattle.bc_bio.specs.declared.unit_place.UnitPlace.{UnitPlace}
-use Rattle.bc_bio.specs.PlannedUnit.{PlannedUnit}
-use Rattle.bc_bio.specs.Windows.{TaggedBio, NamedUnit, named_unit, units_of_request, count_units}
-use Rattle.bc_bio.specs.Requests.{RequestParts, tagged_bios, place_of, place_in, first_fault, is_after, is_over}
+use Rattle.bc_bio.specs.Windows.{TaggedBio, NamedUnit, units_of_request, count_units}
+use Rattle.bc_bio.specs.Requests.{RequestParts, tagged_bios, place_of, first_fault, is_after, is_over}
 use Rattle.bc_bio.proofs.RequestLaws.{unit_found}
 use Rattle.bc_medium.specs.declared.entry.Entry.{Entry}
-use Rattle.bc_medium.specs.declared.unit_at.UnitAt.{UnitAt}
 use Rattle.bc_medium.specs.declared.unit_name.UnitName.{UnitName}
 use Rattle.bc_medium.specs.Entries.{name_of_entry, unit_name}
-use Rattle.bc_medium.specs.LawfulOrders.{name_of, is_attempted, is_earlier}
-use Rattle.bc_medium.specs.Growth.{Attempts, attempted_by, failed_names, IsEntryOf}
-use Rattle.bc_queue.specs.RequestUnits.{no_unit, named_at, planned_at, planned_part, faults_of, with_fault_at, with_faults, attempted_in, failed_among}
+use Rattle.bc_medium.specs.LawfulOrders.{unit_name_of, is_attempted, is_earlier}
+use Rattle.bc_medium.specs.Growth.{failed_names, IsEntryOf}
+use Rattle.bc_queue.specs.RequestUnits.{no_unit, planned_at, faults_of, with_fault_at, with_faults, attempted_in, failed_among}
 use Rattle.bc_queue.specs.Carrying.{AccessFacts, IsCarried, CarriesOut}
 use Rattle.bc_queue.specs.Laws.{TagsDiffer, MarkSame, IsAttempted}
-use Rattle.bc_queue.proofs.Lists.{length-set, each_filter, each_range, filter_same}
-use Rattle.bc_queue.proofs.Contents.{in_order}
+use Rattle.bc_queue.proofs.Lists.{each_filter, each_range, filter_same}
 use Rattle.bc_queue.proofs.Marks.{over, over_is}
 use Rattle.bc_queue.proofs.Walk.{same_named_at}
+use Rattle.bc_base.proofs.Members.{length-set}
 
 -- ---- tests
 
@@ -79,7 +76,7 @@ after_fault m n (Some fault) = ⊎_elim
         of_test false is = refl
 
 -- the default of a bio that isn't there is never read: each unit is within
-no_bio : TaggedBio
+pub no_bio : TaggedBio
 no_bio = record { tag = 0; bio = record { access = Rattle.bc_bio.specs.declared.access.Access.TheVariants.Read; context = None; sector = 0; units = 0 } }
 
 -- a unit's bio is there
@@ -165,7 +162,7 @@ module _ (keys : List KeyData) (caller : ℕ) (tagged : List TaggedBio) (differ 
 
 module _ (old : AccessFacts) (seen : List (List Entry)) (before after : List MarkedBio) where
   abbrev unit_names : ℕ → UnitName
-  unit_names n = name_of old.caller (planned_at old.keys before n)
+  unit_names n = unit_name_of old.caller (planned_at old.keys before n)
 
   failed_are : (ns : List ℕ) (es : List Entry) → AllZip (IsCarried old seen before after) ns es → failed_names es ≡ map unit_names (failed_among ns es)
   failed_are [] [] all = refl
@@ -223,7 +220,7 @@ by_names old new before after first count met carries within differ same =
     (each_range (λ n. is_attempted (met ++ failed_names carries.made) (name old.keys old.caller tagged differ n) ≡ not (is_over after.bios n)) first count (λ k from below. agree k (omega (arith, below, within)))) in record {
       attempts =
           subst (λ us. AllZip (IsEntryOf old.caller) us carries.made)
-          (sym (filter_map' (planned_at old.keys before.bios) (λ u. is_attempted (met ++ failed_names carries.made) (name_of old.caller u)) (range_with_len first count) ∙ ap (map (planned_at old.keys before.bios)) numbers))
+          (sym (filter_map' (planned_at old.keys before.bios) (λ u. is_attempted (met ++ failed_names carries.made) (unit_name_of old.caller u)) (range_with_len first count) ∙ ap (map (planned_at old.keys before.bios)) numbers))
           (entries_of old new.seen before.bios after.bios ns carries.made carries.carried);
       marks = λ n in_n.
           let in_before : n < count_units tagged = subst (λ t. n < count_units t) carries.bios in_n in

@@ -1,34 +1,33 @@
 -- Requests of the tests' bios can be carried out on the tests' disk.
-use Rattle.std.proofs.Common.{◌≡◌, ◌≢◌, ℕ, zero, suc, ◌+◌, ◌-◌, ◌*◌, ◌^◌, ◌<◌, ◌≤◌, Bool, true, false, cond, List, [], ◌∷◌, ◌++◌, length, map, get_or, refl, sym, ap, subst, ◌∙◌, arith, Option, Some, None}
-use Rattle.std.specs.Prelude.{IsSomeAnd, slice_get, nat_lt, option_and_then, filter, ◌==◌, ⊤, if◌then◌else◌}
+use Rattle.std.proofs.Common.{◌≡◌, ℕ, suc, ◌+◌, ◌-◌, ◌^◌, ◌<◌, ◌≤◌, Bool, true, false, cond, List, [], ◌∷◌, length, get_or, refl, sym, ap, subst, ◌∙◌, arith, Option, Some, None}
+use Rattle.std.specs.Prelude.{IsSomeAnd, slice_get, nat_lt, option_and_then, filter, ◌==◌, if◌then◌else◌}
 use Rattle.std.specs.Option.{unwrap_or}
 use Rattle.std.specs.List.{range_with_len}
 use Rattle.std.proofs.lemmas.Bool.{ltb-true, ltb-false}
 use Rattle.std.proofs.lemmas.List.{length-map}
 use Rattle.std.proofs.lemmas.List.Sums.{sum_by-cons}
 use Rattle.std.proofs.lemmas.List.FromFn.{length-range_with_len}
-use Rattle.bc_base.specs.Lists.{Each, At}
-use Rattle.bc_base.proofs.Lists.{each_at, each_append}
-use Rattle.bc_key.specs.KeyData.{KeyData}
-use Rattle.bc_bio.specs.declared.bio.Bio.{Bio}
+use Rattle.bc_base.specs.Lists.{At}
+use Rattle.bc_base.proofs.Lists.{each_at}
 use Rattle.bc_bio.specs.declared.unit.Unit.{Unit}
 use Rattle.bc_bio.specs.declared.unit.Unit.TheVariants.{Full}
 use Rattle.std.proofs.lemmas.Option.{slice_get-get_or}
 use Rattle.bc_bio.specs.declared.context.Context.{Context}
 use Rattle.bc_bio.specs.declared.marked_bio.MarkedBio.{MarkedBio}
 use Rattle.bc_bio.specs.declared.unit_place.UnitPlace.{UnitPlace}
-use Rattle.bc_bio.specs.BioUnits.{extent_of, context_wrapped}
-use Rattle.bc_bio.specs.Conditions.{IsFull, IsPlaced, HasKey}
-use Rattle.bc_bio.specs.Extent.{unit_sectors, end_of}
+use Rattle.bc_bio.specs.BioUnits.{context_wrapped}
+use Rattle.bc_bio.specs.Conditions.{IsFull}
+use Rattle.bc_bio.specs.Extent.{unit_sectors}
 use Rattle.bc_bio.specs.PlannedUnit.{PlannedUnit}
-use Rattle.bc_bio.specs.Windows.{TaggedBio, NamedUnit, units_of_request, count_units, IsRequest}
-use Rattle.bc_bio.specs.Requests.{RequestParts, tagged_of, tagged_bios, place_of, place_in, unit_in, unmarked, with_bio}
+use Rattle.bc_bio.specs.Windows.{TaggedBio, NamedUnit, count_units}
+use Rattle.bc_bio.specs.Requests.{tagged_of, tagged_bios, place_of, place_in, unit_in}
 use Rattle.bc_bio.proofs.RequestLaws.{unit_found}
-use Rattle.bc_medium.specs.Places.{shard_of}
-use Rattle.bc_queue.specs.RequestUnits.{named_at, no_unit, planned_at, planned_part, units_on}
-use Rattle.bc_queue.specs.Carrying.{IsPerformable, ArePerformable}
+use Rattle.bc_medium.specs.Layout.{shard_of}
+use Rattle.bc_queue.specs.RequestUnits.{named_at, no_unit, planned_at, planned_part, count_units_on}
+use Rattle.bc_queue.specs.Carrying.{IsPerformableUnit}
 use Rattle.bc_queue.specs.OrderOnly.{IsPlainBio, ArePlain}
 use Rattle.bc_queue.proofs.Lists.{get_or_map}
+use Rattle.bc_queue.proofs.Names.{no_bio}
 
 -- a unit that is within stands in a bio, among its units
 pub record Stands (bios : List MarkedBio) (n : ℕ) : Type 0 where
@@ -61,10 +60,7 @@ stands (m ∷ bios) n less = at (nat_lt n (length m.bio.units)) refl (stands bio
         let s = later (omega (arith, past, all, less)) in
         of_place false is s.marked (next (place_in bios (n - length m.bio.units)).bio s.marked s.bio_at) s.within
 
-no_bio : TaggedBio
-no_bio = record { tag = 0; bio = record { access = Rattle.bc_bio.specs.declared.access.Access.TheVariants.Read; context = None; sector = 0; units = 0 } }
-
-pub performable : (bios : List MarkedBio) (n : ℕ) → ArePlain bios → n < count_units (tagged_bios bios) → IsPerformable [] (λ sector context. context ≡ None) bios n
+pub performable : (bios : List MarkedBio) (n : ℕ) → ArePlain bios → n < count_units (tagged_bios bios) → IsPerformableUnit [] (λ sector context. context ≡ None) bios n
 performable bios n are less =
     let s = stands bios n less in
     let plain : IsPlainBio s.marked.bio = each_at (λ (m : MarkedBio). IsPlainBio m.bio) bios (place_in bios n).bio s.marked are s.bio_at in
@@ -75,7 +71,7 @@ performable bios n are less =
     ∙ ap (λ (o : Option Context). context_wrapped (place_in bios n).unit o) plain.no_key in
     of_unit s plain named
   where
-    of_unit : (s : Stands bios n) → IsPlainBio s.marked.bio → (named_at [] bios n).context ≡ None → IsPerformable [] (λ sector context. context ≡ None) bios n
+    of_unit : (s : Stands bios n) → IsPlainBio s.marked.bio → (named_at [] bios n).context ≡ None → IsPerformableUnit [] (λ sector context. context ≡ None) bios n
     of_unit s plain named =
         let there : slice_get s.marked.bio.units (place_in bios n).unit ≡ Some (get_or s.marked.bio.units (place_in bios n).unit (Full [])) = slice_get-get_or s.marked.bio.units (place_in bios n).unit (Full []) s.within in
         let unit : unit_in bios n ≡ Some (get_or s.marked.bio.units (place_in bios n).unit (Full [])) = ap (λ (o : Option MarkedBio). option_and_then (λ (m : MarkedBio). slice_get m.bio.units (place_in bios n).unit) o) s.bio_at ∙ there in
@@ -92,12 +88,12 @@ few p (x ∷ xs) = of_bool (p x) (few p xs)
     of_bool true less = omega (arith, less)
     of_bool false less = omega (arith, less)
 
-pub spare_for_all : (bios : List MarkedBio) (count spare shard : ℕ) → count ≤ spare → count < 2 ^ 32 → units_on 1 shard (planned_part [] bios 0 count) ≤ (if shard == 0 then spare else 2 ^ 32)
+pub spare_for_all : (bios : List MarkedBio) (count spare shard : ℕ) → count ≤ spare → count < 2 ^ 32 → count_units_on 1 shard (planned_part [] bios 0 count) ≤ (if shard == 0 then spare else 2 ^ 32)
 spare_for_all bios count spare shard less small =
-    let most : units_on 1 shard (planned_part [] bios 0 count) ≤ length (planned_part [] bios 0 count) = few (λ (u : PlannedUnit). shard_of 1 u.sector == shard) (planned_part [] bios 0 count) in
+    let most : count_units_on 1 shard (planned_part [] bios 0 count) ≤ length (planned_part [] bios 0 count) = few (λ (u : PlannedUnit). shard_of 1 u.sector == shard) (planned_part [] bios 0 count) in
     let many : length (planned_part [] bios 0 count) ≡ count = length-map (range_with_len 0 count) (planned_at [] bios) ∙ length-range_with_len 0 count in
     of_bool (shard == 0) (omega (arith, most, many))
   where
-    of_bool : (b : Bool) → units_on 1 shard (planned_part [] bios 0 count) ≤ count → units_on 1 shard (planned_part [] bios 0 count) ≤ (if b then spare else 2 ^ 32)
+    of_bool : (b : Bool) → count_units_on 1 shard (planned_part [] bios 0 count) ≤ count → count_units_on 1 shard (planned_part [] bios 0 count) ≤ (if b then spare else 2 ^ 32)
     of_bool true most = omega (arith, most, less)
     of_bool false most = omega (arith, most, small)

@@ -19,7 +19,7 @@ use Rattle.bc_bio.specs.Requests.{RequestParts, tagged_bios, tagged_of, unmarked
 use Rattle.bc_bio.proofs.ChunkLaws.{chunks_and-joined, chunks_and-apart, chunk_by-more}
 use Rattle.bc_bio.proofs.RequestLaws.{tagged_bios-append}
 use Rattle.bc_queue.specs.declared.plug.TheConstants.{MAX_PLUGGED}
-use Rattle.bc_queue.specs.Plugs.{Added, AreRequests, IsOfWindow, IsReady, IsWaiting, StandsApart, bios_of, count_bios, tagged_requests}
+use Rattle.bc_queue.specs.Plugs.{Added, AreRequests, IsOfWindow, IsReady, IsWaiting, StandsApart, bios_in, count_bios, tagged_requests}
 
 -- ---- all elements
 
@@ -60,9 +60,9 @@ few_requests (request ∷ requests) all =
 
 -- ---- the bios
 
-bios_of-more : (requests : List RequestParts) (request : RequestParts) → bios_of (requests ++ request ∷ []) ≡ bios_of requests ++ request.bios
+bios_of-more : (requests : List RequestParts) (request : RequestParts) → bios_in (requests ++ request ∷ []) ≡ bios_in requests ++ request.bios
 bios_of-more requests request =
-    flat_map-append (λ (r : RequestParts). r.bios) requests (request ∷ []) ∙ ap (λ (bs : List MarkedBio). bios_of requests ++ bs) (append-nil request.bios)
+    flat_map-append (λ (r : RequestParts). r.bios) requests (request ∷ []) ∙ ap (λ (bs : List MarkedBio). bios_in requests ++ bs) (append-nil request.bios)
 
 tagged-more : (requests : List RequestParts) (request : RequestParts) → tagged_requests (requests ++ request ∷ []) ≡ tagged_requests requests ++ tagged_bios request.bios ∷ []
 tagged-more requests request = map-append (λ (r : RequestParts). tagged_bios r.bios) requests (request ∷ [])
@@ -82,9 +82,9 @@ joined keys old new others last last' bio old_is new_is last_is runs_on spare wa
     let before = ap count_bios old_is ∙ count_bios-more others last in
     let here : IsWaiting last' = record { some = omega arith; room = omega arith } in
     record {
-      bios = ap bios_of new_is ∙ bios_of-more others last' ∙ ap (λ (bs : List MarkedBio). bios_of others ++ bs) bios_is
-          ∙ sym (append_assoc (bios_of others) last.bios (unmarked bio ∷ []))
-          ∙ ap (λ (bs : List MarkedBio). bs ++ unmarked bio ∷ []) (sym (ap bios_of old_is ∙ bios_of-more others last));
+      bios = ap bios_in new_is ∙ bios_of-more others last' ∙ ap (λ (bs : List MarkedBio). bios_in others ++ bs) bios_is
+          ∙ sym (append_assoc (bios_in others) last.bios (unmarked bio ∷ []))
+          ∙ ap (λ (bs : List MarkedBio). bs ++ unmarked bio ∷ []) (sym (ap bios_in old_is ∙ bios_of-more others last));
       merges = ap tagged_requests new_is ∙ tagged-more others last'
           ∙ ap (λ (ts : List TaggedBio). tagged_requests others ++ ts ∷ []) (ap tagged_bios bios_is ∙ tagged_bios-append last.bios (unmarked bio))
           ∙ sym (chunks_and-joined (joins keys) (tagged_requests others) (tagged_bios last.bios) (tagged_of bio) runs_on)
@@ -116,7 +116,7 @@ started keys old new ready request bio new_is request_is is_ready stands placed 
     let here : IsWaiting request = record { some = omega arith; room = omega arith } in
     let alone : IsRequest keys (tagged_bios (unmarked bio ∷ [])) = record { placed = (placed, tt); joined = tt } in
     record {
-      bios = ap bios_of new_is ∙ bios_of-more old request ∙ ap (λ (bs : List MarkedBio). bios_of old ++ bs) bios_is;
+      bios = ap bios_in new_is ∙ bios_of-more old request ∙ ap (λ (bs : List MarkedBio). bios_in old ++ bs) bios_is;
       merges = ap tagged_requests new_is ∙ tagged-more old request ∙ ap (λ (bs : List MarkedBio). tagged_requests old ++ tagged_bios bs ∷ []) bios_is ∙ sym stands;
       waiting = subst (λ (rs : List RequestParts). AllByRecursion IsWaiting rs) (sym new_is) (all_and IsWaiting old request waiting here);
       requests = subst (λ (rs : List RequestParts). AreRequests keys rs) (sym new_is)
@@ -159,12 +159,12 @@ ready_and ready request all one = all_and IsReady ready request all one
 
 -- the replies of the last request come first where the requests are turned round
 pub replies_more : (out : List Reply) (requests : List RequestParts) (request : RequestParts)
-    → (out ++ map reply_of request.bios) ++ map reply_of (bios_of (reverse requests)) ≡ out ++ map reply_of (bios_of (reverse (requests ++ request ∷ [])))
+    → (out ++ map reply_of request.bios) ++ map reply_of (bios_in (reverse requests)) ≡ out ++ map reply_of (bios_in (reverse (requests ++ request ∷ [])))
 replies_more out requests request =
     let turned : reverse (requests ++ request ∷ []) ≡ request ∷ reverse requests = reverse-append requests (request ∷ []) in
-    append_assoc out (map reply_of request.bios) (map reply_of (bios_of (reverse requests)))
-    ∙ ap (λ (rs : List Reply). out ++ rs) (sym (map-append reply_of request.bios (bios_of (reverse requests))))
-    ∙ ap (λ (rs : List RequestParts). out ++ map reply_of (bios_of rs)) (sym turned)
+    append_assoc out (map reply_of request.bios) (map reply_of (bios_in (reverse requests)))
+    ∙ ap (λ (rs : List Reply). out ++ rs) (sym (map-append reply_of request.bios (bios_in (reverse requests))))
+    ∙ ap (λ (rs : List RequestParts). out ++ map reply_of (bios_in rs)) (sym turned)
 
 -- a request that was emptied is ready
 pub ready_again : (waits new : RequestParts) → IsWaiting waits → new ≡ record { bios = []; spare = waits.spare + length waits.bios } → IsReady new

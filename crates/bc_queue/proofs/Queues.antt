@@ -1,10 +1,10 @@
 -- The parts of a queue and of its passes; what a hold serves; and the one key of a request.
-use Rattle.std.proofs.Common.{◌≡◌, ◌≢◌, ℕ, zero, suc, ◌+◌, ◌-◌, ◌<◌, ◌≤◌, ◌⊎◌, inl, inr, Bool, true, false, cond, List, [], ◌∷◌, ◌++◌, length, map, set, get_or, refl, sym, ap, subst, ◌∙◌, arith, Option, Some, None}
-use Rattle.std.specs.Prelude.{◌&&◌, ◌==◌, IsTrue, IsSomeAnd, IfSome, slice_get, is_some, flat_map, not}
-use Rattle.std.specs.Option.{option_map, option_map_or, unwrap_or}
+use Rattle.std.proofs.Common.{◌≡◌, ◌≢◌, ℕ, zero, suc, ◌+◌, ◌-◌, ◌<◌, ◌≤◌, ◌⊎◌, Bool, true, false, cond, List, [], ◌∷◌, length, map, set, get_or, refl, sym, ap, subst, ◌∙◌, arith, Option, Some, None}
+use Rattle.std.specs.Prelude.{◌&&◌, ◌==◌, IsSomeAnd, slice_get, is_some, not}
+use Rattle.std.specs.Option.{option_map, unwrap_or}
 use Rattle.std.specs.List.{AllZip, range_with_len}
 use Rattle.std.proofs.Math.Logic.{⊎_elim}
-use Rattle.std.proofs.lemmas.Bool.{and_parts, eqb-true, true≢false, false≢true}
+use Rattle.std.proofs.lemmas.Bool.{and_parts, eqb-true, false≢true}
 use Rattle.std.proofs.lemmas.Option.{none-some, same_Some, slice_get_within}
 use Rattle.std.proofs.lemmas.List.{length-append, length-map, set-set}
 use Rattle.bc_base.specs.Lists.{At, AllAt, ChangesAt, Each, EachFrom}
@@ -18,7 +18,7 @@ use Rattle.bc_bio.specs.declared.marked_bio.MarkedBio.{MarkedBio}
 use Rattle.bc_bio.specs.BackRuns.{back_runs_on, context_runs_on, same_access}
 use Rattle.bc_bio.specs.BioUnits.{context_wrapped}
 use Rattle.bc_bio.specs.Chunks.{Linked}
-use Rattle.bc_bio.specs.Extent.{unit_sectors, end_of}
+use Rattle.bc_bio.specs.Extent.{end_of}
 use Rattle.bc_bio.specs.Windows.{TaggedBio, NamedUnit, named_unit, named_units, units_of_request, joins, IsRequest}
 use Rattle.bc_bio.specs.Requests.{tagged_bios, is_over}
 use Rattle.bc_medium.specs.declared.unit_at.UnitAt.{UnitAt}
@@ -28,20 +28,14 @@ use Rattle.bc_profile.specs.declared.event.Event.{Event}
 use Rattle.bc_profile.specs.declared.event.Event.TheVariants as events
 use Rattle.bc_profile.specs.Story.{Holds, note, notes}
 use Rattle.bc_ufs.specs.Controllers.{ControllerData, row_for, Serves}
-use Rattle.bc_medium.specs.Medium.{OwnsSectors}
 use Rattle.bc_medium.specs.declared.entry.Entry.{Entry}
 use Rattle.bc_queue.specs.RequestUnits.{named_at, no_unit, attempted_in}
-use Rattle.bc_queue.specs.Carrying.{AccessFacts, IsCarried, ArePerformable, IsPerformable}
-use Rattle.bc_queue.specs.Queues.{QueueData, HasEvents, CanGo, IsHolding, HasHold, HasGot, HasPut, HoldsOnce, IsController, TakesInline, TakesUnder, InlineData, IsUnderKey}
-use Rattle.bc_queue.proofs.Lists.{at_set, each_range, each_filter}
+use Rattle.bc_queue.specs.Carrying.{AccessFacts, IsCarried, ArePerformable}
+use Rattle.bc_queue.specs.Queues.{QueueData, HasEvents, CanGo, IsHolding, PassHasHold, HasGot, HasPut, HoldsOnce, IsController, TakesInline, TakesUnder, InlineData, IsUnderKey}
+use Rattle.bc_queue.proofs.Lists.{each_range, each_filter}
+use Rattle.bc_base.proofs.Members.{at_set}
 
 -- ---- lists beside each other
-
-pub zip_length : {X Y : Type 0} (R : X → Y → Type 0) (xs : List X) (ys : List Y) → AllZip R xs ys → length ys ≡ length xs
-zip_length R [] [] all = refl
-zip_length R [] (y ∷ ys) all = absurd all
-zip_length R (x ∷ xs) [] all = absurd all
-zip_length R (x ∷ xs) (y ∷ ys) all = ap suc (zip_length R xs ys all.1)
 
 pub zip_at : {X Y : Type 0} (R : X → Y → Type 0) (xs : List X) (ys : List Y) (k : ℕ) (x : X) (y : Y) → AllZip R xs ys → At xs k x → At ys k y → R x y
 zip_at R [] ys k x y all at other = absurd (none-some x at)
@@ -154,18 +148,18 @@ module _ {S : Type 0} (queue : QueueData S) (slots : List SlotFacts) (device : �
 
 -- ---- the one key of a request
 
-key_of : Option Context → Option ℕ
+pub key_of : Option Context → Option ℕ
 key_of None = None
 key_of (Some c) = Some c.key.0
 
-same_key : (first : Option Context) (units : ℕ) (second : Option Context) → context_runs_on first units second ≡ true → key_of second ≡ key_of first
+pub same_key : (first : Option Context) (units : ℕ) (second : Option Context) → context_runs_on first units second ≡ true → key_of second ≡ key_of first
 unfolding key_of
 same_key None units None is = refl
 same_key None units (Some second) is = absurd (false≢true is)
 same_key (Some first) units None is = absurd (false≢true is)
 same_key (Some first) units (Some second) is = ap (λ (k : ℕ). Some k) (sym (eqb-true first.key.0 second.key.0 (and_parts _ _ is).0))
 
-linked_keys : (keys : List KeyData) (t : TaggedBio) (bios : List TaggedBio) → Linked (joins keys) (t ∷ bios) → Each (λ b. key_of b.bio.context ≡ key_of t.bio.context) bios
+pub linked_keys : (keys : List KeyData) (t : TaggedBio) (bios : List TaggedBio) → Linked (joins keys) (t ∷ bios) → Each (λ b. key_of b.bio.context ≡ key_of t.bio.context) bios
 linked_keys keys t [] linked = tt
 linked_keys keys t (b ∷ bios) linked =
     let runs : back_runs_on keys t.bio b.bio ≡ true = linked.0 in
@@ -176,12 +170,12 @@ linked_keys keys t (b ∷ bios) linked =
     all_more [] each same = tt
     all_more (x ∷ xs) each same = (each.0 ∙ same, all_more xs each.1 same)
 
-wrapped_key : (i : ℕ) (context : Option Context) → key_of (context_wrapped i context) ≡ key_of context
+pub wrapped_key : (i : ℕ) (context : Option Context) → key_of (context_wrapped i context) ≡ key_of context
 unfolding key_of
 wrapped_key i None = refl
 wrapped_key i (Some c) = refl
 
-units_key : (keys : List KeyData) (k : Option ℕ) (bios : List TaggedBio) → Each (λ b. key_of b.bio.context ≡ k) bios → Each (λ u. key_of u.context ≡ k) (units_of_request keys bios)
+pub units_key : (keys : List KeyData) (k : Option ℕ) (bios : List TaggedBio) → Each (λ b. key_of b.bio.context ≡ k) bios → Each (λ u. key_of u.context ≡ k) (units_of_request keys bios)
 units_key keys k [] each = tt
 units_key keys k (b ∷ bios) each =
     each_append (λ u. key_of u.context ≡ k) (named_units keys b) (units_of_request keys bios) (of_range (range_with_len 0 b.bio.units)) (units_key keys k bios each.1)
@@ -261,7 +255,7 @@ module _ {S : Type 0} (queue : QueueData S) (slots : List SlotFacts) (device : �
   abbrev pub way_of : InlineData S
   way_of = record { controller = controller; hold = hold; medium = queue.medium; slots = slots }
 
-  pub has_hold : IsHolding queue slots device hold → At queue.controllers device controller → IsController queue.medium.keys.keys device controller → HasHold way_of slots
+  pub has_hold : IsHolding queue slots device hold → At queue.controllers device controller → IsController queue.medium.keys.keys device controller → PassHasHold way_of slots
   has_hold h at is =
       let same : h.controller ≡ controller = at_one queue.controllers device h.controller controller h.controller_at at in record {
         same = refl;

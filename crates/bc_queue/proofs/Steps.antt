@@ -21,7 +21,7 @@ use Rattle.bc_medium.specs.KeyedDisk.{UnitAnswer, Faulted, Written, Text}
 use Rattle.bc_medium.specs.Entries.{written_entry, read_entry, failed_entry}
 use Rattle.bc_medium.specs.Growth.{IsEntryOf, Appended}
 use Rattle.bc_queue.specs.RequestUnits.{named_at, access_at, written_bytes, planned_at, faults_of}
-use Rattle.bc_queue.specs.Carrying.{AccessFacts, AccessesOne, IsCarried, AttemptsOne, IsUnitAt, IsSomeFull, HasOther, IsPerformable, faults_then, answer_of, content_of}
+use Rattle.bc_queue.specs.Carrying.{AccessFacts, AccessesOne, IsCarried, AttemptsOne, IsUnitAt, IsSomeFull, HasOther, IsPerformableUnit, faults_then, answer_of, content_of}
 use Rattle.bc_queue.proofs.Lists.{at_end}
 use Rattle.bc_queue.proofs.Contents.{WithContent, with_content, content_then, WithFault, faulted}
 
@@ -36,7 +36,7 @@ put_back old mid new n bytes unit is other puts =
     content_then old mid new n first.0 unit first.1 (subst (λ r. WithContent mid r n unit) (sym puts) (with_content mid n first.0 unit first.1.here))
 
 -- the bytes of a unit that can be performed
-pub is_full : (keys : List KeyData) (Takes : ℕ → _ → Type 0) (bios : List MarkedBio) (n : ℕ) → IsPerformable keys Takes bios n → IsSomeFull (unit_in bios n)
+pub is_full : (keys : List KeyData) (Takes : ℕ → _ → Type 0) (bios : List MarkedBio) (n : ℕ) → IsPerformableUnit keys Takes bios n → IsSomeFull (unit_in bios n)
 is_full keys Takes bios n can = of_unit (unit_in bios n) can.full
   where
     of_unit : (o : Option Unit) → IsSomeAnd o (IsFull (unit_sectors keys (named_at keys bios n).context)) → IsSomeFull o
@@ -45,7 +45,7 @@ is_full keys Takes bios n can = of_unit (unit_in bios n) can.full
     of_unit (Some (Stored place)) is = is
     of_unit (Some unit) is = absurd is
 
-pub has_length : (keys : List KeyData) (Takes : ℕ → _ → Type 0) (bios : List MarkedBio) (n : ℕ) (bytes : List ℕ) → IsPerformable keys Takes bios n → unit_in bios n ≡ Some (Full bytes) → length bytes ≡ 512 * unit_sectors keys (named_at keys bios n).context
+pub has_length : (keys : List KeyData) (Takes : ℕ → _ → Type 0) (bios : List MarkedBio) (n : ℕ) (bytes : List ℕ) → IsPerformableUnit keys Takes bios n → unit_in bios n ≡ Some (Full bytes) → length bytes ≡ 512 * unit_sectors keys (named_at keys bios n).context
 has_length keys Takes bios n bytes can is = subst (λ o. IsSomeAnd o (IsFull (unit_sectors keys (named_at keys bios n).context))) is can.full
 
 -- the entry of a unit: it stands at its place

@@ -1,14 +1,14 @@
 -- Units of a request, one after the other.
-use Rattle.std.proofs.Common.{◌≡◌, ◌≢◌, ℕ, ◌+◌, ◌-◌, ◌*◌, ◌<◌, ◌≤◌, ◌⊎◌, inl, inr, Bool, true, false, cond, not, List, [], ◌∷◌, ◌++◌, length, map, append-nil, refl, sym, ap, subst, ◌∙◌, arith, Option, Some, None}
+use Rattle.std.proofs.Common.{◌≡◌, ◌≢◌, ℕ, ◌+◌, ◌-◌, ◌<◌, ◌≤◌, ◌⊎◌, inl, inr, Bool, true, false, cond, not, List, [], ◌∷◌, ◌++◌, length, map, append-nil, refl, sym, ap, subst, ◌∙◌, arith, Option, Some, None}
 use Rattle.std.specs.Prelude.{◌==◌, filter, zip, fold, slice_get, IsSomeAnd}
 use Rattle.std.specs.Option.{option_map, option_map_or}
 use Rattle.std.specs.List.{AllZip, range_with_len}
 use Rattle.std.proofs.Math.Logic.{⊎_elim}
-use Rattle.std.proofs.lemmas.Bool.{true≢false, cases_lt, cases_eq}
+use Rattle.std.proofs.lemmas.Bool.{true≢false, cases_lt}
 use Rattle.std.proofs.lemmas.List.{map-append, length-append}
 use Rattle.std.proofs.lemmas.List.Elements.{filter-append}
 use Rattle.std.proofs.lemmas.List.Sums.{fold-append}
-use Rattle.bc_base.specs.Lists.{Each, list_at}
+use Rattle.bc_base.specs.Lists.{list_at}
 use Rattle.bc_base.specs.Story.{StartsWith}
 use Rattle.bc_key.specs.KeyData.{KeyData}
 use Rattle.bc_bio.specs.declared.access.Access.{Access}
@@ -22,14 +22,16 @@ use Rattle.bc_bio.specs.PlannedUnit.{PlannedUnit}
 use Rattle.bc_bio.specs.Windows.{TaggedBio, NamedUnit, units_of_request}
 use Rattle.bc_bio.specs.Requests.{RequestParts, tagged_of, tagged_bios, place_of, place_in, is_over, unit_in}
 use Rattle.bc_medium.specs.declared.entry.Entry.{Entry}
-use Rattle.bc_medium.specs.Places.{shard_of}
+use Rattle.bc_medium.specs.Layout.{shard_of}
 use Rattle.bc_medium.specs.Laws.{AnswersStay}
 use Rattle.bc_medium.specs.Entries.{name_of_entry}
-use Rattle.bc_queue.specs.RequestUnits.{named_at, access_at, written_bytes, planned_at, planned_part, units_on, faults_of, with_fault_at, with_faults, attempted_in, failed_among}
-use Rattle.bc_queue.specs.Carrying.{AccessFacts, GoesOn, one_on, AccessesOne, answer_of, IsCarried, IsLeft, CarriesOut, AttemptsOne, PassesOver, CarriesOne, IsPerformable, ArePerformable, HasSpareFor, faults_then}
-use Rattle.bc_queue.proofs.Lists.{at_append, get_map, zip_append, zip_more, pairs_append, range_push, range_split, each_filter, each_range, filter_same}
+use Rattle.bc_queue.specs.RequestUnits.{named_at, access_at, written_bytes, planned_at, planned_part, count_units_on, faults_of, with_fault_at, with_faults, attempted_in, failed_among}
+use Rattle.bc_queue.specs.Carrying.{AccessFacts, HasSameWay, one_on, answer_of, IsCarried, CarriesOut, AttemptsOne, PassesOver, TriesUnit, IsPerformableUnit, ArePerformable, HasSpareFor, faults_then}
+use Rattle.bc_queue.proofs.Lists.{at_append, get_map, zip_more, pairs_append, range_split, each_filter, each_range, filter_same}
 use Rattle.bc_queue.proofs.Marks.{over, over_is, keeps_over}
-use Rattle.bc_queue.proofs.Growing.{begins_itself, begins_trans, grows_none, grows_append, grows_one, told_more}
+use Rattle.bc_queue.proofs.Growing.{grows_one, told_more}
+use Rattle.bc_base.proofs.Members.{range_push, zip_append}
+use Rattle.bc_medium.proofs.Growing.{grows_none, grows_append}
 
 -- ---- units of requests with the same bios
 
@@ -51,7 +53,7 @@ same_access_at old new n tags =
 pub same_named_at : (keys : List KeyData) (old new : List MarkedBio) (n : ℕ) → tagged_bios new ≡ tagged_bios old → named_at keys new n ≡ named_at keys old n
 same_named_at keys old new n tags = ap (λ (ts : List TaggedBio). Rattle.std.specs.Option.unwrap_or (slice_get (units_of_request keys ts) n) Rattle.bc_queue.specs.RequestUnits.no_unit) tags
 
-same_planned : (keys : List KeyData) (old new : List MarkedBio) (n : ℕ) → tagged_bios new ≡ tagged_bios old → unit_in new n ≡ unit_in old n → planned_at keys new n ≡ planned_at keys old n
+pub same_planned : (keys : List KeyData) (old new : List MarkedBio) (n : ℕ) → tagged_bios new ≡ tagged_bios old → unit_in new n ≡ unit_in old n → planned_at keys new n ≡ planned_at keys old n
 same_planned keys old new n tags unit =
     ap (λ (u : NamedUnit). let p : PlannedUnit = record { tag = u.tag; unit = u.unit; access = access_at new n; context = u.context; sector = u.sector; bytes = written_bytes (access_at new n) (unit_in new n) } in p) (same_named_at keys old new n tags)
     ∙ ap (λ (a : Access). let p : PlannedUnit = record { tag = (named_at keys old n).tag; unit = (named_at keys old n).unit; access = a; context = (named_at keys old n).context; sector = (named_at keys old n).sector; bytes = written_bytes a (unit_in new n) } in p) (same_access_at old new n tags)
@@ -60,7 +62,7 @@ same_planned keys old new n tags unit =
 -- ---- one unit more
 
 -- what is known of a unit that was attempted, over longer orders and with the same content
-carried_more : AnswersStay → (facts : AccessFacts) (seen seen' : List (List Entry)) (old mid new : List MarkedBio) (n : ℕ) (e : Entry) → ((shard : ℕ) → StartsWith (list_at seen' shard) (list_at seen shard))
+pub carried_more : AnswersStay → (facts : AccessFacts) (seen seen' : List (List Entry)) (old mid new : List MarkedBio) (n : ℕ) (e : Entry) → ((shard : ℕ) → StartsWith (list_at seen' shard) (list_at seen shard))
     → unit_in new n ≡ unit_in mid n → IsCarried facts seen old mid n e → IsCarried facts seen' old new n e
 carried_more stay facts seen seen' old mid new n e fronts same c =
     let begins = fronts c.place.shard in record {
@@ -77,7 +79,7 @@ carried_more stay facts seen seen' old mid new n e fronts same c =
     }
 
 -- the same of the request as it was at first, and of the way as it was at first
-carried_first : (facts mid : AccessFacts) (seen : List (List Entry)) (first old new : List MarkedBio) (n : ℕ) (e : Entry) → GoesOn facts mid → tagged_bios old ≡ tagged_bios first → unit_in old n ≡ unit_in first n
+carried_first : (facts mid : AccessFacts) (seen : List (List Entry)) (first old new : List MarkedBio) (n : ℕ) (e : Entry) → HasSameWay facts mid → tagged_bios old ≡ tagged_bios first → unit_in old n ≡ unit_in first n
     → IsCarried mid seen old new n e → IsCarried facts seen first new n e
 carried_first facts mid seen first old new n e goes tags unit c =
     let d : IsCarried (record facts { seen = mid.seen; spare = mid.spare }) seen old new n e = subst (λ f. IsCarried f seen old new n e) goes c in record {
@@ -112,7 +114,7 @@ attempted_push : (bios : List MarkedBio) (first i : ℕ) → attempted_in bios f
 attempted_push bios first i =
     ap (filter (λ n. not (is_over bios n))) (range_push first i) ∙ filter-append (λ n. not (is_over bios n)) (range_with_len first i) ((first + i) ∷ [])
 
-pub units_push : (shards shard : ℕ) (keys : List KeyData) (bios : List MarkedBio) (first i : ℕ) → units_on shards shard (planned_part keys bios first (i + 1)) ≡ units_on shards shard (planned_part keys bios first i) + one_on shards shard (named_at keys bios (first + i)).sector
+pub units_push : (shards shard : ℕ) (keys : List KeyData) (bios : List MarkedBio) (first i : ℕ) → count_units_on shards shard (planned_part keys bios first (i + 1)) ≡ count_units_on shards shard (planned_part keys bios first i) + one_on shards shard (named_at keys bios (first + i)).sector
 units_push shards shard keys bios first i =
     let p : PlannedUnit → Bool = λ u. shard_of shards u.sector == shard in
     let u : PlannedUnit = planned_at keys bios (first + i) in
@@ -126,14 +128,14 @@ units_push shards shard keys bios first i =
     of_bool true u = refl
     of_bool false u = refl
 
-pub units_less : (shards shard : ℕ) (keys : List KeyData) (bios : List MarkedBio) (first i count : ℕ) → i ≤ count → units_on shards shard (planned_part keys bios first i) ≤ units_on shards shard (planned_part keys bios first count)
+pub units_less : (shards shard : ℕ) (keys : List KeyData) (bios : List MarkedBio) (first i count : ℕ) → i ≤ count → count_units_on shards shard (planned_part keys bios first i) ≤ count_units_on shards shard (planned_part keys bios first count)
 units_less shards shard keys bios first i count le =
     let p : PlannedUnit → Bool = λ u. shard_of shards u.sector == shard in
     let rest : List ℕ = range_with_len (first + i) (count - i) in
     let whole : i + (count - i) ≡ count = omega arith in
     let all : planned_part keys bios first count ≡ planned_part keys bios first i ++ map (planned_at keys bios) rest =
     ap (λ n. map (planned_at keys bios) (range_with_len first n)) (sym whole) ∙ ap (map (planned_at keys bios)) (range_split first i (count - i)) ∙ map-append (planned_at keys bios) (range_with_len first i) rest in
-    let sum : units_on shards shard (planned_part keys bios first count) ≡ units_on shards shard (planned_part keys bios first i) + length (filter p (map (planned_at keys bios) rest)) =
+    let sum : count_units_on shards shard (planned_part keys bios first count) ≡ count_units_on shards shard (planned_part keys bios first i) + length (filter p (map (planned_at keys bios) rest)) =
     ap (λ l. length (filter p l)) all ∙ ap length (filter-append p (planned_part keys bios first i) (map (planned_at keys bios) rest)) ∙ length-append (filter p (planned_part keys bios first i)) (filter p (map (planned_at keys bios) rest)) in
     omega (arith, sum)
 
@@ -165,7 +167,7 @@ done_none facts request first = record {
 module _ (stay : AnswersStay) (old mid new : AccessFacts) (before now after : RequestParts) (first i : ℕ) where
   pass_over : CarriesOut old mid before now first i → PassesOver mid new now after (first + i) → CarriesOut old new before after first (i + 1)
   pass_over p s =
-      let less : (shard : ℕ) → old.spare shard ≤ mid.spare shard + units_on old.shards shard (planned_part old.keys before.bios first (i + 1)) = λ shard.
+      let less : (shard : ℕ) → old.spare shard ≤ mid.spare shard + count_units_on old.shards shard (planned_part old.keys before.bios first (i + 1)) = λ shard.
       omega (arith, p.spare shard, units_less old.shards shard old.keys before.bios first i (i + 1) (omega arith)) in
       let numbers : attempted_in now.bios first (i + 1) ≡ attempted_in now.bios first i =
       attempted_push now.bios first i ∙ ap (λ (b : Bool). attempted_in now.bios first i ++ cond (not b) ((first + i) ∷ []) []) s.over ∙ append-nil (attempted_in now.bios first i) in
@@ -246,14 +248,14 @@ module _ (stay : AnswersStay) (old mid new : AccessFacts) (before now after : Re
       of_bool true faults = refl
       of_bool false faults = refl
 
-  pub done_more : CarriesOut old mid before now first i → CarriesOne mid new now after (first + i) → CarriesOut old new before after first (i + 1)
+  pub done_more : CarriesOut old mid before now first i → TriesUnit mid new now after (first + i) → CarriesOut old new before after first (i + 1)
   done_more p s =
       ⊎_elim (λ (over' : PassesOver mid new now after (first + i)). pass_over p over') (λ (one : (is_over now.bios (first + i) ≡ false) × AttemptsOne mid new now after (first + i)). attempt p one.0 one.1) s
 
 -- ---- the next unit can be performed
 
 module _ (old mid : AccessFacts) (before now : RequestParts) (first i count : ℕ) where
-  pub next_performable : (Takes : ℕ → Option Context → Type 0) → CarriesOut old mid before now first i → i < count → ArePerformable old.keys Takes before.bios first count → IsPerformable old.keys Takes now.bios (first + i)
+  pub next_performable : (Takes : ℕ → Option Context → Type 0) → CarriesOut old mid before now first i → i < count → ArePerformable old.keys Takes before.bios first count → IsPerformableUnit old.keys Takes now.bios (first + i)
   next_performable Takes p less can =
       let n : ℕ = first + i in
       let is = can n (omega arith) (omega (arith, less)) in

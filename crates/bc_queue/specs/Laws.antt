@@ -7,7 +7,7 @@ use Rattle.bc_bio.specs.Windows.{TaggedBio, count_units}
 use Rattle.bc_bio.specs.Requests.{RequestParts, tagged_bios, is_over}
 use Rattle.bc_medium.specs.declared.entry.Entry.{Entry}
 use Rattle.bc_medium.specs.declared.unit_name.UnitName.{UnitName}
-use Rattle.bc_medium.specs.LawfulOrders.{name_of, is_attempted}
+use Rattle.bc_medium.specs.LawfulOrders.{unit_name_of, is_attempted}
 use Rattle.bc_medium.specs.Growth.{Attempts, failed_names}
 use Rattle.bc_queue.specs.RequestUnits.{planned_at, planned_part}
 use Rattle.bc_queue.specs.Carrying.{AccessFacts, CarriesOut}
@@ -21,10 +21,10 @@ TagsDiffer bios =
 abbrev pub MarkSame : List KeyData → ℕ → List UnitName → List MarkedBio → Type 0
 MarkSame keys caller met bios =
     (n : ℕ) → n < count_units (tagged_bios bios)
-    → is_attempted met (name_of caller (planned_at keys bios n)) ≡ not (is_over bios n)
+    → is_attempted met (unit_name_of caller (planned_at keys bios n)) ≡ not (is_over bios n)
 
--- what was carried out of a request, by names: the entries are the attempted ones of these units, in their order, and the
--- names of those that failed are marked with the others
+-- what was carried out of a request, by names: the entries are the attempted ones of these units, in their order, and
+-- the names of those that failed are marked with the others
 pub record IsAttempted (old new : AccessFacts) (before after : RequestParts) (first count : ℕ) (made : List Entry)
     (met : List UnitName) : Type 0 where
   pub attempts : Attempts old.caller met (planned_part old.keys before.bios first count) made

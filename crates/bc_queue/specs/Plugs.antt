@@ -20,8 +20,8 @@ abbrev pub no_bios : PlugParts
 no_bios = record { requests = []; count = 0 }
 
 -- the bios of all requests, in order
-abbrev pub bios_of : List RequestParts → List MarkedBio
-bios_of requests = flat_map (λ request. request.bios) requests
+abbrev pub bios_in : List RequestParts → List MarkedBio
+bios_in requests = flat_map (λ request. request.bios) requests
 
 -- how many bios the requests have together
 abbrev pub count_bios : List RequestParts → ℕ
@@ -56,7 +56,7 @@ with_request n plug request = record plug { requests = slice_set plug.requests n
 
 -- Private: the requests with a bio more, in the last one or in one of its own.
 pub record Added (keys : List KeyData) (old new : List RequestParts) (bio : Bio) : Type 0 where
-  pub bios : bios_of new ≡ bios_of old ++ unmarked bio ∷ []
+  pub bios : bios_in new ≡ bios_in old ++ unmarked bio ∷ []
   pub merges : tagged_requests new ≡ chunks_and (joins keys) (tagged_requests old) (tagged_of bio)
   pub waiting : AllByRecursion IsWaiting new
   pub requests : AreRequests keys new

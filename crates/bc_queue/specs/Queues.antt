@@ -1,6 +1,7 @@
--- What contracts see of the queue of a disk and of its callers' passes: a controller for each device over one medium, and of
--- each caller a pass of each controller's keyslots and one of the medium. And what a dispatch does.
-use Rattle.std.specs.Prelude.{◌≡◌, ◌≢◌, ℕ, ◌+◌, ◌-◌, ◌<◌, ◌≤◌, true, List, map, Option, Some, None, IsSomeAnd, option_and_then, slice_get, slice_set}
+-- What contracts see of the queue of a disk and of its callers' passes: a controller for each device over one medium,
+-- and of each caller a pass of each controller's keyslots and one of the medium. And what a dispatch does.
+use Rattle.std.specs.Prelude.{◌≡◌, ◌≢◌, ℕ, ◌+◌, ◌-◌, ◌<◌, ◌≤◌, true, List, map, Option, Some, None, IsSomeAnd}
+use Rattle.std.specs.Prelude.{option_and_then, slice_get, slice_set}
 use Rattle.std.specs.Option.{option_map_or}
 use Rattle.std.specs.List.{AllZip}
 use Rattle.bc_base.specs.Lists.{Each, EachFrom, At, AllAt, ChangesAt}
@@ -13,15 +14,15 @@ use Rattle.bc_bio.specs.declared.marked_bio.MarkedBio.{MarkedBio}
 use Rattle.bc_bio.specs.Extent.{unit_sectors}
 use Rattle.bc_bio.specs.Windows.{count_units}
 use Rattle.bc_bio.specs.Requests.{RequestParts, tagged_bios}
-use Rattle.bc_turn.specs.Parts.{Pass}
+use Rattle.bc_turn.specs.PassParts.{Pass}
 use Rattle.bc_medium.specs.declared.entry.Entry.{Entry}
 use Rattle.bc_medium.specs.declared.via.Via.{Via}
 use Rattle.bc_medium.specs.declared.via.Via.TheVariants as ways
 use Rattle.bc_medium.specs.Medium.{MediumData, OpeningData, shards_of, seen_by, own_at, quota_of, Belongs, OwnsSectors}
 use Rattle.bc_profile.specs.Story.{Holds}
 use Rattle.bc_profile.specs.Passes.{SlotFacts, HoldFacts, ProfileData, slots_in, IsOf, HasSpare, Gets, Puts}
-use Rattle.bc_ufs.specs.Controllers.{ControllerData, row_for, Serves, via_of}
-use Rattle.bc_queue.specs.RequestUnits.{named_at, planned_part, units_on}
+use Rattle.bc_ufs.specs.Controllers.{ControllerData, row_for, Serves, via_by_device}
+use Rattle.bc_queue.specs.RequestUnits.{named_at, planned_part, count_units_on}
 use Rattle.bc_queue.specs.Carrying.{AccessFacts, CarriesOut, ArePerformable}
 
 -- a queue: its controllers by device, and its medium
@@ -29,7 +30,8 @@ pub record QueueData (S : Type 0) : Type 0 where
   pub controllers : List ControllerData
   pub medium : MediumData S
 
--- the controller has this device, and its register row of each key is the key's entry where it supports the key, else zeros
+-- the controller has this device, and its register row of each key is the key's entry where it supports the key, else
+-- zeros
 pub record IsController (keys : List KeyData) (device : ℕ) (controller : ControllerData) : Type 0 where
   pub device_is : controller.device ≡ device
   pub rows : controller.profile.rows ≡ map (row_for controller.caps) keys
@@ -39,8 +41,8 @@ abbrev pub AreControllers : List KeyData → List ControllerData → Type 0
 AreControllers keys controllers = EachFrom (IsController keys) 0 controllers
 
 module _ {S : Type 0} where
-  -- the parts of a pass are those of this queue: one of the medium with the caller's number, and of each controller's keyslots
-  -- one at the controller's place
+  -- the parts of a pass are those of this queue: one of the medium with the caller's number, and of each controller's
+  -- keyslots one at the controller's place
   pub record IsPass (queue : QueueData S) (caller : ℕ) (slots : List SlotFacts) (units : Pass Entry (OpeningData S))
       : Type 0 where
     pub belongs : Belongs queue.medium units
@@ -86,8 +88,8 @@ abbrev pub HasEvents : {S : Type 0} → QueueData S → List SlotFacts → ℕ �
 HasEvents queue slots device events =
     AllAt queue.controllers device (λ controller. AllAt slots device (λ pass. HasSpare controller.profile pass events))
 
--- so many units of a request from this number on have their bytes, lie in sectors of their shards' stores, and have a key
--- that the device supports
+-- so many units of a request from this number on have their bytes, lie in sectors of their shards' stores, and have a
+-- key that the device supports
 abbrev pub CanGo : {S : Type 0} → (S → ℕ → Rattle.std.specs.Prelude.Bool) → QueueData S → ℕ → List MarkedBio → ℕ → ℕ
     → Type 0
 CanGo owns queue device bios first count =
@@ -102,7 +104,7 @@ CanGoPlain owns queue bios =
 -- the pass has a spare of an entry for each of so many units of a request from this number on, on the unit's shard
 abbrev pub HasSpareOfUnits : {S : Type 0} → QueueData S → Pass Entry (OpeningData S) → List MarkedBio → ℕ → ℕ → Type 0
 HasSpareOfUnits queue units bios first count =
-    (shard : ℕ) → units_on (shards_of queue.medium) shard (planned_part queue.medium.keys.keys bios first count)
+    (shard : ℕ) → count_units_on (shards_of queue.medium) shard (planned_part queue.medium.keys.keys bios first count)
     ≤ spare_of queue.medium units shard
 
 -- Private: the pass of this device's keyslots has the hold.
@@ -151,7 +153,7 @@ pub record InlineData (S : Type 0) : Type 0 where
   pub slots : List SlotFacts
 
 -- Private: the passes of the keyslots are still those, and that of the controller's device has the hold.
-pub record HasHold {S : Type 0} (way : InlineData S) (slots : List SlotFacts) : Type 0 where
+pub record PassHasHold {S : Type 0} (way : InlineData S) (slots : List SlotFacts) : Type 0 where
   pub same : slots ≡ way.slots
   pub pass : SlotFacts
   pub pass_at : At slots way.controller.device pass

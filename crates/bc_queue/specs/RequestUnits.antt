@@ -1,5 +1,6 @@
 -- The data units of a request by their numbers, as units of a plan; and what faults of units mark in it.
-use Rattle.std.specs.Prelude.{ℕ, ◌==◌, Bool, not, List, [], map, filter, fold, length, zip, Option, Some, None, slice_get, slice_set, slice_index_or}
+use Rattle.std.specs.Prelude.{ℕ, ◌==◌, Bool, not, List, [], map, filter, fold, length, zip, Option, Some, None}
+use Rattle.std.specs.Prelude.{slice_get, slice_set, slice_index_or}
 use Rattle.std.specs.List.{range_with_len}
 use Rattle.std.specs.Option.{option_map_or, unwrap_or}
 use Rattle.bc_key.specs.KeyData.{KeyData}
@@ -12,7 +13,7 @@ use Rattle.bc_bio.specs.PlannedUnit.{PlannedUnit}
 use Rattle.bc_bio.specs.Windows.{TaggedBio, NamedUnit, units_of_request}
 use Rattle.bc_bio.specs.Requests.{tagged_bios, place_of, place_in, first_fault, is_over, unit_in}
 use Rattle.bc_medium.specs.declared.entry.Entry.{Entry}
-use Rattle.bc_medium.specs.Places.{shard_of}
+use Rattle.bc_medium.specs.Layout.{shard_of}
 
 -- what stands for a unit where there is none
 abbrev pub no_unit : NamedUnit
@@ -48,8 +49,8 @@ abbrev pub planned_part : List KeyData → List MarkedBio → ℕ → ℕ → Li
 planned_part keys bios first count = map (planned_at keys bios) (range_with_len first count)
 
 -- how many of these units lie in a shard
-abbrev pub units_on : ℕ → ℕ → List PlannedUnit → ℕ
-units_on shards shard units = length (filter (λ u. shard_of shards u.sector == shard) units)
+abbrev pub count_units_on : ℕ → ℕ → List PlannedUnit → ℕ
+count_units_on shards shard units = length (filter (λ u. shard_of shards u.sector == shard) units)
 
 -- of each bio, the first of its units that met a fault
 abbrev pub faults_of : List MarkedBio → List (Option ℕ)

@@ -162,7 +162,7 @@ fn request_of(alloc: Global, access: Access, units: u32) -> Result<Request, Allo
     Ok(request)
 }
 
-/// Puts a bio behind the others of a request, at this sector.
+/// Puts a bio after the others of a request, at this sector.
 fn join(
     alloc: Global,
     keys: &Keys,
@@ -190,8 +190,8 @@ fn join(
     }
 }
 
-/// Carries a request of three bios of 1, 64 and 4096 units out, where the accesses at these places fail. Gives the request
-/// and how many accesses there were.
+/// Carries a request of three bios of 1, 64 and 4096 units out, where the accesses at these places fail. Gives the
+/// request and how many accesses there were.
 fn carried_out(alloc: Global, access: Access, plan: Vec<usize>) -> Result<(Request, usize), Fail> {
     let keys = Keys::new(alloc);
     let mut request = request_of(alloc, access, 1)?;
@@ -236,7 +236,8 @@ fn all_units_of_a_request_are_written(rt: HostRuntime) -> Result<(), Fail> {
 #[test]
 fn a_fault_ends_its_own_bio_alone(rt: HostRuntime) -> Result<(), Fail> {
     let alloc = rt.alloc();
-    // The first unit of all, one in the middle of the second bio, whose 31 later units are passed over, and the last one.
+    // The first unit of all, one in the middle of the second bio, whose 31 later units are passed over, and the last
+    // one.
     let plan = vec![in alloc; 0, 33, 4129]?;
     let (mut request, made) = carried_out(alloc, Access::Write, plan)?;
     assert_eq!(rt; made, 4130);

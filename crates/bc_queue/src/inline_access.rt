@@ -7,20 +7,19 @@ ghost use Rattle.bc_bio.specs.Extent.{unit_sectors};
 ghost use Rattle.bc_medium.specs.KeyedDisk.{Written, Faulted, Text};
 ghost use Rattle.bc_medium.specs.Entries.{written_entry, read_entry, failed_entry, unit_name};
 ghost use Rattle.bc_medium.specs.Medium.{Belongs, HasRoom, Accesses, AnswersSeen};
-ghost use Rattle.bc_ufs.specs.Controllers.{via_of};
-ghost use Rattle.bc_queue.specs.Queues.{HasHold, TakesUnder};
+ghost use Rattle.bc_ufs.specs.Controllers.{via_by_device};
+ghost use Rattle.bc_queue.specs.Queues.{PassHasHold, TakesUnder};
 
-use crate::{QueuePass, UnitAccess};
-use bc_base::{BLOCK_BYTES, Place, Store};
+use crate::{QueuePass, Scratch, UnitAccess};
+use bc_base::{Place, Store};
 use bc_medium::{Fault, Medium, MediumPass, UnitAt};
 use bc_profile::{Hold, SlotPass};
-use bc_ufs::{Controller, LastCipher};
+use bc_ufs::Controller;
 use std::marker::Model;
 use std::snapshot::Snapshot;
 use std::sync::Wait;
 
-/// The way to a medium through a controller, under one hold of a key. The cipher that the registers mean is made once, and
-/// again only where they have other words.
+/// The way to a medium through a controller, under one hold of a key.
 #[derive(Drop)]
 pub(crate) struct InlineAccess<'a, S: Store> {
     controller: &'a Controller,
@@ -28,12 +27,9 @@ pub(crate) struct InlineAccess<'a, S: Store> {
     medium: &'a Medium<S>,
     /// The passes of the keyslots, with the hold: they stay as they are.
     slots: Snapshot<Vec<SlotPass>>,
-    scratch: [u8; BLOCK_BYTES],
-    last: Option<LastCipher>,
 }
 
 impl<'a, S: Store> Model for InlineAccess<'a, S> {
-    ghost use Rattle.bc_ufs.specs.Controllers.{KeepsTo};
     ghost use Rattle.bc_queue.specs.Queues.{InlineData};
 
     ghost Value = { InlineData S };
@@ -44,8 +40,6 @@ impl<'a, S: Store> Model for InlineAccess<'a, S> {
       medium = a.medium.now;
       slots = a.slots.value.items;
     } };
-
-    ghost invariant = { λ a. KeepsTo a.controller.now.caps a.last };
 }
 
 impl<'a, S: Store> InlineAccess<'a, S> {
@@ -68,8 +62,6 @@ impl<'a, S: Store> InlineAccess<'a, S> {
             hold,
             medium,
             slots: Snapshot::of(slots),
-            scratch: [0; BLOCK_BYTES],
-            last: None,
         }
     }
 
@@ -79,10 +71,11 @@ impl<'a, S: Store> InlineAccess<'a, S> {
         rt: &R,
         slots: &mut Vec<SlotPass>,
         units: &mut MediumPass<S>,
+        scratch: &mut Scratch,
         at: &UnitAt,
         plain: Vec<u8>,
     ) -> Result<Place, (Fault, Vec<u8>)>
-        requires hold { HasHold self.old slots.old.items }
+        requires hold { PassHasHold self.old slots.old.items }
         requires takes { TakesUnder S.owns self.old at.now.sector at.now.context }
         requires pass { Belongs self.old.medium units.old }
         requires caller { at.now.caller ≡ units.old.caller }
@@ -93,9 +86,9 @@ impl<'a, S: Store> InlineAccess<'a, S> {
         ensures pass { Belongs self.old.medium units.new }
         ensures caller { units.new.caller ≡ units.old.caller }
         ensures performs { IfOk result (Accesses self.old.medium units.old units.new
-            (written_entry at.now (via_of self.old.controller self.old.hold) plain.items)) }
+            (written_entry at.now (via_by_device self.old.controller self.old.hold) plain.items)) }
         ensures performs_fault { IfErr result (λ fault. Accesses self.old.medium units.old units.new
-            (failed_entry accesses.Write at.now (via_of self.old.controller self.old.hold)) fault.0.place) }
+            (failed_entry accesses.Write at.now (via_by_device self.old.controller self.old.hold)) fault.0.place) }
         ensures back { IfErr result (λ fault. fault.1.items ≡ plain.items) }
         ensures answer { IfOk result (AnswersSeen S.contents self.old.medium units.new (unit_name at.now) Written) }
         ensures answer_fault { IfErr result (λ fault.
@@ -113,8 +106,8 @@ impl<'a, S: Store> InlineAccess<'a, S> {
             units,
             at,
             plain,
-            &mut self.scratch,
-            &mut self.last,
+            &mut scratch.block,
+            &mut scratch.last,
         )
     }
 
@@ -124,10 +117,11 @@ impl<'a, S: Store> InlineAccess<'a, S> {
         rt: &R,
         slots: &mut Vec<SlotPass>,
         units: &mut MediumPass<S>,
+        scratch: &mut Scratch,
         at: &UnitAt,
         text: &mut [u8],
     ) -> Result<Place, Fault>
-        requires hold { HasHold self.old slots.old.items }
+        requires hold { PassHasHold self.old slots.old.items }
         requires takes { TakesUnder S.owns self.old at.now.sector at.now.context }
         requires pass { Belongs self.old.medium units.old }
         requires caller { at.now.caller ≡ units.old.caller }
@@ -138,9 +132,9 @@ impl<'a, S: Store> InlineAccess<'a, S> {
         ensures pass { Belongs self.old.medium units.new }
         ensures caller { units.new.caller ≡ units.old.caller }
         ensures performs { IfOk result (Accesses self.old.medium units.old units.new
-            (read_entry at.now (via_of self.old.controller self.old.hold))) }
+            (read_entry at.now (via_by_device self.old.controller self.old.hold))) }
         ensures performs_fault { IfErr result (λ fault. Accesses self.old.medium units.old units.new
-            (failed_entry accesses.Read at.now (via_of self.old.controller self.old.hold)) fault.place) }
+            (failed_entry accesses.Read at.now (via_by_device self.old.controller self.old.hold)) fault.place) }
         ensures length { length text.new ≡ length text.old }
         ensures answer { IfOk result (AnswersSeen S.contents self.old.medium units.new (unit_name at.now)
             (Text text.new)) }
@@ -159,7 +153,7 @@ impl<'a, S: Store> InlineAccess<'a, S> {
             units,
             at,
             text,
-            &mut self.last,
+            &mut scratch.last,
         )
     }
 }
@@ -167,13 +161,13 @@ impl<'a, S: Store> InlineAccess<'a, S> {
 impl<'a, S: Store, R: Wait> UnitAccess<R, QueuePass<S>> for InlineAccess<'a, S> {
     ghost use Rattle.std.specs.Prelude.{◌≡◌};
     ghost use Rattle.bc_medium.specs.Medium.{Belongs};
-    ghost use Rattle.bc_ufs.specs.Controllers.{via_of};
-    ghost use Rattle.bc_queue.specs.Queues.{facts_by, HasHold, TakesUnder};
+    ghost use Rattle.bc_ufs.specs.Controllers.{via_by_device};
+    ghost use Rattle.bc_queue.specs.Queues.{facts_by, PassHasHold, TakesUnder};
 
-    ghost facts = { λ a pass. facts_by S.contents a.medium (via_of a.controller a.hold) pass.units };
+    ghost facts = { λ a pass. facts_by S.contents a.medium (via_by_device a.controller a.hold) pass.units };
 
     ghost is_ready = { λ a pass. Belongs a.medium pass.units × (pass.units.caller ≡ pass.caller)
-        × HasHold a pass.slots.items };
+        × PassHasHold a pass.slots.items };
 
     ghost takes = { λ a sector context. TakesUnder S.owns a sector context };
 
@@ -188,7 +182,14 @@ impl<'a, S: Store, R: Wait> UnitAccess<R, QueuePass<S>> for InlineAccess<'a, S> 
         at: &UnitAt,
         plain: Vec<u8>,
     ) -> Result<Place, (Fault, Vec<u8>)> {
-        self.write_under(rt, &mut pass.slots, &mut pass.units, at, plain)
+        self.write_under(
+            rt,
+            &mut pass.slots,
+            &mut pass.units,
+            &mut pass.scratch,
+            at,
+            plain,
+        )
     }
 
     fn read(
@@ -198,6 +199,13 @@ impl<'a, S: Store, R: Wait> UnitAccess<R, QueuePass<S>> for InlineAccess<'a, S> 
         at: &UnitAt,
         text: &mut [u8],
     ) -> Result<Place, Fault> {
-        self.read_under(rt, &mut pass.slots, &mut pass.units, at, text)
+        self.read_under(
+            rt,
+            &mut pass.slots,
+            &mut pass.units,
+            &mut pass.scratch,
+            at,
+            text,
+        )
     }
 }

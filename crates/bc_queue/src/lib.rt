@@ -15,6 +15,7 @@ mod unit_access;
 mod inline_access;
 mod plain_access;
 mod queue;
+mod scratch;
 
 // what holds of requests that were carried out
 mod laws;
@@ -23,6 +24,7 @@ pub use laws::request_laws;
 pub use plug::{MAX_PLUGGED, Plug};
 pub use queue::{Queue, QueuePass};
 pub use request_units::carry_out;
+pub use scratch::Scratch;
 pub use unit_access::UnitAccess;
 
 #[cfg(test)]

@@ -1,5 +1,6 @@
 //! Bios that wait to be carried out together.
-ghost use Rattle.std.specs.Prelude.{◌≡◌, ◌==◌, List, ◌+◌, ◌<◌, ◌≤◌, ◌∷◌, ◌++◌, [], length, map, is_err, IfOk, OnOk, OnErr, IfErr, Some, slice_get, vec_len, vec_capacity};
+ghost use Rattle.std.specs.Prelude.{◌≡◌, ◌==◌, List, ◌+◌, ◌<◌, ◌≤◌, ◌∷◌, ◌++◌, [], length, map, is_err, IfOk, OnOk};
+ghost use Rattle.std.specs.Prelude.{OnErr, IfErr, Some, slice_get, vec_len, vec_capacity};
 ghost use Rattle.std.specs.Borrow.{Lends, sem};
 ghost use Rattle.std.specs.List.{AllByRecursion};
 ghost use Rattle.bc_bio.specs.BioUnits.{extent_of};
@@ -7,7 +8,8 @@ ghost use Rattle.bc_bio.specs.Chunks.{chunks_and};
 ghost use Rattle.bc_bio.specs.Conditions.{IsPlaced};
 ghost use Rattle.bc_bio.specs.Windows.{TaggedBio, joins};
 ghost use Rattle.bc_bio.specs.Requests.{reply_of, tagged_of, unmarked};
-ghost use Rattle.bc_queue.specs.Plugs.{Added, AreRequests, HasReady, IsOfWindow, IsPlug, IsReady, IsWaiting, StandsApart, bios_of, count_bios, no_bios, tagged_requests, with_request};
+ghost use Rattle.bc_queue.specs.Plugs.{Added, AreRequests, HasReady, IsOfWindow, IsPlug, IsReady, IsWaiting};
+ghost use Rattle.bc_queue.specs.Plugs.{StandsApart, bios_in, count_bios, no_bios, tagged_requests, with_request};
 
 use bc_bio::{Bio, Reply, Request};
 use bc_key::Keys;
@@ -45,6 +47,10 @@ impl Plug {
     ghost use Rattle.bc_queue.specs.contracts.plug.Plug.{the_row};
 
     /// No bios yet, and memory for [`MAX_PLUGGED`] of them.
+    ///
+    /// # Errors
+    ///
+    /// Out of memory.
     pub fn new(alloc: Global) -> Result<Plug, AllocError>
         ensures { IfOk result (λ plug. plug ≡ no_bios) }
     {
@@ -55,8 +61,8 @@ impl Plug {
         })
     }
 
-    /// Plugs a bio: behind the last one's request, where it runs on at the back of the last one, and else in a request of
-    /// its own. Takes no memory.
+    /// Plugs a bio: after the last one's request, where it runs on at the back of the last one, and else in a request
+    /// of its own. Takes no memory.
     ///
     /// # Errors
     ///
@@ -68,7 +74,7 @@ impl Plug {
         ensures full { is_err result ≡ (count_bios self.old.requests == MAX_PLUGGED) }
         ensures back { IfErr result (λ refused. refused ≡ bio) }
         ensures err { OnErr result (self.new ≡ self.old) }
-        ensures bios { OnOk result (bios_of self.new.requests ≡ bios_of self.old.requests ++ unmarked bio ∷ []) }
+        ensures bios { OnOk result (bios_in self.new.requests ≡ bios_in self.old.requests ++ unmarked bio ∷ []) }
         ensures merges { OnOk result (tagged_requests self.new.requests
             ≡ chunks_and (joins keys.now.keys) (tagged_requests self.old.requests) (tagged_of bio)) }
         ensures window { OnOk result ((window : List TaggedBio) → IsOfWindow keys.now.keys self.old.requests window →
@@ -100,12 +106,12 @@ impl Plug {
         &mut self.requests[n]
     }
 
-    /// Empties the plug into replies, request after request and in order. They go behind those that `out` has, which has
-    /// room for them.
+    /// Empties the plug into replies, request after request and in order. They go after those that `out` has, which
+    /// has room for them.
     pub fn drain(&mut self, out: &mut Vec<Reply>)
         requires plug { IsPlug self.old }
         requires spare { vec_len out.old + count_bios self.old.requests ≤ vec_capacity out.old }
-        ensures replies { out.new.items ≡ out.old.items ++ map reply_of (bios_of self.old.requests) }
+        ensures replies { out.new.items ≡ out.old.items ++ map reply_of (bios_in self.old.requests) }
         ensures room { vec_capacity out.new ≡ vec_capacity out.old }
         ensures empty { self.new ≡ no_bios }
     {
@@ -175,7 +181,7 @@ fn finish_all(requests: &mut Vec<Request>, ready: &mut Vec<Request>, out: &mut V
     requires ready { AllByRecursion IsReady ready.old.items }
     requires room { vec_len requests.old + vec_len ready.old ≤ vec_capacity ready.old }
     requires spare { vec_len out.old + count_bios requests.old.items ≤ vec_capacity out.old }
-    ensures replies { out.new.items ≡ out.old.items ++ map reply_of (bios_of requests.old.items) }
+    ensures replies { out.new.items ≡ out.old.items ++ map reply_of (bios_in requests.old.items) }
     ensures room { vec_capacity out.new ≡ vec_capacity out.old }
     ensures empty { requests.new.items ≡ [] }
     ensures ready { AllByRecursion IsReady ready.new.items }

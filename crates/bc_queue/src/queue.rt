@@ -8,12 +8,13 @@ ghost use Rattle.bc_medium.specs.declared.via.Via.TheVariants as ways;
 ghost use Rattle.bc_medium.specs.Medium.{Belongs};
 ghost use Rattle.bc_queue.specs.RequestUnits.{named_at};
 ghost use Rattle.bc_queue.specs.Carrying.{CarriesOut};
-ghost use Rattle.bc_queue.specs.Queues.{AreControllers, IsPass, facts_by, HasEvents, CanGo, CanGoPlain, HasSpareOfUnits};
+ghost use Rattle.bc_queue.specs.Queues.{AreControllers, IsPass, facts_by, HasEvents, CanGo, CanGoPlain};
+ghost use Rattle.bc_queue.specs.Queues.{HasSpareOfUnits};
 ghost use Rattle.bc_queue.specs.Queues.{IsController, IsHolding, HasGot, HasPut, AreUnderKey, Dispatches};
 
-use crate::carry_out;
 use crate::inline_access::InlineAccess;
 use crate::plain_access::PlainAccess;
+use crate::{Scratch, carry_out};
 use bc_base::{Gate, GatePlace, Store};
 use bc_bio::{Context, Request};
 use bc_key::KeyNo;
@@ -21,10 +22,11 @@ use bc_medium::{Medium, MediumPass};
 use bc_profile::{Hold, SlotPass};
 use bc_ufs::Controller;
 use std::marker::Model;
+use std::snapshot::Snapshot;
 use std::sync::Wait;
 
-/// A disk's controllers by device, over its medium. The controller at place `d` has the device `d`, and its register row of
-/// each of the medium's keys is the key's entry where it supports the key, and zeros elsewhere.
+/// A disk's controllers by device, over its medium. The controller at place `d` has the device `d`, and its register
+/// row of each of the medium's keys is the key's entry where it supports the key, and zeros elsewhere.
 #[derive(Drop)]
 pub struct Queue<S: Store> {
     controllers: Vec<Controller>,
@@ -41,12 +43,14 @@ impl<S: Store> Model for Queue<S> {
     ghost invariant = { λ q. AreControllers q.medium.keys.keys q.controllers.items };
 }
 
-/// What a caller takes along: its number, its pass of each controller's keyslots by device, and its pass of the medium.
+/// What a caller takes along: its number, its pass of each controller's keyslots by device, its pass of the medium, and
+/// memory for its data units.
 #[derive(Drop)]
 pub struct QueuePass<S: Store> {
     pub caller: u16,
     pub slots: Vec<SlotPass>,
     pub units: MediumPass<S>,
+    pub scratch: Scratch,
 }
 
 impl<S: Store> Queue<S> {
@@ -83,12 +87,13 @@ impl<S: Store> Queue<S> {
         (self.controllers, self.medium)
     }
 
-    /// Carries out `count` data units of a request from number `first` on, one at least, through a device: takes a hold of
-    /// their key, passes the gate, carries the units out in order ([`carry_out`]), and gives the hold back. All units of a
-    /// request are under one key.
+    /// Carries out `count` data units of a request from number `first` on, one at least, through a device: takes a hold
+    /// of their key, passes the gate, carries the units out in order ([`carry_out`]), and gives the hold back. All
+    /// units of a request are under one key.
     ///
-    /// The pass is one of this queue and has no hold, with a spare of two events on the device and of an entry for each of the
-    /// units on its shard. The units have their bytes and a key that the device supports, and lie in their shards' stores.
+    /// The pass is one of this queue and has no hold, with a spare of two events on the device and of an entry for each
+    /// of the units on its shard. The units have their bytes and a key that the device supports, and lie in their
+    /// shards' stores.
     pub fn dispatch<G: Gate, R: Wait>(
         &self,
         rt: &R,
@@ -114,21 +119,19 @@ impl<S: Store> Queue<S> {
         ensures dispatches { Dispatches S.contents self.now pass.old.slots.items pass.new.slots.items pass.old.units
             pass.new.units request.old request.new device first count }
     {
+        let begun = Snapshot::of(&pass.units);
         let (tag, context) = self.first_unit(device, request, first, count);
         let hold = self.get(rt, pass, device, context.key);
-        let place = GatePlace::Holds {
-            device,
-            slot: hold.slot(),
-        };
-        gate.pass(rt, pass.caller, tag, place);
+        self.pass_gate(rt, gate, pass, &begun, device, &hold, tag);
         self.carry_out_under(rt, pass, device, &hold, request, first, count);
         self.put(rt, pass, device, hold);
     }
 
-    /// Carries out all data units of a request whose bios have no key, in order ([`carry_out`]): no device has a part in it.
+    /// Carries out all data units of a request whose bios have no key, in order ([`carry_out`]): no device has a part
+    /// in it.
     ///
-    /// The pass is one of this queue, with a spare of an entry for each unit on its shard. The units have their bytes and lie
-    /// in their shards' stores.
+    /// The pass is one of this queue, with a spare of an entry for each unit on its shard. The units have their bytes
+    /// and lie in their shards' stores.
     pub fn dispatch_plain<R: Wait>(&self, rt: &R, pass: &mut QueuePass<S>, request: &mut Request)
         requires pass { IsPass self.now pass.old.caller pass.old.slots.items pass.old.units }
         requires request { IsRequest self.now.medium.keys.keys (tagged_bios request.old.bios) }
@@ -209,6 +212,29 @@ impl<S: Store> Queue<S> {
     {
         let profile = self.controller(device).profile();
         profile.put(rt, &mut pass.slots[usize::from(device)], hold);
+    }
+
+    /// Passes the gate with the hold, before the first unit: what the caller has seen of the orders is still what it
+    /// was when the dispatch began.
+    fn pass_gate<G: Gate, R: Wait>(
+        &self,
+        rt: &R,
+        gate: &G,
+        pass: &QueuePass<S>,
+        begun: &Snapshot<MediumPass<S>>,
+        device: u8,
+        hold: &Hold,
+        tag: u32,
+    )
+        requires holding { IsHolding self.now pass.now.slots.items device hold.now }
+        requires none_yet { pass.now.units ≡ begun.now.value }
+    {
+        let _ = begun;
+        let place = GatePlace::Holds {
+            device,
+            slot: hold.slot(),
+        };
+        gate.pass(rt, pass.caller, tag, place);
     }
 
     /// Carries the units out under the hold.

@@ -7,9 +7,10 @@ ghost use Rattle.bc_bio.specs.declared.unit.Unit.TheVariants as units;
 ghost use Rattle.bc_bio.specs.Extent.{unit_sectors};
 ghost use Rattle.bc_bio.specs.Windows.{IsRequest, count_units};
 ghost use Rattle.bc_bio.specs.Requests.{tagged_bios, with_unit, unit_in};
-ghost use Rattle.bc_medium.specs.Places.{shard_of};
+ghost use Rattle.bc_medium.specs.Layout.{shard_of};
 ghost use Rattle.bc_queue.specs.RequestUnits.{named_at, access_at};
-ghost use Rattle.bc_queue.specs.Carrying.{AttemptsOne, CarriesOne, CarriesOut, IsPerformable, ArePerformable, HasSpareFor};
+ghost use Rattle.bc_queue.specs.Carrying.{AttemptsOne, TriesUnit, CarriesOut, IsPerformableUnit, ArePerformable};
+ghost use Rattle.bc_queue.specs.Carrying.{HasSpareFor};
 ghost use Rattle.bc_queue.specs.Carrying.{IsUnitAt, IsSomeFull, HasOther};
 
 use crate::UnitAccess;
@@ -19,11 +20,12 @@ use bc_key::Keys;
 use bc_medium::{UnitAt, order_laws};
 use std::mem;
 
-/// Carries out `count` units of a request from number `first` on, one after the other. A unit of whose bio an earlier one met
-/// a fault is passed over, and a fault marks its own bio alone. The bytes of a write move into the order, and come back where
-/// it met a fault; those of a read are put into the request.
+/// Carries out `count` units of a request from number `first` on, one after the other. A unit of whose bio an earlier
+/// one met a fault is passed over, and a fault marks its own bio alone. The bytes of a write move into the order, and
+/// come back where it met a fault; those of a read are put into the request.
 ///
-/// The units are in the request and have their bytes, the way takes each of them, and the caller has room for their entries.
+/// The units are in the request and have their bytes, the way takes each of them, and the caller has room for their
+/// entries.
 pub fn carry_out<R, P, A: UnitAccess<R, P>>(
     rt: &R,
     access: &mut A,
@@ -65,12 +67,12 @@ fn carry_out_one<R, P, A: UnitAccess<R, P>>(
     requires keys { (A.facts access.old pass.old).keys ≡ keys.now.keys }
     requires request { IsRequest keys.now.keys (tagged_bios request.old.bios) }
     requires within { n < count_units (tagged_bios request.old.bios) }
-    requires unit { IsPerformable keys.now.keys (A.takes access.old) request.old.bios n }
+    requires unit { IsPerformableUnit keys.now.keys (A.takes access.old) request.old.bios n }
     requires spare { 1 ≤ (A.facts access.old pass.old).spare
         (shard_of (A.facts access.old pass.old).shards (named_at keys.now.keys request.old.bios n).sector) }
     ensures same { access.new ≡ access.old }
     ensures ready { A.is_ready access.new pass.new }
-    ensures carries { CarriesOne (A.facts access.old pass.old) (A.facts access.new pass.new) request.old request.new n }
+    ensures carries { TriesUnit (A.facts access.old pass.old) (A.facts access.new pass.new) request.old request.new n }
 {
     if request.is_over(n) {
         return;
@@ -103,12 +105,13 @@ fn write_unit<R, P, A: UnitAccess<R, P>>(
     requires at { IsUnitAt (A.facts access.old pass.old) request.old.bios n at.now }
     requires writes { access_at request.old.bios n ≡ accesses.Write }
     requires within { n < count_units (tagged_bios request.old.bios) }
-    requires unit { IsPerformable (A.facts access.old pass.old).keys (A.takes access.old) request.old.bios n }
+    requires unit { IsPerformableUnit (A.facts access.old pass.old).keys (A.takes access.old) request.old.bios n }
     requires spare { 1 ≤ (A.facts access.old pass.old).spare
         (shard_of (A.facts access.old pass.old).shards at.now.sector) }
     ensures same { access.new ≡ access.old }
     ensures ready { A.is_ready access.new pass.new }
-    ensures attempts { AttemptsOne (A.facts access.old pass.old) (A.facts access.new pass.new) request.old request.new n }
+    ensures attempts { AttemptsOne (A.facts access.old pass.old) (A.facts access.new pass.new) request.old
+        request.new n }
 {
     let plain = take_bytes(request, n);
     match access.write(rt, pass, at, plain) {
@@ -133,12 +136,13 @@ fn read_unit<R, P, A: UnitAccess<R, P>>(
     requires at { IsUnitAt (A.facts access.old pass.old) request.old.bios n at.now }
     requires reads { access_at request.old.bios n ≡ accesses.Read }
     requires within { n < count_units (tagged_bios request.old.bios) }
-    requires unit { IsPerformable (A.facts access.old pass.old).keys (A.takes access.old) request.old.bios n }
+    requires unit { IsPerformableUnit (A.facts access.old pass.old).keys (A.takes access.old) request.old.bios n }
     requires spare { 1 ≤ (A.facts access.old pass.old).spare
         (shard_of (A.facts access.old pass.old).shards at.now.sector) }
     ensures same { access.new ≡ access.old }
     ensures ready { A.is_ready access.new pass.new }
-    ensures attempts { AttemptsOne (A.facts access.old pass.old) (A.facts access.new pass.new) request.old request.new n }
+    ensures attempts { AttemptsOne (A.facts access.old pass.old) (A.facts access.new pass.new) request.old
+        request.new n }
 {
     let mut text = take_bytes(request, n);
     match access.read(rt, pass, at, text.as_mut_slice()) {

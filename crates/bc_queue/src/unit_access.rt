@@ -4,7 +4,7 @@ ghost use Rattle.std.specs.Prelude.{◌≡◌, ℕ, ◌*◌, ◌≤◌, Option, 
 ghost use Rattle.bc_bio.specs.declared.access.Access.TheVariants as accesses;
 ghost use Rattle.bc_bio.specs.declared.context.Context.{Context};
 ghost use Rattle.bc_bio.specs.Extent.{unit_sectors};
-ghost use Rattle.bc_medium.specs.Places.{shard_of};
+ghost use Rattle.bc_medium.specs.Layout.{shard_of};
 ghost use Rattle.bc_medium.specs.KeyedDisk.{Written, Faulted, Text};
 ghost use Rattle.bc_medium.specs.Entries.{written_entry, read_entry, failed_entry};
 ghost use Rattle.bc_queue.specs.Carrying.{AccessFacts, AccessesOne};
@@ -12,12 +12,12 @@ ghost use Rattle.bc_queue.specs.Carrying.{AccessFacts, AccessesOne};
 use bc_base::Place;
 use bc_medium::{Fault, UnitAt};
 
-/// A caller's way to the data units of a disk: it writes one or reads one, in the clear, and makes an entry of it. `R` is
-/// what it waits with, and `P` what the caller takes along. [`carry_out`](crate::carry_out) goes over the units of a request
-/// by it.
+/// A caller's way to the data units of a disk: it writes one or reads one, in the clear, and makes an entry of it. `R`
+/// is what it waits with, and `P` what the caller takes along. [`carry_out`](crate::carry_out) goes over the units of a
+/// request by it.
 ///
-/// Here a `Medium` is such a way, with a controller and without one. The plain forms of the medium and of the keyslots can
-/// be one too, with a way that waits for nobody.
+/// Here a `Medium` is such a way, with a controller and without one. The plain forms of the medium and of the keyslots
+/// can be one too, with a way that waits for nobody.
 pub trait UnitAccess<R, P> {
     /// What contracts see of it: the disk, the caller's number, and what the caller has seen.
     ghost facts: { Self → P → AccessFacts };

@@ -1,4 +1,4 @@
--- Evictions on two devices: what a serial run makes of them, when they are behind an entry, and which `busy` events go with
+-- Evictions on two devices: what a serial run makes of them, when they are after an entry, and which `busy` events go with
 -- their answers.
 use Rattle.std.proofs.Common.{◌≡◌, ℕ, zero, suc, ◌+◌, ◌≤◌, Bool, true, false, cond, List, [], ◌∷◌, map, Some, refl, arith}
 use Rattle.std.specs.Prelude.{◌==◌, ◌&&◌}
@@ -32,7 +32,7 @@ before_it = refl
 after_it : NamesHoldUnder again (Some 0) (name 2 3) (vias.Inline 1 0 3)
 after_it = refl
 
--- ---- entries behind an eviction
+-- ---- entries after an eviction
 
 -- the report of such a run whose eviction had this answer
 abbrev reported : Answer → Report

@@ -7,11 +7,11 @@ use Rattle.bc_profile.specs.declared.event.Event.TheVariants as events
 use Rattle.bc_medium.specs.declared.via.Via.{Via}
 use Rattle.bc_medium.specs.declared.via.Via.TheVariants as vias
 use Rattle.bc_report.specs.declared.answer.Answer.TheVariants as answers
-use Rattle.bc_report.specs.declared.line.Line.{Line as Entry}
+use Rattle.bc_report.specs.declared.line.Line.{Line}
 use Rattle.bc_report.specs.Report.{Report}
 use Rattle.bc_report.specs.ReportText.{report_text}
 
-abbrev entry : ℕ → ℕ → ℕ → Via → Entry
+abbrev entry : ℕ → ℕ → ℕ → Via → Line
 entry thread op unit via = record { thread = thread; op = op; unit = unit; via = via }
 
 -- a run of no section on one shard: 23 bytes

@@ -11,8 +11,8 @@ use Rattle.std.proofs.lemmas.List.Elements.{All-from_recursion}
 use Rattle.std.proofs.lemmas.List.Sums.{AllPass-from_list_all}
 use Rattle.bc_bio.specs.PlannedUnit.{PlannedUnit}
 use Rattle.bc_medium.specs.declared.unit_name.UnitName.{UnitName}
-use Rattle.bc_medium.specs.LawfulOrders.{name_of, entries_of, attempted_on, is_attempted, faulted, LawfulOrders}
-use Rattle.bc_medium.specs.Places.{shard_of}
+use Rattle.bc_medium.specs.LawfulOrders.{unit_name_of, entries_of, attempted_on, is_attempted, faulted, LawfulOrders}
+use Rattle.bc_medium.specs.Layout.{shard_of}
 
 each : {X : Type 0} (P : X → Type 0) (lists : List (List X)) → AllByRecursion (AllByRecursion P) lists → AllByRecursion (All P) lists
 each P [] all = tt
@@ -41,7 +41,7 @@ entries_of-past threads thread (u ∷ order) below past =
 attempted_on-past : (shards : ℕ) (issued : List (List PlannedUnit)) (faults : List (ℕ × ℕ)) (orders : List (List UnitName)) (shard thread : ℕ)
     → length issued ≤ thread → attempted_on shards issued faults orders shard thread ≡ []
 attempted_on-past shards issued faults orders shard thread past =
-    ap (λ (us : List PlannedUnit). filter (is_attempted (faulted faults orders)) (map (name_of thread) (filter (λ u. shard_of shards u.sector == shard) us))) (get_or_past issued thread [] past)
+    ap (λ (us : List PlannedUnit). filter (is_attempted (faulted faults orders)) (map (unit_name_of thread) (filter (λ u. shard_of shards u.sector == shard) us))) (get_or_past issued thread [] past)
 
 same_past : (shards : ℕ) (issued : List (List PlannedUnit)) (faults : List (ℕ × ℕ)) (orders : List (List UnitName)) (shard thread : ℕ)
     → shard < length orders → list_all (list_all (λ u. nat_lt u.thread (length issued))) orders ≡ true → length issued ≤ thread

@@ -1,11 +1,9 @@
 -- Each line of a report is one: its fields have no space and no line feed.
-use Rattle.std.proofs.Common.{◌≢◌, ℕ, zero, suc, ◌+◌, ◌<◌, ◌≤◌, ◌/◌, ◌%◌, ◌^◌, List, [], ◌∷◌, ◌++◌, length, get_or, map, refl, arith}
+use Rattle.std.proofs.Common.{ℕ, ◌+◌, ◌<◌, ◌≤◌, ◌^◌, List, [], ◌∷◌, ◌++◌, length, map, refl, arith}
 use Rattle.std.specs.Prelude.{codes}
 use Rattle.std.specs.Fmt.{decimal}
 use Rattle.std.specs.List.{AllByRecursion, flat_map, enumerate_from}
-use Rattle.std.proofs.lemmas.List.Elements.{All-from_recursion, All-get_or}
-use Rattle.hex.specs.Hex.{encode_lower, encode_with, lower_digits, IsBytes}
-use Rattle.bc_text.specs.Lines.{TextLine, IsField, IsLine, space, line_feed}
+use Rattle.bc_text.specs.Lines.{TextLine, IsField, IsLine, space}
 use Rattle.bc_text.proofs.FieldLaws.{IsField-from_test, IsField-decimal}
 use Rattle.bc_bio.specs.declared.refusal.BioError.TheVariants.{Empty, Misaligned, Outside, DunRange}
 use Rattle.bc_bio.specs.declared.refusal.Refusal.{Refusal}
@@ -17,28 +15,13 @@ use Rattle.bc_medium.specs.declared.via.Via.{Via}
 use Rattle.bc_medium.specs.declared.via.Via.TheVariants.{Plain, Soft, Inline}
 use Rattle.bc_report.specs.declared.answer.Answer.{Answer}
 use Rattle.bc_report.specs.declared.answer.Answer.TheVariants as answers
-use Rattle.bc_report.specs.declared.line.Line.{Line as Entry}
+use Rattle.bc_report.specs.declared.line.Line.{Line}
 use Rattle.bc_report.specs.Report.{Report, IsReport, IsAnswer, IsVia, IsEntry, IsSkip, IsEvent, IsPart}
 use Rattle.bc_report.specs.ReportText.{refusal_word, answer_line, via_fields, entry_line, skip_field, skip_fields, event_line, thread_lines, shard_lines, device_lines, all_threads, all_shards, all_devices, report_lines}
+use Rattle.bc_script.proofs.Fields.{one_byte}
+use Rattle.bc_script.proofs.LineFields.{IsField-encode_lower}
 
 -- ---- fields
-
-abbrev IsFieldByte : ℕ → Type 0
-IsFieldByte b = (b ≢ space) × (b ≢ line_feed)
-
-hex_digit : (k : ℕ) → k < 16 → IsFieldByte (get_or lower_digits k 0)
-hex_digit k lt = All-get_or IsFieldByte lower_digits k 0 (omega arith) (All-from_recursion IsFieldByte lower_digits (IsField-from_test lower_digits refl))
-
-IsField-encode_lower : (bytes : List ℕ) → IsBytes bytes → IsField (encode_lower bytes)
-unfolding encode_with
-IsField-encode_lower [] fits = tt
-IsField-encode_lower (b ∷ bytes) fits =
-    let small : b < 256 = fits 0 in
-    (hex_digit (b / 16) (omega arith), (hex_digit (b % 16) (omega arith), IsField-encode_lower bytes (λ i. fits (suc i))))
-
-pub one_byte : (b : ℕ) → b < 256 → IsBytes (b ∷ [])
-one_byte b small zero = small
-one_byte b small (suc i) = omega arith
 
 IsField-append : (a b : List ℕ) → IsField a → IsField b → IsField (a ++ b)
 IsField-append [] b p q = q
@@ -74,7 +57,7 @@ via_are Plain is = (IsField-from_test (codes "plain") refl, tt)
 via_are Soft is = (IsField-from_test (codes "soft") refl, tt)
 via_are (Inline device slot event) is = (IsField-from_test (codes "inline") refl, (number device (omega (arith, is.0)), (number slot (omega (arith, is.1)), (number event is.2, tt))))
 
-entry_fields : (e : Entry) → IsEntry e → IsLine (entry_line e)
+entry_fields : (e : Line) → IsEntry e → IsLine (entry_line e)
 entry_fields e is = (omega arith, (number e.thread (omega (arith, is.thread)), (number e.op is.op, (number e.unit is.unit, via_are e.via is.via))))
 
 skip_is : (skip : Skip) → IsSkip skip → IsField (skip_field skip)
@@ -116,7 +99,7 @@ thread_are n (t ∷ ts) few h =
     ((omega arith, (IsField-from_test (codes "thread") refl, (number n (omega arith), tt))), each_line IsAnswer answer_line answer_fields t h.0)
     (thread_are (n + 1) ts (omega arith) h.1)
 
-shard_are : (n : ℕ) (ss : List (List Entry)) → n + length ss ≤ 64 → AllByRecursion (IsPart IsEntry) ss → AllByRecursion IsLine (flat_map shard_lines (enumerate_from n ss))
+shard_are : (n : ℕ) (ss : List (List Line)) → n + length ss ≤ 64 → AllByRecursion (IsPart IsEntry) ss → AllByRecursion IsLine (flat_map shard_lines (enumerate_from n ss))
 shard_are n [] few h = tt
 shard_are n (s ∷ ss) few h =
     all_append (shard_lines (n, s)) (flat_map shard_lines (enumerate_from (n + 1) ss))

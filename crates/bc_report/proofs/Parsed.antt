@@ -9,10 +9,10 @@ use Rattle.bc_text.proofs.LineLaws.{lines_text-lines_of, lines_of-lines_text}
 use Rattle.bc_report.specs.declared.report_error.ReportError.{ReportError}
 use Rattle.bc_report.specs.declared.report_error.ReportError.TheVariants as errors
 use Rattle.bc_report.specs.Report.{Report, IsReport}
-use Rattle.bc_report.specs.ReportText.{Says, report_lines}
-use Rattle.bc_report.specs.ReportErrors.{IsRefused}
-use Rattle.bc_report.specs.Course.{At, Head, Foot, Goes, IsStuck}
-use Rattle.bc_report.specs.Progress.{Progress, IsProgress, lines_read, at_of, Took, IsWhole, TakesNone, EndsNone}
+use Rattle.bc_report.specs.ReportText.{SaysReport, report_lines}
+use Rattle.bc_report.specs.ReportErrors.{IsRefusedReport}
+use Rattle.bc_report.specs.LinePlaces.{LinePlace, Head, Foot, Goes, IsStuck}
+use Rattle.bc_report.specs.Progress.{Progress, IsProgress, lines_read, line_place_of, TookReportLine, IsWholeReport, TakesNone, EndsNone}
 use Rattle.bc_report.proofs.Walks.{Walk, walk_append, walk_split, one_walk, report_walk}
 use Rattle.bc_report.proofs.LineFields.{report_lines_are_lines}
 use Rattle.bc_report.proofs.Begun.{begins}
@@ -58,22 +58,22 @@ last_same (x ∷ xs) (v ∷ vs) y w e =
 pub record Underway (text : List ℕ) (p : Progress) (left : List TextLine) (number : ℕ) : Type 0 where
   pub whole : lines_of text ≡ lines_read p ++ left
   pub number_is : number ≡ length (lines_read p) + 1
-  pub walk : Walk Head (lines_read p) (at_of p)
+  pub walk : Walk Head (lines_read p) (line_place_of p)
   pub rules : IsProgress p
 
-pub start : (text : List ℕ) (p : Progress) (left : List TextLine) → lines_of text ≡ left → lines_read p ≡ [] → at_of p ≡ Head → IsProgress p → Underway text p left 1
+pub start : (text : List ℕ) (p : Progress) (left : List TextLine) → lines_of text ≡ left → lines_read p ≡ [] → line_place_of p ≡ Head → IsProgress p → Underway text p left 1
 start text p left lines none at rules = record {
   whole = lines ∙ ap (λ (ls : List TextLine). ls ++ left) (sym none);
   number_is = omega (arith, ap length none);
-  walk = subst (λ (ls : List TextLine). Walk Head ls (at_of p)) (sym none) (sym at);
+  walk = subst (λ (ls : List TextLine). Walk Head ls (line_place_of p)) (sym none) (sym at);
   rules = rules;
 }
 
-pub step : (text : List ℕ) (p new : Progress) (line : TextLine) (left : List TextLine) (number : ℕ) → Underway text p (line ∷ left) number → Took p line new → Underway text new left (number + 1)
+pub step : (text : List ℕ) (p new : Progress) (line : TextLine) (left : List TextLine) (number : ℕ) → Underway text p (line ∷ left) number → TookReportLine p line new → Underway text new left (number + 1)
 step text p new line left number u took = record {
   whole = u.whole ∙ sym (append_assoc (lines_read p) (line ∷ []) left) ∙ ap (λ (ls : List TextLine). ls ++ left) (sym took.lines);
   number_is = omega (arith, u.number_is, ap length took.lines, length-append (lines_read p) (line ∷ []));
-  walk = subst (λ (ls : List TextLine). Walk Head ls (at_of new)) (sym took.lines) (walk_append (lines_read p) (line ∷ []) Head (at_of p) (at_of new) u.walk (at_of new, took.goes, refl));
+  walk = subst (λ (ls : List TextLine). Walk Head ls (line_place_of new)) (sym took.lines) (walk_append (lines_read p) (line ∷ []) Head (line_place_of p) (line_place_of new) u.walk (line_place_of new, took.goes, refl));
   rules = took.rules;
 }
 
@@ -95,21 +95,21 @@ few_lines text p line next left number u =
 -- ---- no report has it
 
 -- a line that follows nowhere
-stuck_begins : (lines others : List TextLine) (at : At) (line : TextLine) (r : Report) → IsReport r → Walk Head lines at → IsStuck at line → report_lines r ≡ lines ++ line ∷ others → ⊥
+stuck_begins : (lines others : List TextLine) (at : LinePlace) (line : TextLine) (r : Report) → IsReport r → Walk Head lines at → IsStuck at line → report_lines r ≡ lines ++ line ∷ others → ⊥
 stuck_begins lines others at line r valid walk stuck e =
     let all = walk_split lines (line ∷ others) Head Foot (subst (λ (ls : List TextLine). Walk Head ls Foot) e (report_walk r valid)) in
     let same = one_walk lines Head all.0 at all.1 walk in
-    stuck all.2.0 (subst (λ (a : At). Goes a line all.2.0) same all.2.1)
+    stuck all.2.0 (subst (λ (a : LinePlace). Goes a line all.2.0) same all.2.1)
 
 -- then the line is the first that no report has there
-pub line_refused : (text : List ℕ) (p : Progress) (line next : TextLine) (left : List TextLine) (number : ℕ) → Underway text p (line ∷ next ∷ left) number → (e : ReportError) → TakesNone p line number e → IsRefused text e
+pub line_refused : (text : List ℕ) (p : Progress) (line next : TextLine) (left : List TextLine) (number : ℕ) → Underway text p (line ∷ next ∷ left) number → (e : ReportError) → TakesNone p line number e → IsRefusedReport text e
 line_refused text p line next left number u errors.Memory none = tt
 line_refused text p line next left number u (errors.Bad named) none = record {
   no_report = λ r valid is.
       let lines : lines_read p ++ line ∷ next ∷ left ≡ report_lines r ++ nothing ∷ [] =
       sym u.whole ∙ ap lines_of is ∙ lines_of-lines_text (report_lines r) (report_lines_are_lines r valid) in
       let goes_on = longer (lines_read p) (report_lines r) line next nothing left lines in
-      stuck_begins (lines_read p) goes_on.0 (at_of p) line r valid u.walk none.1 goes_on.1;
+      stuck_begins (lines_read p) goes_on.0 (line_place_of p) line r valid u.walk none.1 goes_on.1;
   above = lines_read p;
   here = line;
   below = next ∷ left;
@@ -117,11 +117,11 @@ line_refused text p line next left number u (errors.Bad named) none = record {
   number = none.0 ∙ u.number_is;
   possible = begins p u.rules;
   impossible = λ some other.
-      stuck_begins (lines_read p) other.others (at_of p) line other.report other.valid u.walk none.1 (other.lines_are ∙ append_assoc (lines_read p) (line ∷ []) other.others);
+      stuck_begins (lines_read p) other.others (line_place_of p) line other.report other.valid u.walk none.1 (other.lines_are ∙ append_assoc (lines_read p) (line ∷ []) other.others);
 }
 
 -- what stands after the last line feed is the first that no report has there
-pub end_refused : (text : List ℕ) (p : Progress) (rest : TextLine) (number : ℕ) → Underway text p (rest ∷ []) number → (e : ReportError) → EndsNone p rest number e → IsRefused text e
+pub end_refused : (text : List ℕ) (p : Progress) (rest : TextLine) (number : ℕ) → Underway text p (rest ∷ []) number → (e : ReportError) → EndsNone p rest number e → IsRefusedReport text e
 end_refused text p rest number u errors.Memory none = tt
 end_refused text p rest number u (errors.Bad named) none = record {
   no_report = λ r valid is.
@@ -129,7 +129,7 @@ end_refused text p rest number u (errors.Bad named) none = record {
       sym u.whole ∙ ap lines_of is ∙ lines_of-lines_text (report_lines r) (report_lines_are_lines r valid) in
       let same = last_same (lines_read p) (report_lines r) rest nothing lines in
       let walk = subst (λ (ls : List TextLine). Walk Head ls Foot) (sym same.0) (report_walk r valid) in
-      none.1 (one_walk (lines_read p) Head (at_of p) Foot u.walk walk) same.1;
+      none.1 (one_walk (lines_read p) Head (line_place_of p) Foot u.walk walk) same.1;
   above = lines_read p;
   here = rest;
   below = [];
@@ -141,7 +141,7 @@ end_refused text p rest number u (errors.Bad named) none = record {
 
 -- ---- a report has it
 
-pub says : (text : List ℕ) (p : Progress) (rest : TextLine) (number : ℕ) → Underway text p (rest ∷ []) number → (report : Report) → IsWhole p rest report → Says text report
+pub says : (text : List ℕ) (p : Progress) (rest : TextLine) (number : ℕ) → Underway text p (rest ∷ []) number → (report : Report) → IsWholeReport p rest report → SaysReport text report
 says text p rest number u report whole = record {
   valid = whole.valid;
   text_is =
@@ -149,10 +149,10 @@ says text p rest number u report whole = record {
       (u.whole ∙ ap (λ (l : TextLine). lines_read p ++ l ∷ []) whole.rest_is ∙ sym (ap (λ (ls : List TextLine). ls ++ nothing ∷ []) whole.lines));
 }
 
-pub all_says : (text : List ℕ) (p : Progress) (rest : TextLine) (number : ℕ) → Underway text p (rest ∷ []) number → (r : Result Report ReportError) → IfOk r (IsWhole p rest) → IfOk r (Says text)
+pub all_says : (text : List ℕ) (p : Progress) (rest : TextLine) (number : ℕ) → Underway text p (rest ∷ []) number → (r : Result Report ReportError) → IfOk r (IsWholeReport p rest) → IfOk r (SaysReport text)
 all_says text p rest number u (Ok report) whole = says text p rest number u report whole
 all_says text p rest number u (Err e) whole = tt
 
-pub all_refused : (text : List ℕ) (p : Progress) (rest : TextLine) (number : ℕ) → Underway text p (rest ∷ []) number → (r : Result Report ReportError) → IfErr r (EndsNone p rest number) → IfErr r (IsRefused text)
+pub all_refused : (text : List ℕ) (p : Progress) (rest : TextLine) (number : ℕ) → Underway text p (rest ∷ []) number → (r : Result Report ReportError) → IfErr r (EndsNone p rest number) → IfErr r (IsRefusedReport text)
 all_refused text p rest number u (Ok report) none = tt
 all_refused text p rest number u (Err e) none = end_refused text p rest number u e none

@@ -8,7 +8,7 @@ use Rattle.bc_text.specs.Lines.{TextLine, space, line_feed, fields_text, line_te
 use Rattle.bc_profile.specs.declared.skips.Skip.{Skip}
 use Rattle.bc_report.specs.ReportText.{skip_field, skip_fields}
 use Rattle.bc_text.proofs.Printing.{lines_text-append}
-use Rattle.bc_report.specs.Spaced.{spaced}
+use Rattle.bc_report.specs.SpacedFields.{spaced}
 
 pub enumerate_from-push : {X : Type 0} (n : ℕ) (xs : List X) (y : X) → enumerate_from n (xs ++ y ∷ []) ≡ enumerate_from n xs ++ (n + length xs, y) ∷ []
 enumerate_from-push n [] y = let place : n ≡ n + 0 = omega arith in ap (λ (m : ℕ). (m, y) ∷ []) place

@@ -17,8 +17,8 @@ use Rattle.bc_text.proofs.LineLaws.{lines_text-begins, parts_at-cons, parts_at-o
 use Rattle.bc_text.proofs.Sorts.{same_reading}
 use Rattle.bc_report.specs.declared.sort.Sort.{Sort}
 use Rattle.bc_report.specs.declared.sort.Sort.TheVariants as sorts
-use Rattle.bc_report.specs.Course.{sort_of}
-use Rattle.bc_report.specs.ReportErrors.{Begins, IsFirstBad}
+use Rattle.bc_report.specs.LinePlaces.{sort_of_line}
+use Rattle.bc_report.specs.ReportErrors.{BeginsReport, IsFirstBad}
 use Rattle.bc_bio.specs.declared.refusal.BioError.TheVariants.{Empty, Misaligned, Outside, DunRange}
 use Rattle.bc_bio.specs.declared.refusal.Refusal.{Refusal}
 use Rattle.bc_bio.specs.declared.refusal.Refusal.TheVariants.{Bio, Unsupported}
@@ -29,13 +29,14 @@ use Rattle.bc_medium.specs.declared.via.Via.{Via}
 use Rattle.bc_medium.specs.declared.via.Via.TheVariants as vias
 use Rattle.bc_report.specs.declared.answer.Answer.{Answer}
 use Rattle.bc_report.specs.declared.answer.Answer.TheVariants as answers
-use Rattle.bc_report.specs.declared.line.Line.{Line as Entry}
+use Rattle.bc_report.specs.declared.line.Line.{Line}
 use Rattle.bc_report.specs.Report.{Report, IsReport, IsAnswer, IsVia, IsEntry, IsSkip, IsEvent, IsPart}
 use Rattle.bc_report.specs.ReportText.{refusal_word, answer_line, via_fields, entry_line, skip_field, event_line, thread_lines, shard_lines, device_lines, all_threads, all_shards, all_devices, head_line, foot_line, report_lines, report_text}
 use Rattle.bc_report.proofs.NoValue.{without_colon}
 use Rattle.bc_report.proofs.Walks.{answer_sort}
-use Rattle.bc_report.proofs.LineFields.{report_lines_are_lines, one_byte}
+use Rattle.bc_report.proofs.LineFields.{report_lines_are_lines}
 use Rattle.bc_report.proofs.Begun.{begins_prefix}
+use Rattle.bc_script.proofs.Fields.{one_byte}
 
 -- ---- fields
 
@@ -118,11 +119,11 @@ via_in-fields (vias.Inline device slot event) is =
     let e = value-decimal event is.2 in
     λ i. vias.Inline (d i) (s i) (e i)
 
-abbrev entry_in : TextLine → Entry
+abbrev entry_in : TextLine → Line
 entry_in (t ∷ o ∷ u ∷ via) = record { thread = value t; op = value o; unit = value u; via = via_in via }
 entry_in _ = record { thread = 0; op = 0; unit = 0; via = vias.Plain }
 
-entry_in-line : (e : Entry) → IsEntry e → entry_in (entry_line e) ≡ e
+entry_in-line : (e : Line) → IsEntry e → entry_in (entry_line e) ≡ e
 entry_in-line e is =
     let t = value-decimal e.thread (omega (arith, is.thread)) in
     let o = value-decimal e.op is.op in
@@ -190,7 +191,7 @@ one_value Valid line_of value_in inverse x y p q e = sym (inverse x p) ∙ ap va
 -- the sort of the first of the lines
 abbrev first_sort : List TextLine → Sort
 first_sort [] = sorts.End
-first_sort (l ∷ ls) = sort_of l
+first_sort (l ∷ ls) = sort_of_line l
 
 -- no answer follows
 abbrev EndsThread : List TextLine → Type 0
@@ -243,7 +244,7 @@ same_lines Valid line_of one (x ∷ xs) (y ∷ ys) a b n p q e =
 third_field : (a b c d m n : List ℕ) → a ∷ b ∷ m ∷ [] ≡ c ∷ d ∷ n ∷ [] → m ≡ n
 third_field a b c d m n e = cc
 
-same_shards : (n : ℕ) (ss us : List (List Entry)) (a b : List TextLine) → AllByRecursion (IsPart IsEntry) ss → AllByRecursion (IsPart IsEntry) us → EndsSort sorts.Shard a → EndsSort sorts.Shard b
+same_shards : (n : ℕ) (ss us : List (List Line)) (a b : List TextLine) → AllByRecursion (IsPart IsEntry) ss → AllByRecursion (IsPart IsEntry) us → EndsSort sorts.Shard a → EndsSort sorts.Shard b
     → flat_map shard_lines (enumerate_from n ss) ++ a ≡ flat_map shard_lines (enumerate_from n us) ++ b → (ss ≡ us) × (a ≡ b)
 same_shards n [] [] a b p q sa sb e = (refl, e)
 same_shards n [] (u ∷ us) a b p q sa sb e = absurd (sa (ap first_sort e))
@@ -279,7 +280,7 @@ same_devices n (d ∷ ds) (u ∷ us) a b p q sa sb e =
 abbrev after_threads : Report → List TextLine → List TextLine
 after_threads r rest = all_shards r.shards ++ (all_devices r.devices ++ foot_line ∷ rest)
 
-ends_threads : (s : List (List Entry)) (d : List (List Event)) (rest : List TextLine) → let after = all_shards s ++ (all_devices d ++ foot_line ∷ rest) in EndsThread after × EndsSort sorts.Thread after
+ends_threads : (s : List (List Line)) (d : List (List Event)) (rest : List TextLine) → let after = all_shards s ++ (all_devices d ++ foot_line ∷ rest) in EndsThread after × EndsSort sorts.Thread after
 ends_threads [] [] rest = ((λ e. cc), (λ e. cc))
 ends_threads [] (d ∷ ds) rest = ((λ e. cc), (λ e. cc))
 ends_threads (s ∷ ss) d rest = ((λ e. cc), (λ e. cc))
@@ -339,7 +340,7 @@ shorter (z ∷ zs) (v ∷ vs) x y a b e lt =
 not_before : (text : List ℕ) (m n : ℕ) (p : IsFirstBad text m) (q : IsFirstBad text n) → m < n → ⊥
 not_before text m n p q lt =
     let r = shorter p.above q.above p.here q.here p.below q.below (sym p.lines_are ∙ q.lines_are) (omega (arith, p.number, q.number)) in
-    p.impossible r.2 (begins_prefix (p.above ++ p.here ∷ []) r.0 (subst Begins r.1 q.possible))
+    p.impossible r.2 (begins_prefix (p.above ++ p.here ∷ []) r.0 (subst BeginsReport r.1 q.possible))
 
 pub one_first_bad : (text : List ℕ) (m n : ℕ) → IsFirstBad text m → IsFirstBad text n → m ≡ n
 one_first_bad text m n p q =

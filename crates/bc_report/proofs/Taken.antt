@@ -7,11 +7,11 @@ use Rattle.bc_text.specs.Lines.{TextLine}
 use Rattle.bc_profile.specs.declared.event.Event.{Event}
 use Rattle.bc_report.specs.declared.part.Part.{Part}
 use Rattle.bc_report.specs.declared.part.Part.TheVariants as parts
-use Rattle.bc_report.specs.declared.line.Line.{Line as Entry}
+use Rattle.bc_report.specs.declared.line.Line.{Line}
 use Rattle.bc_report.specs.Report.{IsEntry, IsEvent}
 use Rattle.bc_report.specs.ReportText.{entry_line, event_line, thread_lines, shard_lines, device_lines, shard_line, device_line, all_threads, all_shards, all_devices, head_line}
-use Rattle.bc_report.specs.Course.{At, Between, shard_at, device_at, Goes, SaysEntry, SaysEvent}
-use Rattle.bc_report.specs.Progress.{Progress, lines_read, read_in, at_of, at_in, IsBegun, RulesIn, IsProgress, IsIn, Took, with_entry, with_event, thread_closed, shard_closed, device_closed}
+use Rattle.bc_report.specs.LinePlaces.{LinePlace, Between, line_place_in_shard, line_place_in_device, Goes, SaysEntry, SaysEvent}
+use Rattle.bc_report.specs.Progress.{Progress, lines_read, read_in, line_place_of, line_place_in, IsBegunPart, RulesIn, IsProgress, IsIn, TookReportLine, with_entry, with_event, thread_closed, shard_closed, device_closed}
 use Rattle.bc_report.proofs.Printed.{enumerate_from-push}
 
 -- ---- lists
@@ -35,8 +35,8 @@ parts_push {X} f xs y =
 pub lines_in : (part : Part) (p : Progress) → IsIn part p → lines_read p ≡ read_in part p
 lines_in part p i = ap (λ (x : Part). read_in x p) i.part_is
 
-pub place_in : (part : Part) (p : Progress) → IsIn part p → at_of p ≡ at_in part p
-place_in part p i = ap (λ (x : Part). at_in x p) i.part_is
+pub place_in : (part : Part) (p : Progress) → IsIn part p → line_place_of p ≡ line_place_in part p
+place_in part p i = ap (λ (x : Part). line_place_in x p) i.part_is
 
 pub rules_of : (part : Part) (p : Progress) → IsIn part p → IsProgress p
 rules_of part p i = subst (λ (x : Part). RulesIn x p) (sym i.part_is) i.rules
@@ -46,23 +46,23 @@ rules_of part p i = subst (λ (x : Part). RulesIn x p) (sym i.part_is) i.rules
 pub one_more : (h x : TextLine) (t m : List TextLine) → (h ∷ (t ++ m)) ++ x ∷ [] ≡ h ∷ (t ++ (m ++ x ∷ []))
 one_more h x t m = ap (λ (ls : List TextLine). h ∷ ls) (append_assoc t m (x ∷ []))
 
-still_owed : {X : Type 0} (P : X → Type 0) (xs : List X) (x : X) (owed : ℕ) → 1 ≤ owed → IsBegun P xs owed → P x → IsBegun P (xs ++ x ∷ []) (owed - 1)
+still_owed : {X : Type 0} (P : X → Type 0) (xs : List X) (x : X) (owed : ℕ) → 1 ≤ owed → IsBegunPart P xs owed → P x → IsBegunPart P (xs ++ x ∷ []) (owed - 1)
 still_owed P xs x owed some b valid = record { count = omega (arith, b.count, length_push xs x); each = all_push P xs x b.each valid }
 
 same_count : {X : Type 0} (xs : List X) (x : X) (owed : ℕ) → 1 ≤ owed → length (xs ++ x ∷ []) + (owed - 1) ≡ length xs + owed
 same_count xs x owed some = omega (arith, length_push xs x)
 
-pub entry_rules : (p : Progress) (entry : Entry) → IsIn parts.Entries p → 1 ≤ p.owed → IsEntry entry → RulesIn parts.Entries (with_entry p entry)
+pub entry_rules : (p : Progress) (entry : Line) → IsIn parts.Entries p → 1 ≤ p.owed → IsEntry entry → RulesIn parts.Entries (with_entry p entry)
 entry_rules p entry i some valid = (i.rules.0, still_owed IsEntry p.entries entry p.owed some i.rules.1 valid, i.rules.2)
 
-pub entry_progress : (p : Progress) (entry : Entry) → IsIn parts.Entries p → 1 ≤ p.owed → IsEntry entry → IsProgress (with_entry p entry)
+pub entry_progress : (p : Progress) (entry : Line) → IsIn parts.Entries p → 1 ≤ p.owed → IsEntry entry → IsProgress (with_entry p entry)
 entry_progress p entry i some valid = subst (λ (x : Part). RulesIn x (with_entry p entry)) (sym i.part_is) (entry_rules p entry i some valid)
 
-goes_entry : (threads shards owed : ℕ) (line : TextLine) → 1 ≤ owed → SaysEntry line → Goes (shard_at threads shards owed) line (shard_at threads shards (owed - 1))
+goes_entry : (threads shards owed : ℕ) (line : TextLine) → 1 ≤ owed → SaysEntry line → Goes (line_place_in_shard threads shards owed) line (line_place_in_shard threads shards (owed - 1))
 goes_entry threads shards zero line some says = absurd (omega arith)
 goes_entry threads shards (suc owed) line some says = (says, refl)
 
-pub took_entry : (p new : Progress) (line : TextLine) (entry : Entry) → IsIn parts.Entries p → 1 ≤ p.owed → IsEntry entry → line ≡ entry_line entry → new ≡ with_entry p entry → Took p line new
+pub took_entry : (p new : Progress) (line : TextLine) (entry : Line) → IsIn parts.Entries p → 1 ≤ p.owed → IsEntry entry → line ≡ entry_line entry → new ≡ with_entry p entry → TookReportLine p line new
 took_entry p new line entry i some valid says is =
     let q = with_entry p entry in
     let j : IsIn parts.Entries q = record { part_is = i.part_is; rules = entry_rules p entry i some valid } in
@@ -76,15 +76,15 @@ took_entry p new line entry i some valid says is =
     ∙ sym (one_more head_line (entry_line entry) (all_threads p.threads) (before ++ (head ∷ map entry_line p.entries)))
     ∙ ap (λ (l : TextLine). read_in parts.Entries p ++ l ∷ []) (sym says)
     ∙ ap (λ (ls : List TextLine). ls ++ line ∷ []) (sym (lines_in parts.Entries p i)) in
-    let took : Took p line q = record {
+    let took : TookReportLine p line q = record {
       lines = read;
       goes =
-          subst (λ (a : At). Goes (at_of p) line a) (sym (place_in parts.Entries q j))
-          (subst (λ (a : At). Goes a line (at_in parts.Entries q)) (sym (place_in parts.Entries p i))
+          subst (λ (a : LinePlace). Goes (line_place_of p) line a) (sym (place_in parts.Entries q j))
+          (subst (λ (a : LinePlace). Goes a line (line_place_in parts.Entries q)) (sym (place_in parts.Entries p i))
           (goes_entry (length p.threads) (length p.shards + 1) p.owed line some (entry, valid, says)));
       rules = entry_progress p entry i some valid;
     } in
-    subst (λ (r : Progress). Took p line r) (sym is) took
+    subst (λ (r : Progress). TookReportLine p line r) (sym is) took
 
 pub event_rules : (p : Progress) (event : Event) → IsIn parts.Events p → 1 ≤ p.owed → IsEvent event → RulesIn parts.Events (with_event p event)
 event_rules p event i some valid = (i.rules.0, still_owed IsEvent p.events event p.owed some i.rules.1 valid)
@@ -92,11 +92,11 @@ event_rules p event i some valid = (i.rules.0, still_owed IsEvent p.events event
 pub event_progress : (p : Progress) (event : Event) → IsIn parts.Events p → 1 ≤ p.owed → IsEvent event → IsProgress (with_event p event)
 event_progress p event i some valid = subst (λ (x : Part). RulesIn x (with_event p event)) (sym i.part_is) (event_rules p event i some valid)
 
-goes_event : (threads shards devices owed : ℕ) (line : TextLine) → 1 ≤ owed → SaysEvent line → Goes (device_at threads shards devices owed) line (device_at threads shards devices (owed - 1))
+goes_event : (threads shards devices owed : ℕ) (line : TextLine) → 1 ≤ owed → SaysEvent line → Goes (line_place_in_device threads shards devices owed) line (line_place_in_device threads shards devices (owed - 1))
 goes_event threads shards devices zero line some says = absurd (omega arith)
 goes_event threads shards devices (suc owed) line some says = (says, refl)
 
-pub took_event : (p new : Progress) (line : TextLine) (event : Event) → IsIn parts.Events p → 1 ≤ p.owed → IsEvent event → line ≡ event_line event → new ≡ with_event p event → Took p line new
+pub took_event : (p new : Progress) (line : TextLine) (event : Event) → IsIn parts.Events p → 1 ≤ p.owed → IsEvent event → line ≡ event_line event → new ≡ with_event p event → TookReportLine p line new
 took_event p new line event i some valid says is =
     let q = with_event p event in
     let j : IsIn parts.Events q = record { part_is = i.part_is; rules = event_rules p event i some valid } in
@@ -112,19 +112,19 @@ took_event p new line event i some valid says is =
     ∙ sym (one_more head_line (event_line event) (all_threads p.threads) (shards ++ (before ++ (head ∷ map event_line p.events))))
     ∙ ap (λ (l : TextLine). read_in parts.Events p ++ l ∷ []) (sym says)
     ∙ ap (λ (ls : List TextLine). ls ++ line ∷ []) (sym (lines_in parts.Events p i)) in
-    let took : Took p line q = record {
+    let took : TookReportLine p line q = record {
       lines = read;
       goes =
-          subst (λ (a : At). Goes (at_of p) line a) (sym (place_in parts.Events q j))
-          (subst (λ (a : At). Goes a line (at_in parts.Events q)) (sym (place_in parts.Events p i))
+          subst (λ (a : LinePlace). Goes (line_place_of p) line a) (sym (place_in parts.Events q j))
+          (subst (λ (a : LinePlace). Goes a line (line_place_in parts.Events q)) (sym (place_in parts.Events p i))
           (goes_event (length p.threads) (length p.shards) (length p.devices + 1) p.owed line some (event, valid, says)));
       rules = event_progress p event i some valid;
     } in
-    subst (λ (r : Progress). Took p line r) (sym is) took
+    subst (λ (r : Progress). TookReportLine p line r) (sym is) took
 
 -- ---- a part is whole
 
-no_more : (t : List TextLine) (s : List (List Entry)) (d : List (List Event)) → s ≡ [] → d ≡ [] → t ++ (all_shards s ++ all_devices d) ≡ t
+no_more : (t : List TextLine) (s : List (List Line)) (d : List (List Event)) → s ≡ [] → d ≡ [] → t ++ (all_shards s ++ all_devices d) ≡ t
 no_more t s d p q = rw (p, q) (append-nil t)
 
 none_after : (s : List TextLine) (d : List (List Event)) → d ≡ [] → s ++ all_devices d ≡ s
@@ -152,22 +152,22 @@ device_lines_stay p i none =
     ∙ sym (lines_in parts.Events p i)
 
 -- the place stays, but for an answer
-pub thread_place : (p : Progress) → IsIn parts.Answers p → at_of (thread_closed p) ≡ Between (length p.threads + 1) 0 0
+pub thread_place : (p : Progress) → IsIn parts.Answers p → line_place_of (thread_closed p) ≡ Between (length p.threads + 1) 0 0
 thread_place p i = places (length (p.threads ++ p.answers ∷ [])) (length p.threads + 1) p.shards p.devices (length_push p.threads p.answers) i.rules.2 i.rules.3
   where
-    places : (m n : ℕ) (s : List (List Entry)) (d : List (List Event)) → m ≡ n → s ≡ [] → d ≡ [] → Between m (length s) (length d) ≡ Between n 0 0
+    places : (m n : ℕ) (s : List (List Line)) (d : List (List Event)) → m ≡ n → s ≡ [] → d ≡ [] → Between m (length s) (length d) ≡ Between n 0 0
     places m n s d e p q = rw (e, p, q) refl
 
-pub shard_place : (p : Progress) → IsIn parts.Entries p → p.owed ≡ 0 → at_of (shard_closed p) ≡ at_of p
+pub shard_place : (p : Progress) → IsIn parts.Entries p → p.owed ≡ 0 → line_place_of (shard_closed p) ≡ line_place_of p
 shard_place p i none =
     places (length p.threads) (length (p.shards ++ p.entries ∷ [])) (length p.shards + 1) p.owed p.devices (length_push p.shards p.entries) none i.rules.2 ∙ sym (place_in parts.Entries p i)
   where
-    places : (t m n owed : ℕ) (d : List (List Event)) → m ≡ n → owed ≡ 0 → d ≡ [] → Between t m (length d) ≡ shard_at t n owed
+    places : (t m n owed : ℕ) (d : List (List Event)) → m ≡ n → owed ≡ 0 → d ≡ [] → Between t m (length d) ≡ line_place_in_shard t n owed
     places t m n owed d e p q = rw (e, p, q) refl
 
-pub device_place : (p : Progress) → IsIn parts.Events p → p.owed ≡ 0 → at_of (device_closed p) ≡ at_of p
+pub device_place : (p : Progress) → IsIn parts.Events p → p.owed ≡ 0 → line_place_of (device_closed p) ≡ line_place_of p
 device_place p i none =
     places (length p.threads) (length p.shards) (length (p.devices ++ p.events ∷ [])) (length p.devices + 1) p.owed (length_push p.devices p.events) none ∙ sym (place_in parts.Events p i)
   where
-    places : (t s m n owed : ℕ) → m ≡ n → owed ≡ 0 → Between t s m ≡ device_at t s n owed
+    places : (t s m n owed : ℕ) → m ≡ n → owed ≡ 0 → Between t s m ≡ line_place_in_device t s n owed
     places t s m n owed e p = rw (e, p) refl

@@ -1,5 +1,5 @@
--- The answers of a report: a bio's is that of the outcome, or its refusal; another operation's is its own word. The
--- digest of what was read is SHA-256 (FIPS 180-4).
+-- The answers of a report: a bio's is that of the outcome, or its refusal; another operation's is
+-- its own word. The digest of what was read is SHA-256 (FIPS 180-4).
 use Rattle.std.specs.Prelude.{◌≡◌, ℕ, ◌==◌, List, [], ◌∷◌, MatchOption, ⊤, if◌then◌else◌}
 use Rattle.std.specs.List.{list_all, enumerate_from, AllZip}
 use Rattle.std.specs.Option.{option_map_or}
@@ -32,8 +32,8 @@ answer_of_bio script run thread op bio =
     option_map_or answers.Refused (refusal_of script bio)
     (answer_of_outcome (bio_answer run bio.access thread op))
 
--- an operation that submits no bio is answered by its own word; what an eviction may be answered, the point on evictions
--- says
+-- an operation that submits no bio is answered by its own word; what an eviction may be answered,
+-- the point on evictions says
 abbrev pub IsOwnWord : Op → Answer → Type 0
 IsOwnWord (ops.Evict key) answer = ⊤
 IsOwnWord (ops.Reset device) answer = answer ≡ answers.Reset

@@ -44,7 +44,8 @@ abbrev pub is_idle : Event → Bool
 is_idle (events.Idle slot) = true
 is_idle _ = false
 
--- the resets are as many as the script asks for; programmings and idle slots are at most as many as its inline bios
+-- the resets are as many as the script asks for; programmings and idle slots are at most as many as
+-- its inline bios
 pub record CountsHold (script : Script) (devices : List (List Event)) : Type 0 where
   pub resets : (device : ℕ) → count_events devices device is_reset ≡ count_operations script (is_reset_of device)
   pub programmings : (device key : ℕ)

@@ -11,7 +11,8 @@ use Rattle.bc_report.specs.declared.answer.Answer.{Answer}
 use Rattle.bc_report.specs.declared.answer.Answer.TheVariants as answers
 use Rattle.bc_report.specs.Report.{Report}
 
--- one eviction of a run: its thread, the number of its operation, the key's number, and what it was answered
+-- one eviction of a run: its thread, the number of its operation, the key's number, and what it was
+-- answered
 pub record Eviction : Type 0 where
   pub thread : ℕ
   pub op : ℕ
@@ -70,8 +71,8 @@ count_answered evictions key test = count_by (λ e. (e.key == key) && test e.ans
 abbrev pub count_events : List (List Event) → ℕ → (Event → Bool) → ℕ
 count_events devices device test = count_by test (slice_index_or devices device [])
 
--- what an eviction may be answered: one of a key that isn't inline `evicted`, one of an inline key also `busy` at a device
--- of the script
+-- what an eviction may be answered: one of a key that isn't inline `evicted`, one of an inline key
+-- also `busy` at a device of the script
 abbrev pub IsEvictionAnswer : Script → ℕ → Answer → Type 0
 IsEvictionAnswer script key answers.Evicted = ⊤
 IsEvictionAnswer script key (answers.Busy device slot refs) =
@@ -85,7 +86,8 @@ pub record EvictionsHold (script : Script) (evictions : List Eviction) (devices 
       → count_events devices device (λ event. is_evict key event || is_busy key event)
       ≤ count_by (λ e. e.key == key) evictions
 
--- each `busy` answer has an event of its own; each further `busy` event has an eviction that a device before refused
+-- each `busy` answer has an event of its own; each further `busy` event has an eviction that a
+-- device before refused
 pub record BusyAnswersHold (evictions : List Eviction) (devices : List (List Event)) : Type 0 where
   pub each_has_its_event : (device key slot refs : ℕ)
       → count_answered evictions key (names_busy device slot refs)

@@ -47,7 +47,8 @@ may_refuse script device key refs =
     list_any (λ section. evicts key section.1 && nat_le refs (count_others script key device section.0))
     (enumerate_from 0 script.threads)
 
--- some thread has a bio under the key that is programmed, and so many others one under the key of the slot
+-- some thread has a bio under the key that is programmed, and so many others one under the key of
+-- the slot
 abbrev pub may_skip : Script → ℕ → ℕ → ℕ → ℕ → Bool
 may_skip script device programmed key refs =
     list_any

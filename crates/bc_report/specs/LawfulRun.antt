@@ -1,5 +1,5 @@
--- A lawful run of a script from an image, with a number of shards: what a report and the image that is left
--- must meet.
+-- A lawful run of a script from an image, with a number of shards: what a report and the image that
+-- is left must meet.
 use Rattle.std.specs.Prelude.{◌≡◌, ℕ, List}
 use Rattle.std.specs.List.{AllZip}
 use Rattle.bc_medium.specs.LawfulOrders.{LawfulOrders}
@@ -26,8 +26,9 @@ HaveLawfulJournals targets devices = AllZip (λ target events. IsLawful target.s
 abbrev pub EndIdle : List Target → List (List Event) → Type 0
 EndIdle targets devices = AllZip (λ target events. AllIdle target.slots events) targets devices
 
--- a report and an image that is left are those of a run of the script over this image, with so many shards: all points of
--- a lawful run but who held a slot that was found with references, and that every slot is idle at the end
+-- a report and an image that is left are those of a run of the script over this image, with so many
+-- shards: all points of a lawful run but who held a slot that was found with references, and that
+-- every slot is idle at the end
 pub record LawfulButHolders (script : Script) (image : List ℕ) (shards : ℕ) (report : Report) (left : List ℕ)
     : Type 0 where
   -- the shard lists are lawful orders
@@ -40,7 +41,8 @@ pub record LawfulButHolders (script : Script) (image : List ℕ) (shards : ℕ) 
   pub ways : HaveWays script (run_of script image report) report.shards
   -- each device's journal is lawful
   pub journals : HaveLawfulJournals script.targets report.devices
-  -- each inline entry names a programming of its own key, and a thread's entries name events in order
+  -- each inline entry names a programming of its own key, and a thread's entries name events in
+  -- order
   pub programmings : ProgrammingsHold (run_of script image report) (plan_of script) report (evictions_of script report)
   -- what evictions are answered, and how many events they make
   pub evictions : EvictionsHold script (evictions_of script report) report.devices
@@ -49,7 +51,8 @@ pub record LawfulButHolders (script : Script) (image : List ℕ) (shards : ℕ) 
   -- how many events there are
   pub counts : CountsHold script report.devices
 
--- the other points: each refusal and each skip has threads that may have held the slot, and every slot is idle at the end
+-- the other points: each refusal and each skip has threads that may have held the slot, and every
+-- slot is idle at the end
 pub record HoldersAreKnown (script : Script) (report : Report) : Type 0 where
   pub holders : HaveHolders script report.devices
   pub all_idle : EndIdle script.targets report.devices

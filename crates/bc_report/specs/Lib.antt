@@ -1,8 +1,8 @@
 pub mod Report
 pub mod ReportText
 pub mod ReportErrors
-pub mod Spaced
-pub mod Course
+pub mod SpacedFields
+pub mod LinePlaces
 pub mod Progress
 pub mod RunOf
 pub mod Answers

@@ -1,5 +1,5 @@
--- Programmings: an inline entry names an event that programs its slot with its own key, and later entries of a thread
--- name no earlier event.
+-- Programmings: an inline entry names an event that programs its slot with its own key, and later
+-- entries of a thread name no earlier event.
 use Rattle.std.specs.Prelude.{◌≡◌, ℕ, ◌<◌, ◌≤◌, Bool, true, false, ◌&&◌, ◌==◌, nat_lt, List, [], flat_map, filter_map, find, All, AllPairs, Option, Some, None, IsTrue, IsSomeAnd, option_map, option_and_then, slice_get, slice_index_or, ⊤}
 use Rattle.std.specs.List.{list_any, enumerate_from}
 use Rattle.bc_bio.specs.declared.context.Context.{Context}
@@ -7,7 +7,7 @@ use Rattle.bc_bio.specs.PlannedUnit.{PlannedUnit}
 use Rattle.bc_medium.specs.declared.unit_name.UnitName.{UnitName}
 use Rattle.bc_medium.specs.declared.via.Via.{Via}
 use Rattle.bc_medium.specs.declared.via.Via.TheVariants as vias
-use Rattle.bc_medium.specs.LawfulOrders.{name_of, is_same}
+use Rattle.bc_medium.specs.LawfulOrders.{unit_name_of, is_same}
 use Rattle.bc_medium.specs.Outcome.{Run}
 use Rattle.bc_profile.specs.declared.event.Event.{Event}
 use Rattle.bc_profile.specs.declared.event.Event.TheVariants as events
@@ -18,15 +18,15 @@ use Rattle.bc_report.specs.Report.{Report}
 use Rattle.bc_report.specs.RunOf.{name_in, own_key}
 
 -- the event programs the slot with the key
-abbrev pub Programs : ℕ → ℕ → Event → Type 0
-Programs slot key (events.Program s k skipped) = (s ≡ slot) × (k ≡ key)
-Programs slot key _ = ⊥
+abbrev pub IsProgramming : ℕ → ℕ → Event → Type 0
+IsProgramming slot key (events.Program s k skipped) = (s ≡ slot) × (k ≡ key)
+IsProgramming slot key _ = ⊥
 
 -- an inline entry's event is a programming of its slot with its own key
 abbrev pub NamesProgramming : Run → List (List Event) → UnitName → Via → Type 0
 NamesProgramming run devices name (vias.Inline device slot event) =
     IsSomeAnd (own_key run name)
-    (λ key. IsSomeAnd (slice_get (slice_index_or devices device []) event) (Programs slot key))
+    (λ key. IsSomeAnd (slice_get (slice_index_or devices device []) event) (IsProgramming slot key))
 NamesProgramming run devices name _ = ⊤
 
 -- the way that the report says of a unit
@@ -34,7 +34,8 @@ abbrev pub via_of : Report → UnitName → Option Via
 via_of report name =
     option_map (λ line. line.via) (find (λ line. is_same (name_in line) name) (flat_map (λ lines. lines) report.shards))
 
--- an inline entry of a thread: the numbers of its operation and its key, and the device and the event that it names
+-- an inline entry of a thread: the numbers of its operation and its key, and the device and the
+-- event that it names
 pub record InlineEntry : Type 0 where
   pub op : ℕ
   pub key : ℕ
@@ -51,13 +52,14 @@ entry_by op context _ = None
 abbrev pub entry_of : Report → ℕ → PlannedUnit → Option InlineEntry
 entry_of report thread u =
     option_and_then (λ via. option_and_then (λ context. entry_by u.tag context via) u.context)
-    (via_of report (name_of thread u))
+    (via_of report (unit_name_of thread u))
 
 -- a thread's inline entries, in the order in which it issued them
 abbrev pub entries_in_order : Report → ℕ → List PlannedUnit → List InlineEntry
 entries_in_order report thread issued = filter_map (entry_of report thread) issued
 
--- an eviction with this answer took the key from this device: it was answered `evicted`, or `busy` at a later device
+-- an eviction with this answer took the key from this device: it was answered `evicted`, or `busy`
+-- at a later device
 abbrev pub passes : ℕ → Answer → Bool
 passes device answers.Evicted = true
 passes device (answers.Busy d slot refs) = nat_lt device d
@@ -70,8 +72,8 @@ is_evicted_between evictions thread key device first second =
     (λ e. (e.thread == thread) && (e.key == key) && nat_lt first e.op && nat_lt e.op second && passes device e.answer)
     evictions
 
--- of two entries under one key on one device: the later one names no earlier event, and a later event where the thread
--- evicted the key between them
+-- of two entries under one key on one device: the later one names no earlier event, and a later
+-- event where the thread evicted the key between them
 pub record InOrder (evictions : List Eviction) (thread : ℕ) (first second : InlineEntry) : Type 0 where
   pub never_earlier : first.key ≡ second.key → first.device ≡ second.device → first.event ≤ second.event
   pub later_after_eviction : first.key ≡ second.key → first.device ≡ second.device

@@ -1,12 +1,12 @@
--- A report that is being read: what the lines say that have been read so far. The contracts of private functions speak of
--- this; no public one does.
+-- A report that is being read: what the lines say that have been read so far. The contracts of
+-- private functions speak of this; no public one does.
 use Rattle.std.specs.Prelude.{◌≡◌, ℕ, ◌+◌, ◌-◌, ◌^◌, ◌<◌, ◌≤◌, List, [], ◌∷◌, ◌++◌, length, map, ⊤}
 use Rattle.std.specs.List.{AllByRecursion}
 use Rattle.bc_text.specs.Lines.{TextLine, nothing}
 use Rattle.bc_report.specs.declared.part.Part.{Part}
 use Rattle.bc_report.specs.declared.part.Part.TheVariants as parts
 use Rattle.bc_report.specs.declared.answer.Answer.{Answer}
-use Rattle.bc_report.specs.declared.line.Line.{Line as Entry}
+use Rattle.bc_report.specs.declared.line.Line.{Line}
 use Rattle.bc_profile.specs.declared.event.Event.{Event}
 use Rattle.bc_report.specs.declared.report_error.ReportError.{ReportError}
 use Rattle.bc_report.specs.declared.report_error.ReportError.TheVariants as errors
@@ -15,16 +15,17 @@ use Rattle.bc_report.specs.declared.unread.Unread.TheVariants as unread
 use Rattle.bc_report.specs.declared.limits.TheConstants.{MAX_THREADS, MAX_SHARDS, MAX_DEVICES}
 use Rattle.bc_report.specs.Report.{Report, IsReport, IsAnswer, IsEntry, IsEvent, IsPart}
 use Rattle.bc_report.specs.ReportText.{entry_line, event_line, thread_lines, shard_line, device_line, all_threads, all_shards, all_devices, head_line, foot_line, report_lines}
-use Rattle.bc_report.specs.Course.{At, Head, InThread, Between, Foot, shard_at, device_at, Goes, IsStuck}
+use Rattle.bc_report.specs.LinePlaces.{LinePlace, Head, InThread, Between, Foot, line_place_in_shard, line_place_in_device, Goes, IsStuck}
 
--- the part that is being read, the parts that are whole, the lines of the one that isn't, and how many it still needs
+-- the part that is being read, the parts that are whole, the lines of the one that isn't, and how
+-- many it still needs
 pub record Progress : Type 0 where
   pub part : Part
   pub threads : List (List Answer)
-  pub shards : List (List Entry)
+  pub shards : List (List Line)
   pub devices : List (List Event)
   pub answers : List Answer
-  pub entries : List Entry
+  pub entries : List Line
   pub events : List Event
   pub owed : ℕ
 
@@ -54,22 +55,22 @@ abbrev pub lines_read : Progress → List TextLine
 lines_read p = read_in p.part p
 
 -- where they stand
-abbrev pub at_in : Part → Progress → At
-at_in parts.Head p = Head
-at_in parts.Between p = Between (length p.threads) (length p.shards) (length p.devices)
-at_in parts.Answers p = InThread (length p.threads + 1)
-at_in parts.Entries p = shard_at (length p.threads) (length p.shards + 1) p.owed
-at_in parts.Events p = device_at (length p.threads) (length p.shards) (length p.devices + 1) p.owed
-at_in parts.Foot p = Foot
+abbrev pub line_place_in : Part → Progress → LinePlace
+line_place_in parts.Head p = Head
+line_place_in parts.Between p = Between (length p.threads) (length p.shards) (length p.devices)
+line_place_in parts.Answers p = InThread (length p.threads + 1)
+line_place_in parts.Entries p = line_place_in_shard (length p.threads) (length p.shards + 1) p.owed
+line_place_in parts.Events p = line_place_in_device (length p.threads) (length p.shards) (length p.devices + 1) p.owed
+line_place_in parts.Foot p = Foot
 
 -- where the part that is being read stands
-abbrev pub at_of : Progress → At
-at_of p = at_in p.part p
+abbrev pub line_place_of : Progress → LinePlace
+line_place_of p = line_place_in p.part p
 
 -- ---- what holds of them
 
 -- whole parts, with room for so many more
-pub record AreWhole (threads : List (List Answer)) (shards : List (List Entry)) (devices : List (List Event))
+pub record AreWhole (threads : List (List Answer)) (shards : List (List Line)) (devices : List (List Event))
     (more_threads more_shards more_devices : ℕ) : Type 0 where
   pub few_threads : length threads + more_threads ≤ MAX_THREADS
   pub few_shards : length shards + more_shards ≤ MAX_SHARDS
@@ -79,7 +80,7 @@ pub record AreWhole (threads : List (List Answer)) (shards : List (List Entry)) 
   pub events : AllByRecursion (IsPart IsEvent) devices
 
 -- a part that isn't whole
-pub record IsBegun {X : Type 0} (Valid : X → Type 0) (lines : List X) (owed : ℕ) : Type 0 where
+pub record IsBegunPart {X : Type 0} (Valid : X → Type 0) (lines : List X) (owed : ℕ) : Type 0 where
   pub count : length lines + owed < 2 ^ 32
   pub each : AllByRecursion Valid lines
 
@@ -89,9 +90,9 @@ RulesIn parts.Head p = (p.threads ≡ []) × (p.shards ≡ []) × (p.devices ≡
 RulesIn parts.Between p = AreWhole p.threads p.shards p.devices 0 0 0
 RulesIn parts.Answers p = AreWhole p.threads p.shards p.devices 1 0 0 × AllByRecursion IsAnswer p.answers
     × (p.shards ≡ []) × (p.devices ≡ [])
-RulesIn parts.Entries p = AreWhole p.threads p.shards p.devices 0 1 0 × IsBegun IsEntry p.entries p.owed
+RulesIn parts.Entries p = AreWhole p.threads p.shards p.devices 0 1 0 × IsBegunPart IsEntry p.entries p.owed
     × (p.devices ≡ [])
-RulesIn parts.Events p = AreWhole p.threads p.shards p.devices 0 0 1 × IsBegun IsEvent p.events p.owed
+RulesIn parts.Events p = AreWhole p.threads p.shards p.devices 0 0 1 × IsBegunPart IsEvent p.events p.owed
 RulesIn parts.Foot p = AreWhole p.threads p.shards p.devices 0 0 0
 
 -- the rules of what has been read
@@ -106,15 +107,15 @@ pub record IsIn (part : Part) (p : Progress) : Type 0 where
 -- ---- what a line adds
 
 -- the head has been read
-abbrev pub begun : Progress → Progress
-begun p = record p { part = parts.Between }
+abbrev pub after_head : Progress → Progress
+after_head p = record p { part = parts.Between }
 
 -- one answer more of the thread
 abbrev pub with_answer : Progress → Answer → Progress
 with_answer p answer = record p { answers = p.answers ++ answer ∷ [] }
 
 -- one entry more of the shard, and one fewer to come
-abbrev pub with_entry : Progress → Entry → Progress
+abbrev pub with_entry : Progress → Line → Progress
 with_entry p entry = record p { entries = p.entries ++ entry ∷ []; owed = p.owed - 1 }
 
 -- one event more of the device, and one fewer to come
@@ -156,29 +157,29 @@ report_read p = record { threads = p.threads; shards = p.shards; devices = p.dev
 -- ---- what a reader of reports answers
 
 -- the line has been read
-pub record Took (old : Progress) (line : TextLine) (new : Progress) : Type 0 where
+pub record TookReportLine (old : Progress) (line : TextLine) (new : Progress) : Type 0 where
   pub lines : lines_read new ≡ lines_read old ++ line ∷ []
-  pub goes : Goes (at_of old) line (at_of new)
+  pub goes : Goes (line_place_of old) line (line_place_of new)
   pub rules : IsProgress new
 
 -- the line isn't read: no report has it there, or the process was out of memory
-abbrev pub Refuses : Progress → TextLine → Unread → Type 0
-Refuses p line unread.Bad = IsStuck (at_of p) line
-Refuses p line unread.Memory = ⊤
+abbrev pub RefusesLine : Progress → TextLine → Unread → Type 0
+RefusesLine p line unread.Bad = IsStuck (line_place_of p) line
+RefusesLine p line unread.Memory = ⊤
 
 -- the report whose lines have all been read, and which has nothing after them
-pub record IsWhole (p : Progress) (rest : TextLine) (report : Report) : Type 0 where
+pub record IsWholeReport (p : Progress) (rest : TextLine) (report : Report) : Type 0 where
   pub valid : IsReport report
   pub lines : report_lines report ≡ lines_read p
   pub rest_is : rest ≡ nothing
 
 -- the report isn't whole, or something stands after it
 abbrev pub IsNotWhole : Progress → TextLine → Type 0
-IsNotWhole p rest = at_of p ≡ Foot → rest ≡ nothing → ⊥
+IsNotWhole p rest = line_place_of p ≡ Foot → rest ≡ nothing → ⊥
 
 -- the error names the next line, which isn't read, or the process was out of memory
 abbrev pub TakesNone : Progress → TextLine → ℕ → ReportError → Type 0
-TakesNone p line number (errors.Bad named) = (named ≡ number) × IsStuck (at_of p) line
+TakesNone p line number (errors.Bad named) = (named ≡ number) × IsStuck (line_place_of p) line
 TakesNone p line number errors.Memory = ⊤
 
 -- the error names the next line, since the report isn't whole, or something stands after it

@@ -1,5 +1,6 @@
--- What a run did, as its report says: for each thread what its operations were answered, for each shard its entries in
--- order, for each device the events of its keyslots in order; and the ranges that every report keeps.
+-- What a run did, as its report says: for each thread what its operations were answered, for each
+-- shard its entries in order, for each device the events of its keyslots in order; and the ranges
+-- that every report keeps.
 use Rattle.std.specs.Prelude.{◌≡◌, ◌^◌, ◌<◌, ◌≤◌, List, length, ⊤}
 use Rattle.std.specs.List.{AllByRecursion}
 use Rattle.hex.specs.Hex.{IsBytes}
@@ -12,12 +13,13 @@ use Rattle.bc_profile.specs.declared.event.Event.{Event}
 use Rattle.bc_profile.specs.declared.event.Event.TheVariants as events
 use Rattle.bc_report.specs.declared.answer.Answer.{Answer}
 use Rattle.bc_report.specs.declared.answer.Answer.TheVariants as answers
-use Rattle.bc_report.specs.declared.line.Line.{Line as Entry}
+use Rattle.bc_report.specs.declared.line.Line.{Line}
 
--- for each thread the answers of its operations, for each shard its entries, for each device its events
+-- for each thread the answers of its operations, for each shard its entries, for each device its
+-- events
 pub record Report : Type 0 where
   pub threads : List (List Answer)
-  pub shards : List (List Entry)
+  pub shards : List (List Line)
   pub devices : List (List Event)
 
 -- ---- ranges: each number is in the range of its field's type
@@ -36,7 +38,7 @@ IsVia (Inline device slot event) = (device < 2 ^ 8) × (slot < 2 ^ 16) × (event
 IsVia _ = ⊤
 
 -- the numbers of an entry
-pub record IsEntry (entry : Entry) : Type 0 where
+pub record IsEntry (entry : Line) : Type 0 where
   pub thread : entry.thread < 2 ^ 16
   pub op : entry.op < 2 ^ 32
   pub unit : entry.unit < 2 ^ 32

@@ -1,5 +1,5 @@
--- The text of a report, by its lines: the head, for each thread its answers, for each shard its entries, for each device
--- its events, and the foot. Each sort of line is one definition.
+-- The text of a report, by its lines: the head, for each thread its answers, for each shard its
+-- entries, for each device its events, and the foot. Each sort of line is one definition.
 use Rattle.std.specs.Prelude.{◌≡◌, ℕ, List, [], ◌∷◌, ◌++◌, codes, length, map, flat_map}
 use Rattle.std.specs.List.{enumerate_from}
 use Rattle.std.specs.Fmt.{decimal}
@@ -16,7 +16,7 @@ use Rattle.bc_profile.specs.declared.event.Event.{Event}
 use Rattle.bc_profile.specs.declared.event.Event.TheVariants as events
 use Rattle.bc_report.specs.declared.answer.Answer.{Answer}
 use Rattle.bc_report.specs.declared.answer.Answer.TheVariants.{Wrote, ReadFill, ReadSum, Fault, Refused, Evicted, Busy, Reset, Plug, Unplug}
-use Rattle.bc_report.specs.declared.line.Line.{Line as Entry}
+use Rattle.bc_report.specs.declared.line.Line.{Line}
 use Rattle.bc_report.specs.Report.{Report, IsReport}
 
 -- ---- a line for each answer
@@ -44,14 +44,15 @@ answer_line Unplug = codes "unplug" ∷ []
 
 -- ---- a line for each entry
 
--- the way of a data unit: an inline one names its device, its slot, and the event that programmed the slot
+-- the way of a data unit: an inline one names its device, its slot, and the event that programmed
+-- the slot
 abbrev pub via_fields : Via → TextLine
 via_fields Plain = codes "plain" ∷ []
 via_fields Soft = codes "soft" ∷ []
 via_fields (Inline device slot event) = codes "inline" ∷ decimal device ∷ decimal slot ∷ decimal event ∷ []
 
 -- the thread, the operation and the unit, and its way
-abbrev pub entry_line : Entry → TextLine
+abbrev pub entry_line : Line → TextLine
 entry_line entry = decimal entry.thread ∷ decimal entry.op ∷ decimal entry.unit ∷ via_fields entry.via
 
 -- ---- a line for each event
@@ -92,7 +93,7 @@ abbrev pub thread_lines : ℕ × List Answer → List TextLine
 thread_lines (number, answers) = thread_line number ∷ map answer_line answers
 
 -- a shard and its entries
-abbrev pub shard_lines : ℕ × List Entry → List TextLine
+abbrev pub shard_lines : ℕ × List Line → List TextLine
 shard_lines (number, entries) = shard_line number (length entries) ∷ map entry_line entries
 
 -- a device and its events
@@ -104,7 +105,7 @@ abbrev pub all_threads : List (List Answer) → List TextLine
 all_threads threads = flat_map thread_lines (enumerate_from 0 threads)
 
 -- all shards
-abbrev pub all_shards : List (List Entry) → List TextLine
+abbrev pub all_shards : List (List Line) → List TextLine
 all_shards shards = flat_map shard_lines (enumerate_from 0 shards)
 
 -- all devices
@@ -132,6 +133,6 @@ abbrev pub report_text : Report → List ℕ
 report_text report = lines_text (report_lines report)
 
 -- the text is this report's
-pub record Says (text : List ℕ) (report : Report) : Type 0 where
+pub record SaysReport (text : List ℕ) (report : Report) : Type 0 where
   pub valid : IsReport report
   pub text_is : text ≡ report_text report

@@ -1,5 +1,5 @@
--- The run of the keyed disk that a report is of: the script's plan and faults, from an image, along the orders that the
--- report lists.
+-- The run of the keyed disk that a report is of: the script's plan and faults, from an image, along
+-- the orders that the report lists.
 use Rattle.std.specs.Prelude.{ℕ, List, map, Option, option_map, option_and_then}
 use Rattle.bc_medium.specs.declared.unit_name.UnitName.{UnitName}
 use Rattle.bc_medium.specs.Outcome.{Run, unit_named}

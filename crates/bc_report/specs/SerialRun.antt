@@ -1,5 +1,5 @@
--- What one caller does, section after section: which uses it makes of each device, and which hold an inline entry names.
--- Script, image and number of shards decide such a run.
+-- What one caller does, section after section: which uses it makes of each device, and which hold
+-- an inline entry names. Script, image and number of shards decide such a run.
 use Rattle.std.specs.Prelude.{◌≡◌, ℕ, ◌+◌, Bool, ◌==◌, List, [], ◌∷◌, map, filter, flat_map, length, take, Option, Some, None, slice_get, All, IsSomeAnd, ⊤, if◌then◌else◌}
 use Rattle.std.specs.List.{enumerate_from, range_with_len, list_any, position_or_len}
 use Rattle.std.specs.Option.{option_map_or}
@@ -93,7 +93,8 @@ abbrev pub uses_through : Script → ℕ → UnitName → List DeviceUse
 uses_through script device name =
     take (position_or_len (λ u. list_any (is_same name) u.units) (uses_of script device) + 1) (uses_of script device)
 
--- where a unit under this key went inline, its entry names the slot of its hold, and the event that programmed it
+-- where a unit under this key went inline, its entry names the slot of its hold, and the event that
+-- programmed it
 abbrev pub NamesHoldUnder : Script → Option ℕ → UnitName → Via → Type 0
 NamesHoldUnder script under name (vias.Inline device slot event) =
     IsSomeAnd under (λ key. IsSomeAnd (slice_get script.targets device) (λ target.
@@ -114,8 +115,9 @@ serial_order script report shard =
     (orders_of report) shard)
     (range_with_len 0 (length script.threads))
 
--- beside a lawful run, what makes the whole report a function of script, image and shards: the sections follow one
--- another, each journal is that of the device's uses, and each inline entry names its own hold
+-- beside a lawful run, what makes the whole report a function of script, image and shards: the
+-- sections follow one another, each journal is that of the device's uses, and each inline entry
+-- names its own hold
 pub record IsSerial (script : Script) (run : Run) (report : Report) : Type 0 where
   pub section_after_section :
       orders_of report ≡ map (serial_order script report) (range_with_len 0 (length report.shards))

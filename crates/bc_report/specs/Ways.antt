@@ -1,4 +1,5 @@
--- The ways of a report's entries: each is the plan's, and an inline one names the device of its sector.
+-- The ways of a report's entries: each is the plan's, and an inline one names the device of its
+-- sector.
 use Rattle.std.specs.Prelude.{◌≡◌, List, IsSomeAnd, All}
 use Rattle.bc_medium.specs.declared.via.Via.{Via}
 use Rattle.bc_medium.specs.declared.via.Via.TheVariants as vias

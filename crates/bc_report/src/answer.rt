@@ -17,7 +17,8 @@ pub enum Answer {
     Refused(Refusal),
     /// The key is in no keyslot.
     Evicted,
-    /// The key is still in use: so many references were found on this slot of this device, the first that refused.
+    /// The key is still in use: so many references were found on this slot of this device, the
+    /// first that refused.
     Busy { device: u8, slot: u16, refs: u16 },
     /// The device's keyslots were programmed again.
     Reset,

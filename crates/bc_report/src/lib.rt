@@ -1,6 +1,7 @@
-//! The report of a run: what each operation was answered, what each shard performed in order, and what each device's
-//! keyslots went through. [`print`] gives a report's one text. [`parse`] gives the report that a text says, or the first
-//! line that no report has there. Two reports with one text are one report.
+//! The report of a run: what each operation was answered, what each shard performed in order, and
+//! what each device's keyslots went through. [`print`] gives a report's one text. [`parse`] gives
+//! the report that a text says, or the first line that no report has there. Two reports with one
+//! text are one report.
 #![tactic(auto)]
 
 // what a report says
@@ -13,11 +14,11 @@ mod report;
 mod printing;
 
 // reading a text
+mod line_values;
 mod parser;
 mod part;
 mod reader;
 mod report_error;
-mod said;
 mod sort;
 mod unread;
 

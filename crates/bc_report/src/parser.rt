@@ -1,9 +1,9 @@
 //! The report that a text says.
 
 ghost use Rattle.std.specs.Prelude.{◌-◌, ◌^◌, ◌<◌, length, OnOk, IfOk, IfErr};
-ghost use Rattle.bc_report.specs.ReportText.{Says};
-ghost use Rattle.bc_report.specs.ReportErrors.{IsRefused};
-ghost use Rattle.bc_report.specs.Progress.{IsWhole, Took, TakesNone, EndsNone};
+ghost use Rattle.bc_report.specs.ReportText.{SaysReport};
+ghost use Rattle.bc_report.specs.ReportErrors.{IsRefusedReport};
+ghost use Rattle.bc_report.specs.Progress.{IsWholeReport, TookReportLine, TakesNone, EndsNone};
 
 use crate::reader::Reader;
 use crate::report::Report;
@@ -16,13 +16,13 @@ use std::alloc::Global;
 ///
 /// # Errors
 ///
-/// `Bad` where no report has the text: the first line, from 1, that no report has there. Where each line is possible and
-/// the text ends too early that is the line after the last one. A last line without a line feed is itself the line named.
-/// `Memory` where the process was out of memory.
+/// `Bad` where no report has the text: the first line, from 1, that no report has there. Where each
+/// line is possible and the text ends too early that is the line after the last one. A last line
+/// without a line feed is itself the line named. `Memory` where the process was out of memory.
 pub fn parse(alloc: Global, text: &[u8]) -> Result<Report, ReportError>
     requires { length text.now < 2 ^ 32 - 1 }
-    ensures says { IfOk result (Says text.now) }
-    ensures refused { IfErr result (IsRefused text.now) }
+    ensures says { IfOk result (SaysReport text.now) }
+    ensures refused { IfErr result (IsRefusedReport text.now) }
 {
     let mut lines = Lines::new(text);
     let mut reader = Reader::new(alloc);
@@ -40,7 +40,7 @@ pub fn parse(alloc: Global, text: &[u8]) -> Result<Report, ReportError>
 
 /// Reads the next line, which has this number.
 fn take(alloc: Global, reader: &mut Reader, line: Parts, number: u32) -> Result<(), ReportError>
-    ensures ok { OnOk result (Took reader.old line.entry reader.new) }
+    ensures ok { OnOk result (TookReportLine reader.old line.entry reader.new) }
     ensures bad { IfErr result (TakesNone reader.old line.entry number) }
 {
     match reader.take(alloc, line) {
@@ -50,9 +50,10 @@ fn take(alloc: Global, reader: &mut Reader, line: Parts, number: u32) -> Result<
     }
 }
 
-/// The report whose last line has been read, and which has nothing after it but this, with the number of the next line.
+/// The report whose last line has been read, and which has nothing after it but this, with the
+/// number of the next line.
 fn finish(reader: Reader, rest: Parts, number: u32) -> Result<Report, ReportError>
-    ensures ok { IfOk result (IsWhole reader rest.entry) }
+    ensures ok { IfOk result (IsWholeReport reader rest.entry) }
     ensures bad { IfErr result (EndsNone reader rest.entry number) }
 {
     match reader.finish(rest) {

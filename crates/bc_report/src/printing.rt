@@ -5,7 +5,7 @@ ghost use Rattle.std.specs.Fmt.{decimal};
 ghost use Rattle.hex.specs.Hex.{encode_lower};
 ghost use Rattle.bc_text.specs.Lines.{lines_text, line_text, fields_text};
 ghost use Rattle.bc_report.specs.ReportText.{refusal_word, answer_line, via_fields, entry_line, skip_field, skip_fields, event_line, thread_lines, shard_line, shard_lines, device_line, device_lines, all_threads, all_shards, all_devices, report_text};
-ghost use Rattle.bc_report.specs.Spaced.{spaced};
+ghost use Rattle.bc_report.specs.SpacedFields.{spaced};
 
 use crate::answer::Answer;
 use crate::line::Line;
@@ -17,8 +17,8 @@ use bc_profile::{Event, Skip};
 use bc_text::{put_hex, put_number};
 use std::alloc::{AllocError, Global};
 
-/// The one text of the report: its head, a part for each thread, each shard and each device, and its foot. Each line ends
-/// with a line feed.
+/// The one text of the report: its head, a part for each thread, each shard and each device, and
+/// its foot. Each line ends with a line feed.
 ///
 /// # Errors
 ///

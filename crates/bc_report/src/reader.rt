@@ -5,15 +5,15 @@ ghost use Rattle.bc_report.specs.declared.limits.TheConstants.{MAX_THREADS, MAX_
 ghost use Rattle.bc_report.specs.Report.{IsAnswer, IsEntry, IsEvent};
 ghost use Rattle.bc_report.specs.declared.part.Part.TheVariants as parts;
 ghost use Rattle.bc_report.specs.declared.sort.Sort.TheVariants as sorts;
-ghost use Rattle.bc_report.specs.Course.{sort_of};
-ghost use Rattle.bc_report.specs.Progress.{IsProgress, IsIn, Took, Refuses, IsWhole, IsNotWhole, lines_read, at_of, begun, with_answer, with_entry, with_event, with_thread, with_shard, with_device, with_foot, thread_closed, shard_closed, device_closed, report_read};
-ghost use Rattle.bc_report.specs.Course as course;
+ghost use Rattle.bc_report.specs.LinePlaces.{sort_of_line};
+ghost use Rattle.bc_report.specs.Progress.{IsProgress, IsIn, TookReportLine, RefusesLine, IsWholeReport, IsNotWhole, lines_read, line_place_of, after_head, with_answer, with_entry, with_event, with_thread, with_shard, with_device, with_foot, thread_closed, shard_closed, device_closed, report_read};
+ghost use Rattle.bc_report.specs.LinePlaces as course;
 
 use crate::answer::Answer;
 use crate::line::Line;
+use crate::line_values;
 use crate::part::Part;
 use crate::report::Report;
-use crate::said;
 use crate::sort::Sort;
 use crate::unread::Unread;
 use bc_base::Items;
@@ -71,7 +71,7 @@ impl Reader {
     /// No line has been read.
     pub(crate) fn new(alloc: Global) -> Reader
         ensures nothing_read { lines_read result ≡ [] }
-        ensures at_head { at_of result ≡ course.Head }
+        ensures at_head { line_place_of result ≡ course.Head }
         ensures rules { IsProgress result }
     {
         Reader {
@@ -88,8 +88,8 @@ impl Reader {
 
     /// Reads the next line.
     pub(crate) fn take(&mut self, alloc: Global, line: Parts) -> Result<(), Unread>
-        ensures ok { OnOk result (Took self.old line.entry self.new) }
-        ensures bad { IfErr result (Refuses self.old line.entry) }
+        ensures ok { OnOk result (TookReportLine self.old line.entry self.new) }
+        ensures bad { IfErr result (RefusesLine self.old line.entry) }
     {
         match self.part() {
             Part::Head => self.head(line),
@@ -104,7 +104,7 @@ impl Reader {
     /// The report whose last line has been read, and which has nothing after it but this.
     #[tactic(auto, using(crate::proofs::Nothing::is_the_nothing, crate::proofs::Nothing::is_not_nothing))]
     pub(crate) fn finish(self, rest: Parts) -> Option<Report>
-        ensures { MatchOption result (IsNotWhole self rest.entry) (IsWhole self rest.entry) }
+        ensures { MatchOption result (IsNotWhole self rest.entry) (IsWholeReport self rest.entry) }
     {
         if !rest.is_nothing() {
             return None;
@@ -119,10 +119,10 @@ impl Reader {
 
     fn head(&mut self, line: Parts) -> Result<(), Unread>
         requires { IsIn parts.Head self.old }
-        ensures ok { OnOk result (Took self.old line.entry self.new) }
-        ensures bad { IfErr result (Refuses self.old line.entry) }
+        ensures ok { OnOk result (TookReportLine self.old line.entry self.new) }
+        ensures bad { IfErr result (RefusesLine self.old line.entry) }
     {
-        if !said::is_head(line) {
+        if !line_values::is_head(line) {
             return Err(Unread::Bad);
         }
         self.begin();
@@ -131,10 +131,10 @@ impl Reader {
 
     fn in_thread(&mut self, alloc: Global, line: Parts) -> Result<(), Unread>
         requires { IsIn parts.Answers self.old }
-        ensures ok { OnOk result (Took self.old line.entry self.new) }
-        ensures bad { IfErr result (Refuses self.old line.entry) }
+        ensures ok { OnOk result (TookReportLine self.old line.entry self.new) }
+        ensures bad { IfErr result (RefusesLine self.old line.entry) }
     {
-        match said::sort(&line) {
+        match line_values::sort(&line) {
             Sort::Other => self.answer(line),
             _ => {
                 self.close_thread(alloc)?;
@@ -145,14 +145,14 @@ impl Reader {
 
     fn in_shard(&mut self, alloc: Global, line: Parts) -> Result<(), Unread>
         requires { IsIn parts.Entries self.old }
-        ensures ok { OnOk result (Took self.old line.entry self.new) }
-        ensures bad { IfErr result (Refuses self.old line.entry) }
+        ensures ok { OnOk result (TookReportLine self.old line.entry self.new) }
+        ensures bad { IfErr result (RefusesLine self.old line.entry) }
     {
         if self.owed == 0 {
             self.close_shard(alloc)?;
             return self.next_part(alloc, line);
         }
-        let Some(entry) = said::entry(line) else {
+        let Some(entry) = line_values::entry(line) else {
             return Err(Unread::Bad);
         };
         self.add_entry(entry)?;
@@ -161,14 +161,14 @@ impl Reader {
 
     fn in_device(&mut self, alloc: Global, line: Parts) -> Result<(), Unread>
         requires { IsIn parts.Events self.old }
-        ensures ok { OnOk result (Took self.old line.entry self.new) }
-        ensures bad { IfErr result (Refuses self.old line.entry) }
+        ensures ok { OnOk result (TookReportLine self.old line.entry self.new) }
+        ensures bad { IfErr result (RefusesLine self.old line.entry) }
     {
         if self.owed == 0 {
             self.close_device(alloc)?;
             return self.next_part(alloc, line);
         }
-        let Some(event) = said::event(line) else {
+        let Some(event) = line_values::event(line) else {
             return Err(Unread::Bad);
         };
         self.add_event(event)?;
@@ -177,11 +177,11 @@ impl Reader {
 
     fn answer(&mut self, line: Parts) -> Result<(), Unread>
         requires part { IsIn parts.Answers self.old }
-        requires sort { sort_of line ≡ sorts.Other }
-        ensures ok { OnOk result (Took self.old line.entry self.new) }
-        ensures bad { IfErr result (Refuses self.old line.entry) }
+        requires sort { sort_of_line line ≡ sorts.Other }
+        ensures ok { OnOk result (TookReportLine self.old line.entry self.new) }
+        ensures bad { IfErr result (RefusesLine self.old line.entry) }
     {
-        let Some(answer) = said::answer(line) else {
+        let Some(answer) = line_values::answer(line) else {
             return Err(Unread::Bad);
         };
         self.add_answer(answer)?;
@@ -192,10 +192,10 @@ impl Reader {
 
     fn next_part(&mut self, alloc: Global, line: Parts) -> Result<(), Unread>
         requires { IsIn parts.Between self.old }
-        ensures ok { OnOk result (Took self.old line.entry self.new) }
-        ensures bad { IfErr result (Refuses self.old line.entry) }
+        ensures ok { OnOk result (TookReportLine self.old line.entry self.new) }
+        ensures bad { IfErr result (RefusesLine self.old line.entry) }
     {
-        match said::sort(&line) {
+        match line_values::sort(&line) {
             Sort::Thread => self.thread(alloc, line),
             Sort::Shard => self.shard(alloc, line),
             Sort::Device => self.device(alloc, line),
@@ -206,14 +206,14 @@ impl Reader {
 
     fn thread(&mut self, alloc: Global, line: Parts) -> Result<(), Unread>
         requires part { IsIn parts.Between self.old }
-        requires sort { sort_of line ≡ sorts.Thread }
-        ensures ok { OnOk result (Took self.old line.entry self.new) }
-        ensures bad { IfErr result (Refuses self.old line.entry) }
+        requires sort { sort_of_line line ≡ sorts.Thread }
+        ensures ok { OnOk result (TookReportLine self.old line.entry self.new) }
+        ensures bad { IfErr result (RefusesLine self.old line.entry) }
     {
         if self.shards.len() != 0 || self.devices.len() != 0 {
             return Err(Unread::Bad);
         }
-        let Some(number) = said::thread(line) else {
+        let Some(number) = line_values::thread(line) else {
             return Err(Unread::Bad);
         };
         if number as usize != self.threads.len() {
@@ -225,14 +225,14 @@ impl Reader {
 
     fn shard(&mut self, alloc: Global, line: Parts) -> Result<(), Unread>
         requires part { IsIn parts.Between self.old }
-        requires sort { sort_of line ≡ sorts.Shard }
-        ensures ok { OnOk result (Took self.old line.entry self.new) }
-        ensures bad { IfErr result (Refuses self.old line.entry) }
+        requires sort { sort_of_line line ≡ sorts.Shard }
+        ensures ok { OnOk result (TookReportLine self.old line.entry self.new) }
+        ensures bad { IfErr result (RefusesLine self.old line.entry) }
     {
         if self.devices.len() != 0 {
             return Err(Unread::Bad);
         }
-        let Some((number, count)) = said::shard(line) else {
+        let Some((number, count)) = line_values::shard(line) else {
             return Err(Unread::Bad);
         };
         if number as usize != self.shards.len() {
@@ -244,11 +244,11 @@ impl Reader {
 
     fn device(&mut self, alloc: Global, line: Parts) -> Result<(), Unread>
         requires part { IsIn parts.Between self.old }
-        requires sort { sort_of line ≡ sorts.Device }
-        ensures ok { OnOk result (Took self.old line.entry self.new) }
-        ensures bad { IfErr result (Refuses self.old line.entry) }
+        requires sort { sort_of_line line ≡ sorts.Device }
+        ensures ok { OnOk result (TookReportLine self.old line.entry self.new) }
+        ensures bad { IfErr result (RefusesLine self.old line.entry) }
     {
-        let Some((number, count)) = said::device(line) else {
+        let Some((number, count)) = line_values::device(line) else {
             return Err(Unread::Bad);
         };
         if number as usize != self.devices.len() {
@@ -260,11 +260,11 @@ impl Reader {
 
     fn end(&mut self, line: Parts) -> Result<(), Unread>
         requires part { IsIn parts.Between self.old }
-        requires sort { sort_of line ≡ sorts.End }
-        ensures ok { OnOk result (Took self.old line.entry self.new) }
-        ensures bad { IfErr result (Refuses self.old line.entry) }
+        requires sort { sort_of_line line ≡ sorts.End }
+        ensures ok { OnOk result (TookReportLine self.old line.entry self.new) }
+        ensures bad { IfErr result (RefusesLine self.old line.entry) }
     {
-        if !said::is_foot(line) {
+        if !line_values::is_foot(line) {
             return Err(Unread::Bad);
         }
         self.begin_foot();
@@ -282,7 +282,7 @@ impl Reader {
 
     fn begin(&mut self)
         requires { IsIn parts.Head self.old }
-        ensures { self.new ≡ begun self.old }
+        ensures { self.new ≡ after_head self.old }
     {
         self.part = Part::Between;
     }

@@ -8,9 +8,9 @@ use bc_base::Items;
 use bc_profile::Event;
 use std::marker::Model;
 
-/// The report of a run: for each thread the answers of its operations, for each shard its entries in order, and for each
-/// device the events of its keyslots in order. It keeps the ranges of the report's text by its type, so each report has
-/// one text.
+/// The report of a run: for each thread the answers of its operations, for each shard its entries
+/// in order, and for each device the events of its keyslots in order. It keeps the ranges of the
+/// report's text by its type, so each report has one text.
 #[derive(Drop)]
 pub struct Report {
     threads: Items<Items<Answer>>,
@@ -31,8 +31,8 @@ impl Model for Report {
 impl Report {
     ghost use Rattle.bc_report.specs.Report as specs;
 
-    /// A report within the ranges of its text: at most 16 threads, 64 shards and 8 devices, and fewer than 2^32 entries of
-    /// a shard and events of a device.
+    /// A report within the ranges of its text: at most 16 threads, 64 shards and 8 devices, and
+    /// fewer than 2^32 entries of a shard and events of a device.
     pub fn new(
         threads: Items<Items<Answer>>,
         shards: Items<Items<Line>>,

@@ -19,13 +19,18 @@ fn every_line_is_read_and_printed(rt: HostRuntime) -> Result<(), Fail> {
     let texts: [&[u8]; 7] = [
         b"report 1\nshard 0 0\nend\n",
         b"report 1\nend\n",
-        b"report 1\nthread 0\nplug\ndone\nfault 0\ndone\nunplug\ndone fill 00\ndone fill 33\nshard 0 6\n0 1 0 soft\n0 1 1 soft\n\
+        b"report 1\nthread 0\nplug\ndone\nfault 0\ndone\nunplug\ndone fill 00\ndone fill 33\n\
+        shard 0 6\n0 1 0 soft\n0 1 1 soft\n\
         0 2 0 soft\n0 3 0 soft\n0 5 0 plain\n0 6 0 soft\nend\n",
-        b"report 1\nthread 0\ndone\nshard 0 2\n0 0 0 inline 0 0 0\n0 0 1 inline 0 0 0\nshard 1 2\n0 0 2 inline 1 0 0\n0 0 3 inline 1 0 0\n\
+        b"report 1\nthread 0\ndone\nshard 0 2\n0 0 0 inline 0 0 0\n0 0 1 inline 0 0 0\n\
+        shard 1 2\n0 0 2 inline 1 0 0\n0 0 3 inline 1 0 0\n\
         device 0 2\nprogram 0 0\nidle 0\ndevice 1 2\nprogram 0 0\nidle 0\nend\n",
-        b"report 1\nthread 0\ndone\ndone fill 11\nthread 1\nbusy 0 0 1\nshard 0 0\ndevice 0 4\nprogram 0 0\nbusy 0 0 1\nidle 0\nidle 0\nend\n",
+        b"report 1\nthread 0\ndone\ndone fill 11\nthread 1\nbusy 0 0 1\nshard 0 0\ndevice 0 4\n\
+        program 0 0\nbusy 0 0 1\nidle 0\nidle 0\nend\n",
         b"report 1\ndevice 0 6\nprogram 0 0\nidle 0\nprogram 1 1\nidle 1\nprogram 1 2 skip 0:1\nidle 0\nend\n",
-        b"report 1\nthread 0\ndone sha256 000102030405060708090a0b0c0d0e0f101112131415161718191a1b1c1d1eff\nrefused empty\n\
+        b"report 1\nthread 0\n\
+        done sha256 000102030405060708090a0b0c0d0e0f101112131415161718191a1b1c1d1eff\n\
+        refused empty\n\
         refused misaligned\nrefused outside\nrefused dun\nrefused unsupported\nevicted\nbusy 255 65535 65535\nreset\n\
         fault 4294967295\nthread 1\nshard 0 1\n65535 4294967295 4294967295 inline 255 65535 4294967295\n\
         device 0 3\nevict 65535 65535\nreset\nprogram 65535 65535 skip 65535:65535 0:0\nend\n",

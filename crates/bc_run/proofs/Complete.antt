@@ -1,4 +1,4 @@
--- A run that met no fault, of a script that its text says, over an image that the folder has, ends well or for want of memory.
+-- A run that met no fault, of a script that its text says, over an image that the folder has, ends well or out of memory.
 use Rattle.std.proofs.Common.{◌≡◌, ◌⊎◌, ◌∙◌, ◌<◌, ◌≤◌, ℕ, List, length, Option, Some, None, IfSome, refl, sym, ap, inl, inr, arith, subst}
 use Rattle.std.specs.Prelude.{IsSomeAnd}
 use Rattle.bc_base.specs.Folders.{Files, HasLonger, Lacks}
@@ -7,7 +7,7 @@ use Rattle.bc_run.specs.declared.image.TheConstants.{MAX_IMAGE}
 use Rattle.bc_run.specs.declared.status.Status.{Status}
 use Rattle.bc_run.specs.declared.status.Status.TheVariants.{Ok, Usage, BadScript, ReadFault, WriteFault, FolderFault, ImageLength, TooLong, NoMemory, Missing}
 use Rattle.bc_run.specs.Words.{IsScriptCommand, options_of}
-use Rattle.bc_run.specs.Command.{HasAnotherLength, HasImageFor, IsBadScript, IsTextOf, bytes_of_disk}
+use Rattle.bc_run.specs.Command.{HasAnotherLength, HasImageFor, IsBadScript, IsScriptTextOf, bytes_of_disk}
 use Rattle.bc_run.specs.Statuses.{CommandRun, ScriptRunEndsBy, FolderRose, ReadRose, WriteRose}
 use Rattle.bc_run.proofs.Texts.{NoPrefix, one_script}
 
@@ -45,7 +45,7 @@ not_another (Some held) (Some n) script want got has another = go (held n) refl 
         another.differ (another.want_is ∙ sym h.0 ∙ ap length (sym is) ∙ sym another.got_is)
 
 complete_of : NoPrefix → (run : CommandRun) (status : Status) → ScriptRunEndsBy run status → IsScriptCommand run.words
-    → (text : List ℕ) → run.text ≡ Some text → (asked : Script) → IsTextOf text asked
+    → (text : List ℕ) → run.text ≡ Some text → (asked : Script) → IsScriptTextOf text asked
     → HasImageFor run.effects.files_before (options_of run.words).image asked
     → (ReadRose run → ⊥) → (FolderRose run.effects → ⊥) → (WriteRose run.effects → ⊥)
     → (status ≡ Ok) ⊎ (status ≡ NoMemory)
@@ -58,7 +58,7 @@ complete_of law run WriteFault e cmd text is asked accepted image no_read no_fol
 complete_of law run Missing e cmd text is asked accepted image no_read no_folder no_write =
     absurd (not_missing run.effects.files_before (options_of run.words).image asked image e.1.holds)
 complete_of law run (ImageLength want got) e cmd text is asked accepted image no_read no_folder no_write =
-    let same : e.1.script ≡ asked = one_script law text e.1.script asked (subst (λ o. IfSome o (λ t. IsTextOf t e.1.script)) is e.1.accepted) accepted in
+    let same : e.1.script ≡ asked = one_script law text e.1.script asked (subst (λ o. IfSome o (λ t. IsScriptTextOf t e.1.script)) is e.1.accepted) accepted in
     absurd (not_another run.effects.files_before (options_of run.words).image asked want got image
     (subst (λ s. HasAnotherLength run.effects.files_before (options_of run.words).image s want got) same e.1.holds))
 complete_of law run (BadScript why) e cmd text is asked accepted image no_read no_folder no_write =
@@ -75,13 +75,13 @@ complete_of law run (TooLong limit) e cmd text is asked accepted image no_read n
 ]
 
 pub complete : NoPrefix → (run : CommandRun) (status : Status) → ScriptRunEndsBy run status → IsScriptCommand run.words
-    → IfSome run.text (λ text. (asked : Script) → IsTextOf text asked
+    → IfSome run.text (λ text. (asked : Script) → IsScriptTextOf text asked
     → HasImageFor run.effects.files_before (options_of run.words).image asked
     → (ReadRose run → ⊥) → (FolderRose run.effects → ⊥) → (WriteRose run.effects → ⊥)
     → (status ≡ Ok) ⊎ (status ≡ NoMemory))
 complete law run status e cmd = go run.text refl
   where
-    go : (o : Option (List ℕ)) → run.text ≡ o → IfSome o (λ text. (asked : Script) → IsTextOf text asked
+    go : (o : Option (List ℕ)) → run.text ≡ o → IfSome o (λ text. (asked : Script) → IsScriptTextOf text asked
         → HasImageFor run.effects.files_before (options_of run.words).image asked
         → (ReadRose run → ⊥) → (FolderRose run.effects → ⊥) → (WriteRose run.effects → ⊥)
         → (status ≡ Ok) ⊎ (status ≡ NoMemory))

@@ -20,7 +20,7 @@ use Rattle.clap.specs.declared.parser.matches.ArgMatches.{ArgMatches}
 use Rattle.clap.specs.declared.parser.matches.Found.{Found}
 use Rattle.clap.specs.declared.parser.matches.MatchedArg.{MatchedArg}
 use Rattle.clap.proofs.CallerLemmas.{entry_by_id, same_rules_by_id, added_plain}
-use Rattle.bc_run.specs.Words.{Begins, IsNumberIn, NamesScript, names_threads}
+use Rattle.bc_run.specs.Words.{FirstWordIs, IsNumberIn, NamesScript, names_threads}
 
 -- the first word, as text
 pub first_mapped : {X : Type 0} (f : X → List ℕ) (ws : List X) (w : X) (v : List ℕ) → slice_get ws 0 ≡ Some w → f w ≡ v → slice_get (map f ws) 0 ≡ Some v
@@ -37,13 +37,13 @@ first_is f ws w v at named =
     cc
 
 -- whether it is `threads`
-pub serial_named : (words : List (List ℕ)) → Begins (codes "serial") words → false ≡ names_threads words
+pub serial_named : (words : List (List ℕ)) → FirstWordIs (codes "serial") words → false ≡ names_threads words
 serial_named words named = sym (ap (λ o. option_map_or (λ word. bytes_eq word (codes "threads")) o false) named)
 
-pub threads_named : (words : List (List ℕ)) → Begins (codes "threads") words → true ≡ names_threads words
+pub threads_named : (words : List (List ℕ)) → FirstWordIs (codes "threads") words → true ≡ names_threads words
 threads_named words named = sym (ap (λ o. option_map_or (λ word. bytes_eq word (codes "threads")) o false) named)
 
-pub none_named : (words : List (List ℕ)) → (Begins (codes "serial") words → ⊥) → (Begins (codes "threads") words → ⊥)
+pub none_named : (words : List (List ℕ)) → (FirstWordIs (codes "serial") words → ⊥) → (FirstWordIs (codes "threads") words → ⊥)
     → NamesScript words → ⊥
 none_named words serial threads (inl named) = serial named
 none_named words serial threads (inr named) = threads named

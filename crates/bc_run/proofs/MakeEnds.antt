@@ -11,9 +11,9 @@ use Rattle.bc_base.specs.Outside.{AppendsPrefix, HasCause, Rose}
 use Rattle.bc_base.specs.Folders.{Files, HasSame}
 use Rattle.bc_run.specs.declared.status.Status.{Status}
 use Rattle.bc_run.specs.declared.status.Status.TheVariants.{Ok, Usage, BadScript, ReadFault, WriteFault, FolderFault, ImageLength, TooLong, NoMemory, Missing}
-use Rattle.bc_run.specs.Words.{AreMakeOptions, Begins, IsCommand, IsMakeCommand, IsScriptCommand, MakeOptions, NamesCommand, NamesScript, make_options_of}
-use Rattle.bc_run.specs.Making.{IsMade, line_of}
-use Rattle.bc_script.specs.Generated.{generated}
+use Rattle.bc_run.specs.Words.{AreMakeOptions, FirstWordIs, IsCommand, IsMakeCommand, IsScriptCommand, MakeOptions, NamesCommand, NamesScript, make_options_of}
+use Rattle.bc_run.specs.Making.{IsMade, make_line_of}
+use Rattle.bc_script.specs.GeneratedScript.{generated}
 use Rattle.bc_run.specs.Statuses.{ChangesOnly, CommandRun, EndsBy, MakeEndsBy, ScriptRunEndsBy, SinkEffects, sink_of}
 use Rattle.bc_run.specs.Command.{zeros_for}
 use Rattle.bc_run.specs.Stages.{status_of}
@@ -21,7 +21,7 @@ use Rattle.bc_run.specs.Stages.{status_of}
 -- ---- one word
 
 -- the first word is not both
-pub not_both : (words : List (List ℕ)) → Begins (codes "make") words → NamesScript words → ⊥
+pub not_both : (words : List (List ℕ)) → FirstWordIs (codes "make") words → NamesScript words → ⊥
 not_both words make (inl serial) =
     let same : Some (codes "make") ≡ Some (codes "serial") = sym make ∙ serial in
     cc
@@ -31,7 +31,7 @@ not_both words make (inr threads) =
 
 -- ---- words that no command takes
 
-pub make_usage : (words : List (List ℕ)) (e : SinkEffects) (status : Status) → Begins (codes "make") words → MakeEndsBy words e status
+pub make_usage : (words : List (List ℕ)) (e : SinkEffects) (status : Status) → FirstWordIs (codes "make") words → MakeEndsBy words e status
     → (IsCommand words → ⊥) → (status ≡ Usage) ⊎ ((status ≡ NoMemory) × NamesCommand words)
 make_usage words e Ok named h none = absurd (none (inr h.0))
 make_usage words e Usage named h none = inl refl
@@ -104,7 +104,7 @@ pub is_made : RunsLeaveTheMadeImage → (options : MakeOptions) (script : Script
     → AreMakeOptions options → script ≡ generated options.n options.slots
     → LawfulButHolders script (zeros_for script) options.shards report left
     → (options.at_once ≡ false → IsSerialRun script (zeros_for script) options.shards report left)
-    → line ≡ line_of options.n left
+    → line ≡ make_line_of options.n left
     → IsMade (λ written. written ≡ line) options
 is_made law options script report left line ranges is lawful one_caller e =
     let left_is = law options.n options.slots options.shards script report left is ranges.shards.0 lawful in record {
@@ -115,7 +115,7 @@ is_made law options script report left line ranges is lawful one_caller e =
       lawful = lawful;
       one_caller = one_caller;
       left_is = left_is;
-      done = sym (e ∙ ap (line_of options.n) left_is);
+      done = sym (e ∙ ap (make_line_of options.n) left_is);
     }
 
 -- ---- how a run of `make` ended
@@ -150,10 +150,10 @@ make_written {X = X} words e options made text result taken is line same whole p
 
 -- ---- how a run ended, by its first word
 
-pub by_make : (run : CommandRun) (status : Status) → Begins (codes "make") run.words → MakeEndsBy run.words (sink_of run.effects) status → EndsBy run status
+pub by_make : (run : CommandRun) (status : Status) → FirstWordIs (codes "make") run.words → MakeEndsBy run.words (sink_of run.effects) status → EndsBy run status
 by_make run status named h = record { by_make = λ n. h; by_script = λ other. absurd (other named) }
 
-pub by_script : (run : CommandRun) (status : Status) → (Begins (codes "make") run.words → ⊥) → ScriptRunEndsBy run status → EndsBy run status
+pub by_script : (run : CommandRun) (status : Status) → (FirstWordIs (codes "make") run.words → ⊥) → ScriptRunEndsBy run status → EndsBy run status
 by_script run status other h = record { by_make = λ named. absurd (other named); by_script = λ n. h }
 
 -- where a run ended well no count rose for it

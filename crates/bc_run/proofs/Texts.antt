@@ -5,15 +5,15 @@ use Rattle.bc_script.specs.Script.{Script, IsScript}
 use Rattle.bc_script.specs.ScriptText.{script_text}
 use Rattle.bc_report.specs.ReportText.{report_text}
 use Rattle.bc_report.specs.SerialRun.{IsSerialRun}
-use Rattle.bc_compose.specs.Composed.{SerialRunsAgree}
-use Rattle.bc_run.specs.Command.{IsImageFor, IsTextOf}
+use Rattle.bc_compose.specs.ComposedRun.{SerialRunsAgree}
+use Rattle.bc_run.specs.Command.{IsImageFor, IsScriptTextOf}
 use Rattle.bc_run.specs.Laws.{WrittenTextsAgree}
 
 -- no text is a proper prefix of another, so a text is of one script
 abbrev pub NoPrefix : Type 0
 NoPrefix = (a b : Script) (more : List ℕ) → IsScript a → IsScript b → script_text a ++ more ≡ script_text b → (a ≡ b) × (more ≡ [])
 
-pub one_script : NoPrefix → (text : List ℕ) (a b : Script) → IsTextOf text a → IsTextOf text b → a ≡ b
+pub one_script : NoPrefix → (text : List ℕ) (a b : Script) → IsScriptTextOf text a → IsScriptTextOf text b → a ≡ b
 one_script no_prefix text a b p q =
     (no_prefix a b [] p.says.valid q.says.valid (append-nil (script_text a) ∙ sym p.says.text_is ∙ q.says.text_is)).0
 

@@ -1,5 +1,6 @@
--- The law of runs by one caller that were written: a script's text, the words and the files decide the text that
--- `serial` writes and the image that it leaves. And what words of a command mean, for examples.
+-- The law of runs by one caller that were written: a script's text, the words and the files decide
+-- the text that `serial` writes and the image that it leaves. And what words of a command mean, for
+-- examples.
 use Rattle.std.specs.Prelude.{◌≡◌, ℕ, false, List, [], ◌∷◌, Some, codes}
 use Rattle.bc_base.specs.Folders.{Files}
 use Rattle.clap.specs.Words.{fault_of}
@@ -14,7 +15,8 @@ abbrev pub IsDone : Files → Options → List ℕ → List ℕ → List ℕ →
 IsDone files options text report left =
     IsScriptAnd (IsCarriedOut (λ written after. (written ≡ report) × (after ≡ left)) (Some files) options) (Some text)
 
--- where a text is carried out twice over the same files, section after section, one text is written and one image left
+-- where a text is carried out twice over the same files, section after section, one text is written
+-- and one image left
 abbrev pub WrittenTextsAgree : Type 0
 WrittenTextsAgree =
     (files : Files) (options : Options) (text one other one_left other_left : List ℕ)
@@ -39,7 +41,8 @@ Mean words options = IsScriptCommand words × (options_of words ≡ options)
 abbrev pub AreRefused : List (List ℕ) → ErrorKind → Type 0
 AreRefused words kind = fault_of script_command words ≡ kind ∷ []
 
--- the first number of `make` decides its line, whatever the keyslots and shards, section after section or all at once
+-- the first number of `make` decides its line, whatever the keyslots and shards, section after
+-- section or all at once
 abbrev pub MadeLinesAgree : Type 0
 MadeLinesAgree =
     (options other_options : MakeOptions) (one other : List ℕ)

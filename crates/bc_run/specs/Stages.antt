@@ -1,5 +1,6 @@
--- What the stages of `run` answer: the status that a stage ends with, what the options say as text, why a text was not
--- read as a script, and why there is no image. No public contract rests on belief in these.
+-- What the stages of `run` answer: the status that a stage ends with, what the options say as text,
+-- why a text was not read as a script, and why there is no image. No public contract rests on
+-- belief in these.
 use Rattle.std.specs.Prelude.{◌≡◌, ⊤, ℕ, List, Option, Result, Ok, Err, option_map, is_some, true, IsSomeAnd}
 use Rattle.std.specs.Borrow.{Bor}
 use Rattle.bc_base.specs.Folders.{Files, HasLonger, Lacks}
@@ -17,7 +18,7 @@ abbrev pub status_of : {X : Type 0} → Result X Status → Status
 status_of (Ok value) = statuses.Ok
 status_of (Err status) = status
 
--- the text behind a reference, where there is one
+-- the text that a reference lends, where there is one
 abbrev pub text_of : Option (Bor (List ℕ)) → Option (List ℕ)
 text_of = option_map (λ s. s.now)
 
@@ -31,8 +32,8 @@ said_by options = record {
 }
 
 -- what numbers of `make` that were read say
-abbrev pub made_by : Making → MakeOptions
-made_by making = record { n = making.n; slots = making.slots; shards = making.shards; at_once = making.at_once }
+abbrev pub options_of_making : Making → MakeOptions
+options_of_making making = record { n = making.n; slots = making.slots; shards = making.shards; at_once = making.at_once }
 
 -- a text was not read: no script has it, and this is its error; or there was no memory
 abbrev pub IsNotRead : List ℕ → Status → Type 0
@@ -40,8 +41,8 @@ IsNotRead text (statuses.BadScript error) = HasError error text
 IsNotRead text statuses.NoMemory = ⊤
 IsNotRead text other = ⊥
 
--- there is no image to begin with: getting it failed, the folder doesn't have it or has too much, its length isn't the
--- one that is asked for, or there was no memory
+-- there is no image to begin with: getting it failed, the folder doesn't have it or has too much,
+-- its length isn't the one that is asked for, or there was no memory
 abbrev pub HasNoImage : Option Files → Option (List ℕ) → Script → Status → Type 0
 HasNoImage files name script statuses.FolderFault = is_some name ≡ true
 HasNoImage files name script statuses.Missing = IsSomeAnd name (Lacks files)

@@ -10,7 +10,7 @@ use Rattle.bc_run.specs.declared.status.Status.{Status}
 use Rattle.bc_run.specs.declared.status.Status.TheVariants.{Ok, Usage, BadScript, ReadFault, WriteFault, FolderFault}
 use Rattle.bc_run.specs.declared.status.Status.TheVariants.{ImageLength, TooLong, NoMemory, Missing}
 use Rattle.bc_run.specs.declared.image.TheConstants.{MAX_IMAGE}
-use Rattle.bc_run.specs.Words.{Begins, IsMakeCommand, IsScriptCommand, NamesScript, Options, make_options_of}
+use Rattle.bc_run.specs.Words.{FirstWordIs, IsMakeCommand, IsScriptCommand, NamesScript, Options, make_options_of}
 use Rattle.bc_run.specs.Words.{options_of}
 use Rattle.bc_run.specs.Making.{IsMade}
 use Rattle.bc_run.specs.Command.{HasAnotherLength, IsBadScript, IsCarriedOut, IsScriptAnd}
@@ -28,8 +28,9 @@ code_of (TooLong limit) = 7
 code_of NoMemory = 9
 code_of Missing = 10
 
--- what a run does to its folder and its sink: before and after the run the files that the folder has where it says so,
--- its faults, the faults of the sink, and the bytes that the sink holds where it says so
+-- what a run does to its folder and its sink: before and after the run the files that the folder
+-- has where it says so, its faults, the faults of the sink, and the bytes that the sink holds where
+-- it says so
 pub record Effects : Type 0 where
   pub files_before : Option Files
   pub files_after : Option Files
@@ -40,8 +41,8 @@ pub record Effects : Type 0 where
   pub held_before : Option (List ℕ)
   pub held_after : Option (List ℕ)
 
--- a run of a command as its caller sees it: the words, the text that was left in the source where it says so, the
--- faults of the source before and after the run, and what became of folder and sink
+-- a run of a command as its caller sees it: the words, the text that was left in the source where
+-- it says so, the faults of the source before and after the run, and what became of folder and sink
 pub record CommandRun : Type 0 where
   pub words : List (List ℕ)
   pub text : Option (List ℕ)
@@ -98,8 +99,8 @@ abbrev pub EndsByScript : CommandRun → Status → Type 0
 EndsByScript run status =
     IsScriptAnd (λ script. ScriptEndsBy run.effects (options_of run.words) script status) run.text
 
--- why a run of `serial` or `threads` ended with this status, in the order of its stages; each row also says what the
--- stages before it passed
+-- why a run of `serial` or `threads` ended with this status, in the order of its stages; each row
+-- also says what the stages before it passed
 abbrev pub ScriptRunEndsBy : CommandRun → Status → Type 0
 ScriptRunEndsBy run Usage = IsScriptCommand run.words → ⊥
 ScriptRunEndsBy run NoMemory = NamesScript run.words
@@ -137,8 +138,8 @@ MakeEndsBy words e Ok =
     IsMakeCommand words × IsMade (Appends e.held_before e.held_after) (make_options_of words)
 MakeEndsBy words e other = ⊥
 
--- why a run ended with this status: the first word says whose reason it is, and where it is no command's the words are
--- refused
+-- why a run ended with this status: the first word says whose reason it is, and where it is no
+-- command's the words are refused
 pub record EndsBy (run : CommandRun) (status : Status) : Type 0 where
-  pub by_make : Begins (codes "make") run.words → MakeEndsBy run.words (sink_of run.effects) status
-  pub by_script : (Begins (codes "make") run.words → ⊥) → ScriptRunEndsBy run status
+  pub by_make : FirstWordIs (codes "make") run.words → MakeEndsBy run.words (sink_of run.effects) status
+  pub by_script : (FirstWordIs (codes "make") run.words → ⊥) → ScriptRunEndsBy run status

@@ -16,7 +16,8 @@ use std::alloc::{AllocError, Global};
 /// The most bytes of an image, those of the largest disk: 64 MiB.
 pub const MAX_IMAGE: u64 = BLOCK_BYTES as u64 * MAX_BLOCKS as u64;
 
-/// The image that a run of the script begins with: what the folder has under the name, or zeros without one.
+/// The image that a run of the script begins with: what the folder has under the name, or zeros
+/// without one.
 pub(crate) fn opening_image<F: Folder>(
     alloc: Global,
     folder: &mut F,

@@ -4,15 +4,15 @@ ghost use Rattle.std.specs.Prelude.{true, false, ◌∷◌, [], codes, Some, Non
 ghost use Rattle.clap.specs.declared.error.kind.ErrorKind.TheVariants.{ArgumentConflict, DisplayHelp, InvalidValue};
 ghost use Rattle.clap.specs.declared.error.kind.ErrorKind.TheVariants.{MissingRequiredArgument, UnknownArgument};
 ghost use Rattle.clap.specs.declared.error.kind.ErrorKind.TheVariants.{TooManyValues, ValueValidation};
-ghost use Rattle.bc_compose.specs.Composed.{SerialRunsAgree};
+ghost use Rattle.bc_compose.specs.ComposedRun.{SerialRunsAgree};
 ghost use Rattle.bc_run.specs.Laws.{AreRefused, MadeLinesAgree, MakeMeans, MakeRefuses, Mean, WrittenTextsAgree};
 ghost use Rattle.bc_run.specs.Laws.{after_serial, after_threads};
 
 use bc_script::no_proper_prefix;
 
-/// Script, image and number of shards decide the whole report of [`serial`](crate::serial) and the image that it
-/// leaves; and words of `serial`, files and the text of a script decide the report that [`run`](crate::run) writes
-/// where it answers `Ok`, and the image that it leaves.
+/// Script, image and number of shards decide the whole report of [`serial`](crate::serial) and the
+/// image that it leaves; and words of `serial`, files and the text of a script decide the report
+/// that [`run`](crate::run) writes where it answers `Ok`, and the image that it leaves.
 pub fn serial_runs_agree()
     ensures reports { SerialRunsAgree }
     ensures texts { WrittenTextsAgree }
@@ -21,13 +21,14 @@ pub fn serial_runs_agree()
     no_proper_prefix();
 }
 
-/// The first number of `make` decides its line, whatever the keyslots and shards, and whether its sections are carried
-/// out one after the other or all at once.
+/// The first number of `make` decides its line, whatever the keyslots and shards, and whether its
+/// sections are carried out one after the other or all at once.
 pub fn make_lines_agree()
     ensures { MadeLinesAgree }
 {}
 
-/// What clap makes of some words after `serial` or `threads`: with which options it takes them, or why it refuses them.
+/// What clap makes of some words after `serial` or `threads`: with which options it takes them, or
+/// why it refuses them.
 pub fn words_by_example()
     ensures none { Mean (after_serial []) (record { image = None; out = None; shards = 1; at_once = false }) }
     ensures all { Mean

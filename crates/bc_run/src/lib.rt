@@ -1,11 +1,13 @@
-//! Runs scripts: reads the words, the script and the image, carries it out, puts the image and writes the report. Or
-//! makes a script, carries that out, and writes the digest of the image that is left.
+//! Runs scripts: reads the words, the script and the image, carries it out, puts the image and
+//! writes the report. Or makes a script, carries that out, and writes the digest of the image that
+//! is left.
 //!
-//! [`run`] does all that the program does, over a source, a sink and a folder. [`serial`] carries a script out over an
-//! image, one operation after the other, and [`threads`] by a thread for each section, all at once. What all promise is
-//! a lawful run: the report and the image are those of a keyed disk that performs single data units in the orders that
-//! the report lists, and fails where the script plans it. Of [`threads`] it isn't said who held a slot that was found
-//! held, nor that every slot is idle at the end. [`serial_runs_agree`] is the law that there is one report and one
+//! [`run`] does all that the program does, over a source, a sink and a folder. [`serial`] carries a
+//! script out over an image, one operation after the other, and [`threads`] by a thread for each
+//! section, all at once. What all promise is a lawful run: the report and the image are those of a
+//! keyed disk that performs single data units in the orders that the report lists, and fails where
+//! the script plans it. Of [`threads`] it isn't said who held a slot that was found held, nor that
+//! every slot is idle at the end. [`serial_runs_agree`] is the law that there is one report and one
 //! image of [`serial`].
 //!
 //! A run over memory, whose sink then holds the report (`report_of` of the crate `uses`):

@@ -1,17 +1,18 @@
-//! The command `make`: a script is generated and carried out over zeros, and the digest of what is left is written.
+//! The command `make`: a script is generated and carried out over zeros, and the digest of what is
+//! left is written.
 
 ghost use Rattle.std.specs.Prelude.{false, ◌≡◌, ◌≢◌, ◌≤◌, ◌++◌, map, codes, IfOk, IfErr, OnOk, Err};
 ghost use Rattle.std.specs.String.{string_bytes};
 ghost use Rattle.std.specs.Io.KnownBytes.{Keeps};
 ghost use Rattle.bc_base.specs.Outside.{HasCause};
-ghost use Rattle.bc_script.specs.Generated.{generated};
+ghost use Rattle.bc_script.specs.GeneratedScript.{generated};
 ghost use Rattle.bc_report.specs.LawfulRun.{LawfulButHolders};
 ghost use Rattle.bc_report.specs.SerialRun.{IsSerialRun};
-ghost use Rattle.bc_run.specs.Words.{AreMakeOptions, Begins};
+ghost use Rattle.bc_run.specs.Words.{AreMakeOptions, FirstWordIs};
 ghost use Rattle.bc_run.specs.Command.{zeros_for};
-ghost use Rattle.bc_run.specs.Making.{IsMade, counted, line_of};
+ghost use Rattle.bc_run.specs.Making.{IsMade, with_number, make_line_of};
 ghost use Rattle.bc_run.specs.Statuses.{MakeEndsBy};
-ghost use Rattle.bc_run.specs.Stages.{made_by, status_of};
+ghost use Rattle.bc_run.specs.Stages.{options_of_making, status_of};
 
 use crate::image::zeros;
 use crate::make_words::{Making, making_of_words};
@@ -28,8 +29,8 @@ use std::alloc::{AllocError, Global};
 use std::sync::Wait;
 use std::thread::Threads;
 
-/// How many data units the script of `make` writes and reads for each of its number: sixteen threads write one and read
-/// it.
+/// How many data units the script of `make` writes and reads for each of its number: sixteen
+/// threads write one and read it.
 const UNITS: u64 = 32;
 
 /// Runs the command `make`, which the first word names, and returns how that ended.
@@ -40,7 +41,7 @@ pub(crate) fn make<R: Threads + Wait + Sync, K: Sink, G: Gate + Sync>(
     out: &mut K,
     gate: &G,
 ) -> Status
-    requires named { Begins (codes "make") (map string_bytes words.now) }
+    requires named { FirstWordIs (codes "make") (map string_bytes words.now) }
     ensures status { MakeEndsBy (map string_bytes words.now) (record {
       faults_before = K.faults out.old;
       faults_after = K.faults out.new;
@@ -57,7 +58,8 @@ pub(crate) fn make<R: Threads + Wait + Sync, K: Sink, G: Gate + Sync>(
     }
 }
 
-/// Reads the words, carries the script of their numbers out, and writes the line. An `Err` is never `Ok`'s status.
+/// Reads the words, carries the script of their numbers out, and writes the line. An `Err` is never
+/// `Ok`'s status.
 fn write_line<R: Threads + Wait + Sync, K: Sink, G: Gate + Sync>(
     rt: &R,
     alloc: Global,
@@ -65,7 +67,7 @@ fn write_line<R: Threads + Wait + Sync, K: Sink, G: Gate + Sync>(
     out: &mut K,
     gate: &G,
 ) -> Result<(), Status>
-    requires named { Begins (codes "make") (map string_bytes words.now) }
+    requires named { FirstWordIs (codes "make") (map string_bytes words.now) }
     ensures status { MakeEndsBy (map string_bytes words.now) (record {
       faults_before = K.faults out.old;
       faults_after = K.faults out.new;
@@ -89,8 +91,8 @@ fn made<R: Threads + Wait + Sync, G: Gate + Sync>(
     making: Making,
     gate: &G,
 ) -> Result<Vec<u8>, Status>
-    requires ranges { AreMakeOptions (made_by making) }
-    ensures made { IfOk result (λ line. IsMade (λ written. written ≡ line.items) (made_by making)) }
+    requires ranges { AreMakeOptions (options_of_making making) }
+    ensures made { IfOk result (λ line. IsMade (λ written. written ≡ line.items) (options_of_making making)) }
     ensures memory { IfErr result (λ e. e ≡ Status.NoMemory) }
 {
     runs_leave_the_made_image();
@@ -107,7 +109,7 @@ fn over_zeros<R: Threads + Wait + Sync, G: Gate + Sync>(
     making: Making,
     gate: &G,
 ) -> Result<Finished, Status>
-    requires ranges { AreMakeOptions (made_by making) }
+    requires ranges { AreMakeOptions (options_of_making making) }
     ensures lawful { IfOk result (λ finished.
         LawfulButHolders script.now (zeros_for script.now) making.shards finished.report finished.image.items) }
     ensures one_caller { IfOk result (λ finished. making.at_once ≡ false
@@ -127,7 +129,7 @@ fn over_zeros<R: Threads + Wait + Sync, G: Gate + Sync>(
 
 /// The script of these numbers.
 fn script_of(alloc: Global, making: Making) -> Result<Script, Status>
-    requires ranges { AreMakeOptions (made_by making) }
+    requires ranges { AreMakeOptions (options_of_making making) }
     ensures script { IfOk result (λ script. script ≡ generated making.n making.slots) }
     ensures memory { IfErr result (λ e. e ≡ Status.NoMemory) }
 {
@@ -140,7 +142,7 @@ fn script_of(alloc: Global, making: Making) -> Result<Script, Status>
 /// The line of a run that leaves this image.
 fn line_left(alloc: Global, n: u32, image: &[u8]) -> Result<Vec<u8>, Status>
     requires { n ≤ 2048 }
-    ensures line { IfOk result (λ line. line.items ≡ line_of n image.now) }
+    ensures line { IfOk result (λ line. line.items ≡ make_line_of n image.now) }
     ensures memory { IfErr result (λ e. e ≡ Status.NoMemory) }
 {
     match line_of(alloc, n, image) {
@@ -152,7 +154,7 @@ fn line_left(alloc: Global, n: u32, image: &[u8]) -> Result<Vec<u8>, Status>
 /// The bytes of that line.
 fn line_of(alloc: Global, n: u32, image: &[u8]) -> Result<Vec<u8>, AllocError>
     requires { n ≤ 2048 }
-    ensures { IfOk result (λ line. line.items ≡ line_of n image.now) }
+    ensures { IfOk result (λ line. line.items ≡ make_line_of n image.now) }
 {
     let units = UNITS * u64::from(n);
     let mut line = Vec::new(alloc);
@@ -167,9 +169,9 @@ fn line_of(alloc: Global, n: u32, image: &[u8]) -> Result<Vec<u8>, AllocError>
     Ok(line)
 }
 
-/// Appends a number behind a word.
+/// Appends a number after a word.
 fn put_counted(line: &mut Vec<u8>, word: &[u8], number: u64) -> Result<(), AllocError>
-    ensures { OnOk result (line.new.items ≡ line.old.items ++ counted word.now number) }
+    ensures { OnOk result (line.new.items ≡ line.old.items ++ with_number word.now number) }
 {
     line.extend_from_slice(word)?;
     put_number(line, number)

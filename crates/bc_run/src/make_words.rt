@@ -4,9 +4,9 @@ ghost use Rattle.std.specs.Prelude.{false, ◌≡◌, ◌≤◌, ◌⊎◌, IfSo
 ghost use Rattle.std.specs.String.{string_bytes};
 ghost use Rattle.std.specs.Option.{option_map_or};
 ghost use Rattle.clap.specs.Words.{FailsBy, HasMatchesOf, IsPlainArg, fault_of, first_value, found_of, rule_of};
-ghost use Rattle.bc_run.specs.Words.{IsNumberIn, Begins, IsMakeCommand, IsShardCount, AreMakeOptions, make_options_of};
-ghost use Rattle.bc_run.specs.Words.{is_set, required_number, make_command, number_of};
-ghost use Rattle.bc_run.specs.Stages.{made_by};
+ghost use Rattle.bc_run.specs.Words.{IsNumberIn, FirstWordIs, IsMakeCommand, IsShardCount, AreMakeOptions, make_options_of};
+ghost use Rattle.bc_run.specs.Words.{is_set, required_number, make_command, number_of_value};
+ghost use Rattle.bc_run.specs.Stages.{options_of_making};
 
 use crate::status::Status;
 use crate::words::{flag_named, number_named, status_of};
@@ -29,10 +29,10 @@ pub(crate) struct Making {
 
 /// What the words say, where they are the command `make`, which the first of them names.
 pub(crate) fn making_of_words(alloc: Global, words: &[String]) -> Result<Making, Status>
-    requires named { Begins (codes "make") (map string_bytes words.now) }
+    requires named { FirstWordIs (codes "make") (map string_bytes words.now) }
     ensures taken { OnOk result (IsMakeCommand (map string_bytes words.now)) }
-    ensures said { IfOk result (λ making. made_by making ≡ make_options_of (map string_bytes words.now)) }
-    ensures ranges { IfOk result (λ making. AreMakeOptions (made_by making)) }
+    ensures said { IfOk result (λ making. options_of_making making ≡ make_options_of (map string_bytes words.now)) }
+    ensures ranges { IfOk result (λ making. AreMakeOptions (options_of_making making)) }
     ensures statuses { IfErr result (λ e.
         ((e ≡ Status.Usage) × (IsMakeCommand (map string_bytes words.now) → ⊥)) ⊎ (e ≡ Status.NoMemory)) }
 {
@@ -78,7 +78,7 @@ fn matches_of_words<'w>(alloc: Global, words: &'w [String]) -> Result<ArgMatches
 /// How many pairs each thread has. Words that are taken have a number.
 fn pairs_of(matches: &ArgMatches<'_>) -> u32
     requires { IfSome (first_value (found_of matches.now) (codes "n")) (IsNumberIn 1 2048) }
-    ensures number { result ≡ option_map_or number_of (first_value (found_of matches.now) (codes "n")) 1 }
+    ensures number { result ≡ option_map_or number_of_value (first_value (found_of matches.now) (codes "n")) 1 }
     ensures range { (1 ≤ result) × (result ≤ 2048) }
 {
     match matches.get_str("n") {
@@ -90,7 +90,7 @@ fn pairs_of(matches: &ArgMatches<'_>) -> u32
 /// The number of keyslots.
 fn slots_of(matches: &ArgMatches<'_>) -> u16
     requires { IfSome (first_value (found_of matches.now) (codes "slots")) (IsNumberIn 1 32) }
-    ensures number { result ≡ option_map_or number_of (first_value (found_of matches.now) (codes "slots")) 1 }
+    ensures number { result ≡ option_map_or number_of_value (first_value (found_of matches.now) (codes "slots")) 1 }
     ensures range { (1 ≤ result) × (result ≤ 32) }
 {
     match matches.get_str("slots") {
@@ -102,7 +102,7 @@ fn slots_of(matches: &ArgMatches<'_>) -> u16
 /// The number of shards.
 fn shards_of(matches: &ArgMatches<'_>) -> u16
     requires { IfSome (first_value (found_of matches.now) (codes "shards")) (IsNumberIn 1 64) }
-    ensures number { result ≡ option_map_or number_of (first_value (found_of matches.now) (codes "shards")) 8 }
+    ensures number { result ≡ option_map_or number_of_value (first_value (found_of matches.now) (codes "shards")) 8 }
     ensures range { IsShardCount result }
 {
     match matches.get_str("shards") {

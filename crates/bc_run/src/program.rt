@@ -5,15 +5,15 @@ ghost use Rattle.std.specs.String.{string_bytes};
 ghost use Rattle.std.specs.Io.KnownBytes.{Consumes, Appends, IsAtEnd, Keeps};
 ghost use Rattle.bc_base.specs.Outside.{Rose, HasCause, AppendsPrefix};
 ghost use Rattle.bc_base.specs.Folders.{HasSame};
-ghost use Rattle.bc_script.specs.ScriptText.{Says};
+ghost use Rattle.bc_script.specs.ScriptText.{SaysScript};
 ghost use Rattle.bc_report.specs.ReportText.{report_text};
 ghost use Rattle.bc_report.specs.LawfulRun.{LawfulButHolders, LawfulRun};
 ghost use Rattle.bc_report.specs.RunOf.{run_of};
 ghost use Rattle.bc_report.specs.SerialRun.{IsSerial};
 ghost use Rattle.bc_script.specs.declared.limits.TheConstants.{MAX_TEXT};
-ghost use Rattle.bc_run.specs.Words.{Begins, IsCommand, IsMakeCommand, IsScriptCommand, IsShardCount, NamesCommand};
+ghost use Rattle.bc_run.specs.Words.{FirstWordIs, IsCommand, IsMakeCommand, IsScriptCommand, IsShardCount, NamesCommand};
 ghost use Rattle.bc_run.specs.Words.{options_of};
-ghost use Rattle.bc_run.specs.Command.{HasImageFor, IsOneCallers, IsTextOf, bytes_of_disk};
+ghost use Rattle.bc_run.specs.Command.{HasImageFor, IsOneCallers, IsScriptTextOf, bytes_of_disk};
 ghost use Rattle.bc_run.specs.Statuses.{ChangesOnly, EndsBy, NamesFile, ScriptEndsBy, ScriptRunEndsBy};
 ghost use Rattle.bc_run.specs.Stages.{status_of, IsNotRead, said_by};
 ghost use Rattle.bc_script.specs.Script as specs;
@@ -33,39 +33,45 @@ use std::alloc::{AllocError, Global};
 use std::sync::Wait;
 use std::thread::Threads;
 
-/// Runs the command that the words say, and returns how that ended. The words are those after the program's name.
+/// Runs the command that the words say, and returns how that ended. The words are those after the
+/// program's name.
 ///
 /// The first word is the command, `serial`, `threads` or `make`; the others are read by clap.
 ///
-/// `serial` and `threads` carry a script out. Their options are `--image NAME`, `--out NAME` and `--shards N` with N in
-/// 1 to 64. Their stages follow one another, and the first that refuses ends the run:
+/// `serial` and `threads` carry a script out. Their options are `--image NAME`, `--out NAME` and
+/// `--shards N` with N in 1 to 64. Their stages follow one another, and the first that refuses ends
+/// the run:
 ///
 /// 1. The words are read.
 /// 2. The script is read from `script` to its end, at most 16 MiB.
 /// 3. It is parsed.
-/// 4. The image is got from `folder` under the name of `--image`, at most 64 MiB, and has to have 4096 bytes for each
-///    block of the script's disk. Without `--image` it is zeros, and no name is got.
-/// 5. The script is carried out over the image with the shards of `--shards`, else one: by `serial` one section after
-///    the other (see [`serial`]), by `threads` a thread for each section, all at once (see [`threads`]).
+/// 4. The image is got from `folder` under the name of `--image`, at most 64 MiB, and has to have
+///    4096 bytes for each block of the script's disk. Without `--image` it is zeros, and no name is
+///    got.
+/// 5. The script is carried out over the image with the shards of `--shards`, else one: by `serial`
+///    one section after the other (see [`serial`]), by `threads` a thread for each section, all at
+///    once (see [`threads`]).
 /// 6. The text of the report is made (see [`print`](bc_report::print)).
 /// 7. The image that is left is put under the name of `--out`. Without it no name is put.
 /// 8. The report is written to `out`.
 ///
 /// Nothing is written before the image is put, and nothing is put before the whole report stands.
 ///
-/// `make N` with N in 1 to 2048 has the options `--slots N` with N in 1 to 32, else 1, and `--shards N` with N in 1 to
-/// 64, else 8, and the flag `--threads`. It generates a script (see [`generate`](bc_script::generate)), carries it out
-/// over zeros, as `serial` does or with the flag as `threads` does, and writes one line with the digest of the image
-/// that is left. N alone decides that line (see [`make_lines_agree`](crate::make_lines_agree)). It reads nothing from
+/// `make N` with N in 1 to 2048 has the options `--slots N` with N in 1 to 32, else 1, and
+/// `--shards N` with N in 1 to 64, else 8, and the flag `--threads`. It generates a script (see
+/// [`generate`](bc_script::generate)), carries it out over zeros, as `serial` does or with the flag
+/// as `threads` does, and writes one line with the digest of the image that is left. N alone
+/// decides that line (see [`make_lines_agree`](crate::make_lines_agree)). It reads nothing from
 /// `script`, and gets and puts nothing.
 ///
-/// The report and the image of `serial` are decided by script, image and shards. Those of `threads` are a lawful run's,
-/// and depend on how its threads took turns: an eviction may be answered `busy`, and a slot be passed over that is
-/// held, where `serial` finds it free.
+/// The report and the image of `serial` are decided by script, image and shards. Those of `threads`
+/// are a lawful run's, and depend on how its threads took turns: an eviction may be answered
+/// `busy`, and a slot be passed over that is held, where `serial` finds it free.
 ///
-/// The threads of `threads` and of `make --threads` pass `gate` before and after each operation, and where a part of a
-/// request has its hold, so that a gate can hold one of them up until another one has come somewhere; where nobody
-/// wants that it is [`FreeGate`](bc_base::FreeGate). `serial`, and `make` without the flag, pass no gate.
+/// The threads of `threads` and of `make --threads` pass `gate` before and after each operation,
+/// and where a part of a request has its hold, so that a gate can hold one of them up until another
+/// one has come somewhere; where nobody wants that it is [`FreeGate`](bc_base::FreeGate). `serial`,
+/// and `make` without the flag, pass no gate.
 ///
 /// # Errors
 ///
@@ -73,16 +79,16 @@ use std::thread::Threads;
 /// - [`Status::ReadFault`]: the source failed, and its count of faults rose.
 /// - [`Status::TooLong`]: the source had more than 16 MiB, or the image has more than 64 MiB.
 /// - [`Status::BadScript`]: no script has the text; the line and the test that it fails first.
-/// - [`Status::FolderFault`]: the folder failed, and its count of faults rose. Where the image was being put, anything
-///   may stand under the name of `--out`.
+/// - [`Status::FolderFault`]: the folder failed, and its count of faults rose. Where the image was
+///   being put, anything may stand under the name of `--out`.
 /// - [`Status::Missing`]: the folder doesn't have the image.
 /// - [`Status::ImageLength`]: the image has another length than the script's disk.
-/// - [`Status::WriteFault`]: the sink failed, and its count of faults rose. It holds a prefix of the report, and the
-///   image is put; or a prefix of the line of `make`.
+/// - [`Status::WriteFault`]: the sink failed, and its count of faults rose. It holds a prefix of
+///   the report, and the image is put; or a prefix of the line of `make`.
 ///
-/// [`Status::NoMemory`] can come at each stage but the last, and before the line is written. After it, and after each
-/// other status but `Ok`, `WriteFault` and `FolderFault`, no name has changed; after each but `Ok` and `WriteFault`,
-/// nothing has been written.
+/// [`Status::NoMemory`] can come at each stage but the last, and before the line is written. After
+/// it, and after each other status but `Ok`, `WriteFault` and `FolderFault`, no name has changed;
+/// after each but `Ok` and `WriteFault`, nothing has been written.
 pub fn run<R: Threads + Wait + Sync, S: Source, K: Sink, F: Folder, G: Gate + Sync>(
     rt: &R,
     alloc: Global,
@@ -113,7 +119,7 @@ pub fn run<R: Threads + Wait + Sync, S: Source, K: Sink, F: Folder, G: Gate + Sy
         → (result ≡ Status.Usage)
         ⊎ ((result ≡ Status.NoMemory) × NamesCommand (map string_bytes words.now)) }
     ensures end { IsScriptCommand (map string_bytes words.now) → result ≡ Status.Ok → IsAtEnd (S.left script.new) }
-    ensures make { Begins (codes "make") (map string_bytes words.now)
+    ensures make { FirstWordIs (codes "make") (map string_bytes words.now)
         → (script.new ≡ script.old) × (folder.new ≡ folder.old) }
     ensures untouched { result ≢ Status.Ok → result ≢ Status.WriteFault
         → Keeps (K.held out.old) (K.held out.new) }
@@ -129,10 +135,10 @@ pub fn run<R: Threads + Wait + Sync, S: Source, K: Sink, F: Folder, G: Gate + Sy
     ensures write_cause { HasCause (K.faults out.old) (K.faults out.new)
         (result ≡ Status.WriteFault) }
 
-    // A script within the limit is carried out over zeros or the image that the folder has, unless a count of faults
-    // rose or memory ran out.
+    // A script within the limit is carried out over zeros or the image that the folder has, unless
+    // a count of faults rose or memory ran out.
     ensures complete { IsScriptCommand (map string_bytes words.now)
-        → IfSome (S.left script.old) (λ text. (asked : specs.Script) → IsTextOf text asked
+        → IfSome (S.left script.old) (λ text. (asked : specs.Script) → IsScriptTextOf text asked
         → HasImageFor (F.files folder.old) (options_of (map string_bytes words.now)).image asked
         → (Rose (S.faults script.old) (S.faults script.new) → ⊥)
         → (Rose (F.faults folder.old) (F.faults folder.new) → ⊥)
@@ -153,7 +159,8 @@ pub fn run<R: Threads + Wait + Sync, S: Source, K: Sink, F: Folder, G: Gate + Sy
     }
 }
 
-/// The stages, in their order; the first that refuses ends the run. An `Err` is never `Ok`'s status.
+/// The stages, in their order; the first that refuses ends the run. An `Err` is never `Ok`'s
+/// status.
 fn stages<R: Threads + Wait + Sync, S: Source, K: Sink, F: Folder, G: Gate + Sync>(
     rt: &R,
     alloc: Global,
@@ -263,7 +270,7 @@ fn read_script<S: Source>(alloc: Global, source: &mut S) -> Result<Vec<u8>, Stat
 
 /// The script that the text says.
 fn script_of_text(alloc: Global, text: &[u8]) -> Result<Script, Status>
-    ensures ok { IfOk result (Says text.now) }
+    ensures ok { IfOk result (SaysScript text.now) }
     ensures bad { IfErr result (IsNotRead text.now) }
 {
     match parse(alloc, text) {

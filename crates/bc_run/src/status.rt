@@ -6,8 +6,8 @@ ghost use Rattle.bc_run.specs.Statuses.{code_of};
 use bc_script::ScriptError;
 use thiserror::Error;
 
-/// How a run ends. Each status but `Ok` says why what the command writes wasn't written, or not all of it; its text is
-/// the line that a user is shown, and that of `Ok` is empty.
+/// How a run ends. Each status but `Ok` says why what the command writes wasn't written, or not all
+/// of it; its text is the line that a user is shown, and that of `Ok` is empty.
 #[derive(Clone, Copy, Debug, PartialEq, Eq, Error)]
 pub enum Status {
     /// The report is written, or the line of `make`.

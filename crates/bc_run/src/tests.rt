@@ -3,6 +3,7 @@ ghost use Rattle.std.specs.Prelude.{◌<◌};
 use super::*;
 use bc_base::{Folder, FreeGate, MemFolder, MemSink, MemSource};
 use std::alloc::Global;
+use std::process::Abort;
 use std::sync::Wait;
 use std::test::Fail;
 use std::thread::Threads;
@@ -28,6 +29,24 @@ const TWO_SECTIONS: &[u8] = b"blkcrypt 1\ndisk 2\nfallback on\n\
 
 const TWO_REPORTED: &[u8] = b"report 1\nthread 0\ndone\ndone fill 00\nthread 1\ndone\n\
     shard 0 2\n0 0 0 soft\n0 1 0 soft\nshard 1 1\n1 0 0 soft\nend\n";
+
+/// Blocks 0 to 3 are written in turn.
+const FOUR_BLOCKS: &[u8] = b"blkcrypt 1\ndisk 4\nfallback on\n\
+    key a aes-256-xts 4096 8 \
+    000102030405060708090a0b0c0d0e0f101112131415161718191a1b1c1d1e1f\
+    202122232425262728292a2b2c2d2e2f303132333435363738393a3b3c3d3e3f\n\
+    thread\nwrite a 0 1 0 fill 10\nwrite a 8 1 1 fill 11\nwrite a 16 1 2 fill 12\n\
+    write a 24 1 3 fill 13\nend\n";
+
+/// Block b is on shard b mod 3.
+const FOUR_OF_3: &[u8] = b"report 1\nthread 0\ndone\ndone\ndone\ndone\n\
+    shard 0 2\n0 0 0 soft\n0 3 0 soft\nshard 1 1\n0 1 0 soft\nshard 2 1\n0 2 0 soft\nend\n";
+
+const FOUR_OF_64: &[u8] = b"report 1\nthread 0\ndone\ndone\ndone\ndone\n\
+    shard 0 1\n0 0 0 soft\nshard 1 1\n0 1 0 soft\nshard 2 1\n0 2 0 soft\nshard 3 1\n0 3 0 soft\n";
+
+/// The digits of a key of CBC-ESSIV after those of its first byte.
+const ESSIV_REST: &str = "8182838485868788898a8b8c8d8e8f";
 
 const MAKE_1: &[u8] = b"make 1: bios 32 units 32 done 32 faults 0 \
     image 0dc92f9b0c04df3cfcff33347b68bd5bf34b2206e06e1c5a2126f3d4c92d81d5\n";
@@ -100,19 +119,70 @@ fn an_empty_script_has_a_report_without_a_thread(rt: HostRuntime) -> Result<(), 
     Ok(())
 }
 
-#[test]
-fn where_turns_decide_nothing_both_commands_have_one_report(rt: HostRuntime) -> Result<(), Fail> {
+/// Both commands write this report of a script.
+fn both_report<R: Threads + Wait + Sync + AllocGlobal + Abort>(
+    rt: &R,
+    option: &str,
+    text: &[u8],
+    report: &[u8],
+) -> Result<(), Fail> {
     for command in ["serial", "threads"] {
-        let mut out = sink(rt.alloc())?;
-        let status = status_of(&rt, &[command], FIRST_SCRIPT, 4096, &mut out)?;
+        let mut out = MemSink::new(rt.alloc(), 16384, 4096, Vec::new(rt.alloc()))?;
+        let status = status_of(rt, &[command, option], text, 4096, &mut out)?;
         assert_eq!(rt; status, Status::Ok);
-        assert_eq!(rt; out.held(), FIRST_REPORT);
-        let mut out = sink(rt.alloc())?;
-        let status = status_of(&rt, &[command, "--shards=2"], TWO_SECTIONS, 4096, &mut out)?;
-        assert_eq!(rt; status, Status::Ok);
-        assert_eq!(rt; out.held(), TWO_REPORTED);
+        assert_eq!(rt; out.held(), report);
     }
     Ok(())
+}
+
+/// What both commands report of [`FOUR_BLOCKS`] over 64 shards: block b is on shard b, and 60 shards have no block.
+fn four_of_64_shards(alloc: Global) -> Result<Vec<u8>, Fail> {
+    let mut report = FOUR_OF_64.to_vec(alloc)?;
+    for shard in 4..64 {
+        let line = format!(in alloc; "shard {shard} 0\n")?;
+        report.extend_from_slice(line.as_bytes())?;
+    }
+    report.extend_from_slice(b"end\n")?;
+    Ok(report)
+}
+
+/// A script of 20 keys, in which each of 150 writes is read back at once, and its report.
+fn writes_and_their_reads(alloc: Global) -> Result<(Vec<u8>, Vec<u8>), Fail> {
+    let mut text = b"blkcrypt 1\ndisk 1\nfallback on\n".to_vec(alloc)?;
+    for key in 10..30 {
+        let line = format!(in alloc; "key k{key} aes-128-cbc-essiv 512 8 {key}{ESSIV_REST}\n")?;
+        text.extend_from_slice(line.as_bytes())?;
+    }
+    text.extend_from_slice(b"thread\n")?;
+    let mut report = b"report 1\nthread 0\n".to_vec(alloc)?;
+    // Bytes and data unit numbers are written in decimal digits, which are hexadecimal digits too.
+    for pair in 0..150 {
+        let byte = 10 + pair % 30;
+        let bio = format!(in alloc; "k{} {} 1 {pair}", 10 + pair % 20, pair % 8)?;
+        let ops = format!(in alloc; "write {bio} fill {byte}\nread {bio}\n")?;
+        text.extend_from_slice(ops.as_bytes())?;
+        let answers = format!(in alloc; "done\ndone fill {byte}\n")?;
+        report.extend_from_slice(answers.as_bytes())?;
+    }
+    text.extend_from_slice(b"end\n")?;
+    report.extend_from_slice(b"shard 0 300\n")?;
+    for op in 0..300 {
+        let entry = format!(in alloc; "0 {op} 0 soft\n")?;
+        report.extend_from_slice(entry.as_bytes())?;
+    }
+    report.extend_from_slice(b"end\n")?;
+    Ok((text, report))
+}
+
+#[test]
+fn where_turns_decide_nothing_both_commands_have_one_report(rt: HostRuntime) -> Result<(), Fail> {
+    both_report(&rt, "--shards=1", FIRST_SCRIPT, FIRST_REPORT)?;
+    both_report(&rt, "--shards=2", TWO_SECTIONS, TWO_REPORTED)?;
+    both_report(&rt, "--shards=3", FOUR_BLOCKS, FOUR_OF_3)?;
+    let report = four_of_64_shards(rt.alloc())?;
+    both_report(&rt, "--shards=64", FOUR_BLOCKS, report.as_slice())?;
+    let (text, report) = writes_and_their_reads(rt.alloc())?;
+    both_report(&rt, "--shards=1", text.as_slice(), report.as_slice())
 }
 
 #[test]

@@ -5,8 +5,8 @@ ghost use Rattle.std.specs.String.{string_bytes};
 ghost use Rattle.std.specs.Option.{option_map_or};
 ghost use Rattle.clap.specs.Words.{FailsBy, kind_of, HasMatchesOf, IsPlainArg, fault_of, first_value, found_of};
 ghost use Rattle.clap.specs.Words.{rule_of};
-ghost use Rattle.bc_run.specs.Words.{Begins, IsNumberIn, IsScriptCommand, IsShardCount, NamesScript, names_threads};
-ghost use Rattle.bc_run.specs.Words.{flag_rule, number_of, number_rule, option_rule, options_of, script_command};
+ghost use Rattle.bc_run.specs.Words.{FirstWordIs, IsNumberIn, IsScriptCommand, IsShardCount, NamesScript, names_threads};
+ghost use Rattle.bc_run.specs.Words.{flag_rule, number_of_value, number_rule, option_rule, options_of, script_command};
 ghost use Rattle.bc_run.specs.Stages.{said_by};
 
 use crate::status::Status;
@@ -70,8 +70,8 @@ fn at_once(words: &[String]) -> Result<bool, Status>
 
 /// Whether the first word is this one.
 pub(crate) fn begins(words: &[String], name: &str) -> bool
-    ensures yes { result ≡ true → Begins name.now (map string_bytes words.now) }
-    ensures no { result ≡ false → Begins name.now (map string_bytes words.now) → ⊥ }
+    ensures yes { result ≡ true → FirstWordIs name.now (map string_bytes words.now) }
+    ensures no { result ≡ false → FirstWordIs name.now (map string_bytes words.now) → ⊥ }
 {
     match words.first() {
         Some(word) => word.as_str() == name,
@@ -106,7 +106,8 @@ pub(crate) fn number_named<'a>(alloc: Global, name: &'a str, least: u64, most: u
     option_named(alloc, name).value_parser(ValueParser::unsigned(least, most))
 }
 
-/// What clap finds in the words, read as one simple command, whichever of the two the first word names.
+/// What clap finds in the words, read as one simple command, whichever of the two the first word
+/// names.
 fn matches_of_words<'w>(alloc: Global, words: &'w [String]) -> Result<ArgMatches<'w>, Error>
     ensures found { IfOk result (HasMatchesOf script_command (map string_bytes words.now)) }
     ensures faults { FailsBy (fault_of script_command (map string_bytes words.now)) result }
@@ -123,7 +124,7 @@ fn matches_of_words<'w>(alloc: Global, words: &'w [String]) -> Result<ArgMatches
 /// The number of shards.
 fn shards_of(matches: &ArgMatches<'_>) -> u16
     requires { IfSome (first_value (found_of matches.now) (codes "shards")) (IsNumberIn 1 64) }
-    ensures number { result ≡ option_map_or number_of (first_value (found_of matches.now) (codes "shards")) 1 }
+    ensures number { result ≡ option_map_or number_of_value (first_value (found_of matches.now) (codes "shards")) 1 }
     ensures range { IsShardCount result }
 {
     match matches.get_str("shards") {

@@ -23,14 +23,14 @@ use Rattle.bc_script.specs.declared.op.Op.TheVariants as ops
 use Rattle.bc_script.specs.declared.sort.Sort.{Sort}
 use Rattle.bc_script.specs.declared.sort.Sort.TheVariants as sorts
 use Rattle.bc_script.specs.Script.{IsDevice, IsNamedKey, IsFault, IsContext, IsOp, IsSection, bare_keys, is_before, open_after, unit_count, unit_count_of_section}
-use Rattle.bc_script.specs.ScriptText.{name_of, dash, key_field}
+use Rattle.bc_script.specs.ScriptText.{key_name_of, dash, key_field}
 use Rattle.bc_script.specs.Forms.{Form, DeviceForm, KeyForm, FaultForm, Version, Disk, Fallback, Device, Key, Fault, Thread, Plug, Unplug, End, sort_of}
-use Rattle.bc_script.specs.ScriptErrors.{is_end, last_sort, is_device, device_blocks_in, device_blocks_above, disk_blocks_in, are_whole, is_key, is_fault, is_thread, is_operation, units_in, number_in, key_named, is_declared, sectors_under, is_open, fault_in, ascends}
+use Rattle.bc_script.specs.ScriptErrors.{is_end, last_sort, is_device, device_blocks_in, device_blocks_above, disk_blocks_in, are_whole, declares_key, plans_fault, is_thread, is_operation, form_units, number_in, key_named, is_declared, sectors_under, is_open, fault_in, ascends}
 use Rattle.bc_script.specs.Progress.{Progress, IsProgress, IsAt, blocks_of, is_whole, with_section, is_in_section, lines_read, forms_read, sections_read}
 use Rattle.bc_script.proofs.Onto.{onto, onto-append, length-onto, length-HaveForms, sum_by-onto, sum_by-agree, sum_by-map, sum_by-flat_map, sum_by-zeros, sum_by-ones, last_sort-onto, key_named-onto, ascends-onto, AllByRecursion-append}
 use Rattle.bc_script.proofs.Fields.{number_in-decimal}
 use Rattle.bc_script.proofs.KeyNames.{named_too}
-use Rattle.bc_script.specs.Statements.{is_after}
+use Rattle.bc_script.specs.Statements.{follows_faults}
 use Rattle.bc_script.specs.DeviceFields.{device_form}
 use Rattle.bc_script.proofs.Faults.{after_more, fault_in-fault_fields}
 use Rattle.bc_script.proofs.LineForms.{bytes_eq-same, bytes_eq-other, name_at, name_is_no_dash}
@@ -107,7 +107,7 @@ one b = cond b 1 0
 
 -- an operation's form is no key's, plans no fault and begins no section
 pub op_is : (keys : List NamedKey) (op : Op)
-    → (is_key (op_form keys op) ≡ false) × (is_thread (op_form keys op) ≡ false) × (is_operation (op_form keys op) ≡ true) × (is_fault (op_form keys op) ≡ false) × (is_device (op_form keys op) ≡ false)
+    → (declares_key (op_form keys op) ≡ false) × (is_thread (op_form keys op) ≡ false) × (is_operation (op_form keys op) ≡ true) × (plans_fault (op_form keys op) ≡ false) × (is_device (op_form keys op) ≡ false)
     × (device_blocks_in (op_form keys op) ≡ 0) × (disk_blocks_in (op_form keys op) ≡ 0)
 op_is keys (ops.Write context sector units text) = (refl, refl, refl, refl, refl, refl, refl)
 op_is keys (ops.Read context sector units) = (refl, refl, refl, refl, refl, refl, refl)
@@ -125,24 +125,24 @@ section_sum f g devices keys section each valid =
     sum_by-map f (op_form keys) section ∙ sum_by-agree (IsOp devices (bare_keys keys)) (λ op. f (op_form keys op)) g each section valid in
     omega arith
 
-pub keys-read : (p : Progress) → IsProgress p → count_by is_key (forms_read p) ≡ length p.keys
+pub keys-read : (p : Progress) → IsProgress p → count_by declares_key (forms_read p) ≡ length p.keys
 keys-read p is =
     let no_device = sum_by-zeros p.targets in
     let ones = sum_by-ones p.keys in
     let zeros = sum_by-zeros (sections_read p) in
     let none = sum_by-zeros p.faults in
-    sum_read (λ form. one (is_key form)) 0 (λ device. 0) 1 0 (λ section. 0) p is (sum_first (λ form. one (is_key form)) refl (λ blocks. refl) (λ on. refl) p.last p.blocks p.fallback) refl (λ t v. refl) (λ key. refl) (λ fault. refl)
-    (λ section valid. section_sum (λ form. one (is_key form)) (λ op. 0) (length p.targets) p.keys section (λ op v. ap one (op_is p.keys op).0) valid ∙ ap (λ n. 0 + n) (sum_by-zeros section))
+    sum_read (λ form. one (declares_key form)) 0 (λ device. 0) 1 0 (λ section. 0) p is (sum_first (λ form. one (declares_key form)) refl (λ blocks. refl) (λ on. refl) p.last p.blocks p.fallback) refl (λ t v. refl) (λ key. refl) (λ fault. refl)
+    (λ section valid. section_sum (λ form. one (declares_key form)) (λ op. 0) (length p.targets) p.keys section (λ op v. ap one (op_is p.keys op).0) valid ∙ ap (λ n. 0 + n) (sum_by-zeros section))
     ∙ omega arith
 
-pub faults-read : (p : Progress) → IsProgress p → count_by is_fault (forms_read p) ≡ length p.faults
+pub faults-read : (p : Progress) → IsProgress p → count_by plans_fault (forms_read p) ≡ length p.faults
 faults-read p is =
     let no_device = sum_by-zeros p.targets in
     let zeros = sum_by-zeros p.keys in
     let ones = sum_by-ones p.faults in
     let none = sum_by-zeros (sections_read p) in
-    sum_read (λ form. one (is_fault form)) 0 (λ device. 0) 0 1 (λ section. 0) p is (sum_first (λ form. one (is_fault form)) refl (λ blocks. refl) (λ on. refl) p.last p.blocks p.fallback) refl (λ t v. refl) (λ key. refl) (λ fault. refl)
-    (λ section valid. section_sum (λ form. one (is_fault form)) (λ op. 0) (length p.targets) p.keys section (λ op v. ap one (op_is p.keys op).3) valid ∙ ap (λ n. 0 + n) (sum_by-zeros section))
+    sum_read (λ form. one (plans_fault form)) 0 (λ device. 0) 0 1 (λ section. 0) p is (sum_first (λ form. one (plans_fault form)) refl (λ blocks. refl) (λ on. refl) p.last p.blocks p.fallback) refl (λ t v. refl) (λ key. refl) (λ fault. refl)
+    (λ section valid. section_sum (λ form. one (plans_fault form)) (λ op. 0) (length p.targets) p.keys section (λ op v. ap one (op_is p.keys op).3) valid ∙ ap (λ n. 0 + n) (sum_by-zeros section))
     ∙ omega arith
 
 pub threads-read : (p : Progress) → IsProgress p → count_by is_thread (forms_read p) ≡ length (sections_read p)
@@ -165,7 +165,7 @@ operations-read p is =
     ∙ omega arith
 
 -- an operation's line says how many data units its bio has
-pub units_in-op_form : (devices : ℕ) (keys : List NamedKey) (op : Op) → IsOp devices (bare_keys keys) op → units_in (op_form keys op) ≡ unit_count op
+pub units_in-op_form : (devices : ℕ) (keys : List NamedKey) (op : Op) → IsOp devices (bare_keys keys) op → form_units (op_form keys op) ≡ unit_count op
 units_in-op_form devices keys (ops.Write context sector units text) valid = let few = valid.0.few_units in number_in-decimal units (omega arith)
 units_in-op_form devices keys (ops.Read context sector units) valid = let few = valid.few_units in number_in-decimal units (omega arith)
 units_in-op_form devices keys (ops.Evict key) valid = refl
@@ -173,13 +173,13 @@ units_in-op_form devices keys (ops.Reset device) valid = refl
 units_in-op_form devices keys ops.Plug valid = refl
 units_in-op_form devices keys ops.Unplug valid = refl
 
-pub units-read : (p : Progress) → IsProgress p → sum_by units_in (forms_read p) ≡ sum_by unit_count_of_section (sections_read p)
+pub units-read : (p : Progress) → IsProgress p → sum_by form_units (forms_read p) ≡ sum_by unit_count_of_section (sections_read p)
 units-read p is =
     let no_device = sum_by-zeros p.targets in
     let zeros = sum_by-zeros p.keys in
     let none = sum_by-zeros p.faults in
-    sum_read units_in 0 (λ device. 0) 0 0 unit_count_of_section p is (sum_first units_in refl (λ blocks. refl) (λ on. refl) p.last p.blocks p.fallback) refl (λ t v. refl) (λ key. refl) (λ fault. refl)
-    (λ section valid. section_sum units_in unit_count (length p.targets) p.keys section (units_in-op_form (length p.targets) p.keys) valid ∙ omega arith)
+    sum_read form_units 0 (λ device. 0) 0 0 unit_count_of_section p is (sum_first form_units refl (λ blocks. refl) (λ on. refl) p.last p.blocks p.fallback) refl (λ t v. refl) (λ key. refl) (λ fault. refl)
+    (λ section valid. section_sum form_units unit_count (length p.targets) p.keys section (units_in-op_form (length p.targets) p.keys) valid ∙ omega arith)
     ∙ omega arith
 
 pub devices-read : (p : Progress) → IsProgress p → count_by is_device (forms_read p) ≡ length p.targets
@@ -498,7 +498,7 @@ no_end is_kind end (Some sorts.Thread) = tt
 no_end is_kind end (Some sorts.Operation) = tt
 no_end is_kind end (Some sorts.End) = (end, tt)
 
-no_fault_is_key : (faults : List (ℕ × ℕ)) → None_is is_key (fault_forms faults)
+no_fault_is_key : (faults : List (ℕ × ℕ)) → None_is declares_key (fault_forms faults)
 no_fault_is_key [] = tt
 no_fault_is_key (f ∷ fs) = (refl, no_fault_is_key fs)
 
@@ -521,7 +521,7 @@ no_first name (Some sorts.End) blocks fallback = refl
 no_head : (name : List ℕ) (p : Progress) → key_named name (onto (head_forms p) []) ≡ None
 no_head name p =
     ap (key_named name) (onto-append (first_forms p.last p.blocks p.fallback) (device_forms p.targets) [])
-    ∙ key_named-onto name (device_forms p.targets) (onto (first_forms p.last p.blocks p.fallback) []) (no_device_is is_key (λ device. refl) p.targets)
+    ∙ key_named-onto name (device_forms p.targets) (onto (first_forms p.last p.blocks p.fallback) []) (no_device_is declares_key (λ device. refl) p.targets)
     ∙ no_first name p.last p.blocks p.fallback
 
 -- a name is looked for among the keys alone
@@ -531,8 +531,8 @@ among_keys name p is =
     let keys = onto (key_forms p.keys) heads in
     let faults = onto (fault_forms p.faults) keys in
     ap (key_named name) (parts p is)
-    ∙ key_named-onto name (end_forms p.last) (onto (flat_map (section_forms p.keys) (sections_read p)) faults) (no_end is_key refl p.last)
-    ∙ key_named-onto name (flat_map (section_forms p.keys) (sections_read p)) faults (no_sections is_key p.keys refl (λ op. (op_is p.keys op).0) (sections_read p))
+    ∙ key_named-onto name (end_forms p.last) (onto (flat_map (section_forms p.keys) (sections_read p)) faults) (no_end declares_key refl p.last)
+    ∙ key_named-onto name (flat_map (section_forms p.keys) (sections_read p)) faults (no_sections declares_key p.keys refl (λ op. (op_is p.keys op).0) (sections_read p))
     ∙ key_named-onto name (fault_forms p.faults) keys (no_fault_is_key p.faults)
 
 -- one that no key has isn't found
@@ -542,7 +542,7 @@ others name (k ∷ ks) above differ =
     let no : bytes_eq k.name name ≡ false = bytes_eq-other k.name name differ.0 in
     others name ks (Key (key_fields k) ∷ above) differ.1 ∙ rw no refl
 
--- the keys behind a key have other names
+-- the keys after a key have other names
 later_names : (k : NamedKey) (ks : List NamedKey) → AllPairs (λ (first second : NamedKey). first.name ≢ second.name) (k ∷ ks) → AllByRecursion (λ (named : NamedKey). named.name ≢ k.name) ks
 later_names k ks pairs = recursion_from_All (λ (named : NamedKey). named.name ≢ k.name) ks (λ i d lt e. pairs 0 (suc i) d (omega arith) (omega arith) (sym e))
 
@@ -561,7 +561,7 @@ found (k ∷ ks) above zero named pairs at =
 found (k ∷ ks) above (suc i) named pairs at = found ks (Key (key_fields k) ∷ above) i named (pairs_tail k ks pairs) at
 
 -- the key with a number is found by its name
-pub key_named-read : (p : Progress) (number : KeyNo) (named : NamedKey) → IsProgress p → slice_get p.keys number.0 ≡ Some named → key_named (name_of p.keys number) (forms_read p) ≡ Some (key_fields named)
+pub key_named-read : (p : Progress) (number : KeyNo) (named : NamedKey) → IsProgress p → slice_get p.keys number.0 ≡ Some named → key_named (key_name_of p.keys number) (forms_read p) ≡ Some (key_fields named)
 key_named-read p number named is at =
     ap (λ (name : List ℕ). key_named name (forms_read p)) (name_at p.keys number named at)
     ∙ among_keys named.name p is
@@ -573,7 +573,7 @@ at_place [] i within = absurd (omega arith)
 at_place (k ∷ ks) zero within = (k, refl)
 at_place (k ∷ ks) (suc i) within = at_place ks i (omega arith)
 
-pub is_declared-read : (p : Progress) (number : KeyNo) → IsProgress p → number.0 < length p.keys → is_declared (name_of p.keys number) (forms_read p) ≡ true
+pub is_declared-read : (p : Progress) (number : KeyNo) → IsProgress p → number.0 < length p.keys → is_declared (key_name_of p.keys number) (forms_read p) ≡ true
 is_declared-read p number is within =
     let key = at_place p.keys number.0 within in
     ap (λ (o : Option KeyForm). is_some o) (key_named-read p number key.0 is key.1)
@@ -611,7 +611,7 @@ sectors_under-read p (Some context) is valid =
 
 -- ---- planned faults
 
-no_key_is_fault : (keys : List NamedKey) → None_is is_fault (key_forms keys)
+no_key_is_fault : (keys : List NamedKey) → None_is plans_fault (key_forms keys)
 no_key_is_fault [] = tt
 no_key_is_fault (k ∷ ks) = (refl, no_key_is_fault ks)
 
@@ -630,27 +630,27 @@ ascends_first fault (Some sorts.End) blocks fallback = refl
 ascends_head : (fault : FaultForm) (p : Progress) → ascends (onto (head_forms p) []) fault ≡ true
 ascends_head fault p =
     ap (λ (forms : List Form). ascends forms fault) (onto-append (first_forms p.last p.blocks p.fallback) (device_forms p.targets) [])
-    ∙ ascends-onto fault (device_forms p.targets) (onto (first_forms p.last p.blocks p.fallback) []) (no_device_is is_fault (λ device. refl) p.targets)
+    ∙ ascends-onto fault (device_forms p.targets) (onto (first_forms p.last p.blocks p.fallback) []) (no_device_is plans_fault (λ device. refl) p.targets)
     ∙ ascends_first fault p.last p.blocks p.fallback
 
 -- the nearest fault is the last one
-ascends_faults : (fault : FaultForm) (faults : List (ℕ × ℕ)) (above : List Form) → AllByRecursion IsFault faults → ascends above fault ≡ true → ascends (onto (fault_forms faults) above) fault ≡ is_after faults (fault_in fault)
+ascends_faults : (fault : FaultForm) (faults : List (ℕ × ℕ)) (above : List Form) → AllByRecursion IsFault faults → ascends above fault ≡ true → ascends (onto (fault_forms faults) above) fault ≡ follows_faults faults (fault_in fault)
 ascends_faults fault [] above each e = e
 ascends_faults fault (f ∷ fs) above each e = behind f fs above each
   where
-    behind : (f : ℕ × ℕ) (fs : List (ℕ × ℕ)) (above : List Form) → AllByRecursion IsFault (f ∷ fs) → ascends (onto (fault_forms fs) (Fault (fault_fields f) ∷ above)) fault ≡ is_after (f ∷ fs) (fault_in fault)
+    behind : (f : ℕ × ℕ) (fs : List (ℕ × ℕ)) (above : List Form) → AllByRecursion IsFault (f ∷ fs) → ascends (onto (fault_forms fs) (Fault (fault_fields f) ∷ above)) fault ≡ follows_faults (f ∷ fs) (fault_in fault)
     behind f [] above each = ap (λ (g : ℕ × ℕ). is_before g (fault_in fault)) (fault_in-fault_fields f each.0)
     behind f (g ∷ fs) above each = behind g fs (Fault (fault_fields f) ∷ above) each.1 ∙ sym (after_more f g fs (fault_in fault))
 
 -- whether a fault comes after the last one that has been read
-pub ascends-read : (p : Progress) (fault : FaultForm) → IsProgress p → ascends (forms_read p) fault ≡ is_after p.faults (fault_in fault)
+pub ascends-read : (p : Progress) (fault : FaultForm) → IsProgress p → ascends (forms_read p) fault ≡ follows_faults p.faults (fault_in fault)
 ascends-read p fault is =
     let heads = onto (head_forms p) [] in
     let keys = onto (key_forms p.keys) heads in
     let faults = onto (fault_forms p.faults) keys in
     ap (λ (forms : List Form). ascends forms fault) (parts p is)
-    ∙ ascends-onto fault (end_forms p.last) (onto (flat_map (section_forms p.keys) (sections_read p)) faults) (no_end is_fault refl p.last)
-    ∙ ascends-onto fault (flat_map (section_forms p.keys) (sections_read p)) faults (no_sections is_fault p.keys refl (λ op. (op_is p.keys op).3) (sections_read p))
+    ∙ ascends-onto fault (end_forms p.last) (onto (flat_map (section_forms p.keys) (sections_read p)) faults) (no_end plans_fault refl p.last)
+    ∙ ascends-onto fault (flat_map (section_forms p.keys) (sections_read p)) faults (no_sections plans_fault p.keys refl (λ op. (op_is p.keys op).3) (sections_read p))
     ∙ ascends_faults fault p.faults keys is.faults.each (ascends-onto fault (key_forms p.keys) heads (no_key_is_fault p.keys) ∙ ascends_head fault p)
 
 -- ---- the last line

@@ -8,7 +8,7 @@ use Rattle.bc_stack.specs.declared.target.Target.{Target}
 use Rattle.bc_stack.specs.Devices.{end_of_target}
 use Rattle.bc_stack.specs.Targets.{HasSlots, LieBetween, CoverAll}
 use Rattle.bc_script.specs.Script.{IsDevice, AreDevices, max_devices}
-use Rattle.bc_script.specs.Progress.{blocks_of, FollowOneAnother}
+use Rattle.bc_script.specs.Progress.{blocks_of, DevicesFollow}
 use Rattle.bc_script.proofs.Onto.{AllByRecursion-append}
 use Rattle.bc_script.proofs.Faults.{at_middle}
 
@@ -51,7 +51,7 @@ last_end first end d (e ∷ es) last lie at = last_end (end_of_target d) end e e
 -- ---- devices that have been read
 
 -- the end of the last device
-pub end_is : (devices items : List Target) (last : Target) → items ≡ devices → FollowOneAnother devices → Some last ≡ slice_get items (length items - 1) → last.first + last.blocks ≡ blocks_of devices
+pub end_is : (devices items : List Target) (last : Target) → items ≡ devices → DevicesFollow devices → Some last ≡ slice_get items (length items - 1) → last.first + last.blocks ≡ blocks_of devices
 end_is devices items last same follow at = of_last devices follow.lie (sym (at ∙ ap (λ (ts : List Target). slice_get ts (length ts - 1)) same))
   where
     of_last : (devices : List Target) → LieBetween 0 (blocks_of devices) devices → slice_get devices (length devices - 1) ≡ Some last → last.first + last.blocks ≡ blocks_of devices
@@ -60,11 +60,11 @@ end_is devices items last same follow at = of_last devices follow.lie (sym (at �
         let place : length ds ≡ length (d ∷ ds) - 1 = omega arith in
         sym (last_end 0 (blocks_of (d ∷ ds)) d ds last lie (ap (λ (n : ℕ). slice_get (d ∷ ds) n) place ∙ at))
 
-pub no_devices : FollowOneAnother []
+pub no_devices : DevicesFollow []
 no_devices = record { count = omega arith; lie = refl; each = tt }
 
 -- one more device
-pub follow_push : (devices : List Target) (device : Target) → FollowOneAnother devices → IsDevice device → device.first ≡ blocks_of devices → length devices < max_devices → FollowOneAnother (devices ++ device ∷ [])
+pub follow_push : (devices : List Target) (device : Target) → DevicesFollow devices → IsDevice device → device.first ≡ blocks_of devices → length devices < max_devices → DevicesFollow (devices ++ device ∷ [])
 follow_push devices device follow valid at room =
     let sum : blocks_of (devices ++ device ∷ []) ≡ blocks_of devices + device.blocks = sum_by-append (λ (t : Target). t.blocks) devices (device ∷ []) ∙ omega arith in
     record {
@@ -77,7 +77,7 @@ some : (n : ℕ) → nat_eq (suc n) 0 ≡ false
 some n = false_from_ne_true (nat_eq (suc n) 0) (λ e. let none = eqb-true (suc n) 0 e in omega arith)
 
 -- the devices cover the disk where their blocks are the disk's
-pub covers : (devices : List Target) (blocks : ℕ) → FollowOneAnother devices → (nat_eq (length devices) 0 || nat_eq (blocks_of devices) blocks) ≡ true → CoverAll blocks devices
+pub covers : (devices : List Target) (blocks : ℕ) → DevicesFollow devices → (nat_eq (length devices) 0 || nat_eq (blocks_of devices) blocks) ≡ true → CoverAll blocks devices
 covers [] blocks follow test = tt
 covers (d ∷ ds) blocks follow test =
     let same : nat_eq (blocks_of (d ∷ ds)) blocks ≡ true = sym (ap (λ (b : Bool). b || nat_eq (blocks_of (d ∷ ds)) blocks) (some (length ds))) ∙ test in
@@ -90,7 +90,7 @@ is_covered (d ∷ ds) blocks cover =
     ap (λ (b : Bool). b || nat_eq (blocks_of (d ∷ ds)) blocks) (some (length ds)) ∙ eq-eqb (blocks_of (d ∷ ds)) blocks (omega arith)
 
 -- devices that follow one another and cover the disk are a script's
-pub are_devices : (devices : List Target) (blocks : ℕ) → FollowOneAnother devices → CoverAll blocks devices → AreDevices devices blocks
+pub are_devices : (devices : List Target) (blocks : ℕ) → DevicesFollow devices → CoverAll blocks devices → AreDevices devices blocks
 are_devices devices blocks follow cover = record {
   stack = record { few = follow.count; cover = cover; slots = All-from_recursion HasSlots devices (slots devices follow.each) };
   each = follow.each;

@@ -10,7 +10,7 @@ use Rattle.std.proofs.lemmas.List.Quantifiers.{all_pairs_push}
 use Rattle.bc_script.specs.Script.{IsFault, AreFaults, is_before, max_faults}
 use Rattle.bc_script.specs.Forms.{FaultForm}
 use Rattle.bc_script.specs.ScriptErrors.{fault_in}
-use Rattle.bc_script.specs.Statements.{is_after}
+use Rattle.bc_script.specs.Statements.{follows_faults}
 use Rattle.bc_script.proofs.Onto.{AllByRecursion-append}
 use Rattle.bc_script.proofs.Fields.{number_in-decimal}
 
@@ -43,13 +43,13 @@ before_both : (s t u i j k : ℕ) → IsBefore (s, i) (t, j) → IsBefore (t, j)
 before_both s t u i j k p q = grind (arith, nat_tests)
 
 -- the last of more than one
-pub after_more : (x y : ℕ × ℕ) (ys : List (ℕ × ℕ)) (fault : ℕ × ℕ) → is_after (x ∷ y ∷ ys) fault ≡ is_after (y ∷ ys) fault
+pub after_more : (x y : ℕ × ℕ) (ys : List (ℕ × ℕ)) (fault : ℕ × ℕ) → follows_faults (x ∷ y ∷ ys) fault ≡ follows_faults (y ∷ ys) fault
 after_more x y ys fault =
     let last : length (x ∷ y ∷ ys) - 1 ≡ suc (length (y ∷ ys) - 1) = omega arith in
     ap (λ (n : ℕ). option_map_or (λ (last : ℕ × ℕ). is_before last fault) (slice_get (x ∷ y ∷ ys) n) true) last
 
 -- one that comes after the last comes after all
-all_before : (faults : List (ℕ × ℕ)) (fault : ℕ × ℕ) → AllPairs IsBefore faults → is_after faults fault ≡ true → AllByRecursion (λ (before : ℕ × ℕ). IsBefore before fault) faults
+all_before : (faults : List (ℕ × ℕ)) (fault : ℕ × ℕ) → AllPairs IsBefore faults → follows_faults faults fault ≡ true → AllByRecursion (λ (before : ℕ × ℕ). IsBefore before fault) faults
 all_before [] fault pairs after = tt
 all_before (x ∷ []) fault pairs after = (after, tt)
 all_before (x ∷ y ∷ ys) fault pairs after =
@@ -57,7 +57,7 @@ all_before (x ∷ y ∷ ys) fault pairs after =
     (before_both x.0 y.0 fault.0 x.1 y.1 fault.1 (pairs 0 1 x (omega arith) (omega arith)) rest.0, rest)
 
 -- one that comes after all comes after the last
-after_all : (faults : List (ℕ × ℕ)) (fault : ℕ × ℕ) → AllByRecursion (λ (before : ℕ × ℕ). IsBefore before fault) faults → is_after faults fault ≡ true
+after_all : (faults : List (ℕ × ℕ)) (fault : ℕ × ℕ) → AllByRecursion (λ (before : ℕ × ℕ). IsBefore before fault) faults → follows_faults faults fault ≡ true
 after_all [] fault each = refl
 after_all (x ∷ []) fault each = each.0
 after_all (x ∷ y ∷ ys) fault each = after_more x y ys fault ∙ after_all (y ∷ ys) fault each.1
@@ -66,7 +66,7 @@ pub no_faults : AreFaults []
 no_faults = record { count = omega arith; each = tt; ascend = λ i j d lt within. absurd (omega arith) }
 
 -- one more fault, which comes after the last
-pub AreFaults-push : (faults : List (ℕ × ℕ)) (fault : ℕ × ℕ) → AreFaults faults → IsFault fault → is_after faults fault ≡ true → length faults < max_faults → AreFaults (faults ++ fault ∷ [])
+pub AreFaults-push : (faults : List (ℕ × ℕ)) (fault : ℕ × ℕ) → AreFaults faults → IsFault fault → follows_faults faults fault ≡ true → length faults < max_faults → AreFaults (faults ++ fault ∷ [])
 AreFaults-push faults fault are valid after room =
     let Before : ℕ × ℕ → Type 0 = λ before. IsBefore before fault in
     let all = All-from_recursion Before faults (all_before faults fault are.ascend after) in
@@ -79,7 +79,7 @@ AreFaults-push faults fault are valid after room =
 -- each of some faults comes after those before it, and there was room for it
 pub record IsNextFault (faults : List (ℕ × ℕ)) (fault : ℕ × ℕ) : Type 0 where
   pub valid : IsFault fault
-  pub after : is_after faults fault ≡ true
+  pub after : follows_faults faults fault ≡ true
   pub room : length faults < max_faults
 
 pub next_fault : (faults more : List (ℕ × ℕ)) (fault : ℕ × ℕ) → AreFaults (faults ++ fault ∷ more) → IsNextFault faults fault

@@ -121,7 +121,7 @@ pub no_bytes : (least most : ℕ) (field : List ℕ) → ((bytes : List ℕ) →
 no_bytes least most field none =
     false_from_ne_true (is_hex_text least most field) (λ passed. let said = encode_lower-bytes_in least most field passed in none (bytes_in field) (IsBytes-bytes_in field) said.1 said.2 said.0)
 
-one_byte : (b : ℕ) → b < 256 → IsBytes (b ∷ [])
+pub one_byte : (b : ℕ) → b < 256 → IsBytes (b ∷ [])
 one_byte b small zero = small
 one_byte b small (suc i) = omega arith
 
@@ -151,7 +151,7 @@ pub no_bytes_of : (n : ℕ) (field : List ℕ) → length field / 2 ≢ n → is
 no_bytes_of n field other =
     no_bytes n n field (λ bytes fits low high text. let len : length field ≡ 2 * length bytes = ap length text ∙ length-encode_with lower_digits bytes in other (omega arith))
 
--- a list that is filled from its front to its end
+-- a list that is filled from its beginning to its end
 pub filled_whole : (n : ℕ) (bytes rest : List ℕ) → n ≡ length bytes → take n (bytes ++ rest) ≡ bytes
 filled_whole n bytes rest same = rw same (front bytes rest)
   where

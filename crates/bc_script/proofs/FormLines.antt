@@ -6,7 +6,7 @@ use Rattle.bc_key.specs.declared.config.Mode.{Mode}
 use Rattle.bc_key.specs.declared.config.Mode.TheVariants.{Aes256Xts, Aes128CbcEssiv}
 use Rattle.bc_script.specs.ScriptText.{on_off, mode_text}
 use Rattle.bc_script.specs.Statements.{text_line, form_line, DashesAgree}
-use Rattle.bc_script.specs.Forms.{Form, BioForm, TextForm, Fill, Hex, Version, Disk, Fallback, Device, Key, Fault, Thread, Write, Read, Evict, Reset, Plug, Unplug, End, alone, with_one, with_word, switch_of, fallback_form, with_switch, with_device, mode_of, key_form, with_key, with_fault, dashes_agree, text_form, write_form, with_bio, with_bio_and_text, form_of}
+use Rattle.bc_script.specs.Forms.{Form, BioForm, TextForm, Fill, Hex, Version, Disk, Fallback, Device, Key, Fault, Thread, Write, Read, Evict, Reset, Plug, Unplug, End, alone, with_one, form_with_word, switch_of, fallback_form, with_switch, form_with_device, mode_of_word, key_form, with_key, form_with_fault, dashes_agree, text_form, write_form, form_with_bio, with_bio_and_text, form_of}
 
 -- the line of a form
 pub record IsLineOf (line : TextLine) (form : Form) : Type 0 where
@@ -39,7 +39,7 @@ let_through : (test : Bool) (built : Option Form) (form : Form) → (if test the
 let_through true built form e = (refl, e)
 let_through false built form e = absurd (no_form form e)
 
-of_word : (word fixed : List ℕ) (built form : Form) (fields : TextLine) → IsLineOf (word ∷ fixed ∷ []) built → with_word fixed built fields ≡ Some form → IsLineOf (word ∷ fields) form
+of_word : (word fixed : List ℕ) (built form : Form) (fields : TextLine) → IsLineOf (word ∷ fixed ∷ []) built → form_with_word fixed built fields ≡ Some form → IsLineOf (word ∷ fields) form
 of_word word fixed built form [] is e = absurd (no_form form e)
 of_word word fixed built form (f ∷ fs) is e =
     let through = let_through (bytes_eq f fixed) (alone built fs) form e in
@@ -50,7 +50,7 @@ of_word word fixed built form (f ∷ fs) is e =
     rest (g ∷ gs) same e = absurd (no_form form e)
 
 -- the word of a mode
-mode_text-mode_of : (word : List ℕ) (mode : Mode) → mode_of word ≡ Some mode → word ≡ mode_text mode
+mode_text-mode_of : (word : List ℕ) (mode : Mode) → mode_of_word word ≡ Some mode → word ≡ mode_text mode
 mode_text-mode_of word mode e = first (bytes_eq word (codes "aes-256-xts")) refl
   where
     same : (a b : Mode) → Some a ≡ Some b → a ≡ b
@@ -75,9 +75,9 @@ of_key form (a ∷ b ∷ []) e = absurd (no_form form e)
 of_key form (a ∷ b ∷ c ∷ []) e = absurd (no_form form e)
 of_key form (a ∷ b ∷ c ∷ d ∷ []) e = absurd (no_form form e)
 of_key form (a ∷ b ∷ c ∷ d ∷ f ∷ g ∷ fs) e = absurd (no_form form e)
-of_key form (name ∷ mode ∷ unit ∷ dun_bytes ∷ digits ∷ []) e = by_mode (mode_of mode) refl
+of_key form (name ∷ mode ∷ unit ∷ dun_bytes ∷ digits ∷ []) e = by_mode (mode_of_word mode) refl
   where
-    by_mode : (o : Option Mode) → mode_of mode ≡ o → IsLineOf (codes "key" ∷ name ∷ mode ∷ unit ∷ dun_bytes ∷ digits ∷ []) form
+    by_mode : (o : Option Mode) → mode_of_word mode ≡ o → IsLineOf (codes "key" ∷ name ∷ mode ∷ unit ∷ dun_bytes ∷ digits ∷ []) form
     by_mode None is = absurd (no_form form (sym (ap (λ (o : Option Mode). key_form name o unit dun_bytes digits) is) ∙ e))
     by_mode (Some m) is =
         let built = Key (record { name = name; mode = m; unit = unit; dun_bytes = dun_bytes; digits = digits }) in
@@ -116,7 +116,7 @@ of_fallback form (word ∷ []) e = by_switch (switch_of word) refl
         (record { line_is = ap (λ (w : List ℕ). codes "fallback" ∷ w ∷ []) (on_off-switch_of word on is); agrees = tt })
         (sym (ap fallback_form is) ∙ e)
 
-of_device : (form : Form) (fields : TextLine) → with_device fields ≡ Some form → IsLineOf (codes "device" ∷ fields) form
+of_device : (form : Form) (fields : TextLine) → form_with_device fields ≡ Some form → IsLineOf (codes "device" ∷ fields) form
 of_device form [] e = absurd (no_form form e)
 of_device form (a ∷ []) e = absurd (no_form form e)
 of_device form (a ∷ b ∷ []) e = absurd (no_form form e)
@@ -129,7 +129,7 @@ of_device form (first ∷ blocks ∷ slots ∷ xts ∷ essiv ∷ dun_bytes ∷ [
     (Device (record { first = first; blocks = blocks; slots = slots; xts = xts; essiv = essiv; dun_bytes = dun_bytes })) form
     (record { line_is = refl; agrees = tt }) e
 
-of_fault : (form : Form) (fields : TextLine) → with_fault fields ≡ Some form → IsLineOf (codes "fault" ∷ fields) form
+of_fault : (form : Form) (fields : TextLine) → form_with_fault fields ≡ Some form → IsLineOf (codes "fault" ∷ fields) form
 of_fault form [] e = absurd (no_form form e)
 of_fault form (a ∷ []) e = absurd (no_form form e)
 of_fault form (a ∷ b ∷ c ∷ fs) e = absurd (no_form form e)
@@ -139,7 +139,7 @@ of_fault form (shard ∷ access ∷ []) e =
 abbrev bio_of : List ℕ → List ℕ → List ℕ → List ℕ → BioForm
 bio_of key sector units number = record { key = key; sector = sector; units = units; number = number }
 
-of_read : (form : Form) (fields : TextLine) → with_bio fields ≡ Some form → IsLineOf (codes "read" ∷ fields) form
+of_read : (form : Form) (fields : TextLine) → form_with_bio fields ≡ Some form → IsLineOf (codes "read" ∷ fields) form
 of_read form [] e = absurd (no_form form e)
 of_read form (a ∷ []) e = absurd (no_form form e)
 of_read form (a ∷ b ∷ []) e = absurd (no_form form e)

@@ -13,7 +13,7 @@ use Rattle.bc_stack.specs.Targets.{HasSlots}
 use Rattle.bc_script.specs.declared.named_key.NamedKey.{NamedKey}
 use Rattle.bc_script.specs.declared.op.Op.{Op}
 use Rattle.bc_script.specs.Script.{Script, IsScript, IsDevice, AreDevices, AreKeys, IsNamedKey, IsBio, IsOp, IsSection, AreSections, bare_keys, open_after, unit_count, unit_count_of_section, max_slots, max_generated}
-use Rattle.bc_script.specs.Generated.{generated, generated_blocks, generated_threads, generated_device, generated_keys, key_a, key_b, key_c, generated_context, generated_sector, generated_write, generated_read, generated_pair, generated_section}
+use Rattle.bc_script.specs.GeneratedScript.{generated, generated_blocks, generated_threads, generated_device, generated_keys, key_a, key_b, key_c, generated_context, generated_sector, generated_write, generated_read, generated_pair, generated_section}
 
 -- ---- the device
 

@@ -11,18 +11,18 @@ use Rattle.bc_key.specs.declared.keys.KeyNo.{KeyNo}
 use Rattle.bc_script.specs.declared.named_key.NamedKey.{NamedKey}
 use Rattle.bc_script.specs.Name.{is_name}
 use Rattle.bc_script.specs.Script.{IsNamedKey, AreKeys, bare_keys}
-use Rattle.bc_script.specs.ScriptText.{name_of}
+use Rattle.bc_script.specs.ScriptText.{key_name_of}
 
 -- a script has as many names as keys
 pub named_too : (keys : List NamedKey) (n : ℕ) → n < length (bare_keys keys) → n < length keys
 named_too keys n lt = rw (length-map keys (λ (named : NamedKey). named.key)) at lt
 
 -- the name that is written for a key's number is that of the key at its place
-pub name_in : (keys : List NamedKey) (number : KeyNo) (d : NamedKey) → number.0 < length keys → name_of keys number ≡ (get_or keys number.0 d).name
+pub name_in : (keys : List NamedKey) (number : KeyNo) (d : NamedKey) → number.0 < length keys → key_name_of keys number ≡ (get_or keys number.0 d).name
 name_in keys number d lt = ap (λ (o : Option NamedKey). unwrap_or (option_map (λ (x : NamedKey). x.name) o) []) (slice_get-get_or keys number.0 d lt)
 
 -- and it is a name
-pub is_name_of : (keys : List NamedKey) (number : KeyNo) → AreKeys keys → number.0 < length (bare_keys keys) → is_name (name_of keys number) ≡ true
+pub is_name_of : (keys : List NamedKey) (number : KeyNo) → AreKeys keys → number.0 < length (bare_keys keys) → is_name (key_name_of keys number) ≡ true
 is_name_of [] number are lt = absurd (omega arith)
 is_name_of (k ∷ ks) number are lt =
     let there = named_too (k ∷ ks) number.0 lt in
@@ -30,7 +30,7 @@ is_name_of (k ∷ ks) number are lt =
     ap is_name (name_in (k ∷ ks) number k there) ∙ each.name
 
 -- keys of a script have different names
-pub same_key : (keys : List NamedKey) (a b : KeyNo) → AreKeys keys → a.0 < length keys → b.0 < length keys → name_of keys a ≡ name_of keys b → a ≡ b
+pub same_key : (keys : List NamedKey) (a b : KeyNo) → AreKeys keys → a.0 < length keys → b.0 < length keys → key_name_of keys a ≡ key_name_of keys b → a ≡ b
 same_key [] a b are la lb e = absurd (omega arith)
 same_key (k ∷ ks) a b are la lb e =
     let keys = k ∷ ks in

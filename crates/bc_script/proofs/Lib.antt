@@ -23,6 +23,7 @@ pub mod Parsed
 pub mod Taken
 pub mod Whole
 pub mod Printed
+pub mod PrintedExamples
 pub mod GeneratedExamples
 pub mod GeneratedRules
 pub mod GeneratedLoops

@@ -24,17 +24,17 @@ use Rattle.bc_script.specs.declared.op.Text.{Text}
 use Rattle.bc_script.specs.declared.op.Text.TheVariants.{Fill, Bytes}
 use Rattle.bc_script.specs.Name.{is_name, is_name_byte, is_lower_letter}
 use Rattle.bc_script.specs.Script.{Script, IsScript, IsDevice, AreKeys, IsNamedKey, IsFault, IsContext, IsBio, IsText, IsOp, IsSection, bare_keys}
-use Rattle.bc_script.specs.ScriptText.{script_lines, device_line, key_line, op_line, name_of, section_lines, mode_text, fault_line, on_off, key_field, number_field, bio_fields, text_fields}
+use Rattle.bc_script.specs.ScriptText.{script_lines, device_line, key_line, op_line, key_name_of, section_lines, mode_text, fault_line, on_off, key_field, number_field, bio_fields, text_fields}
 use Rattle.bc_script.proofs.ByteLists.{IsBytes-All}
 use Rattle.bc_script.proofs.KeyNames.{is_name_of}
 
 -- ---- fields
 
 -- a byte that may stand in a field
-abbrev IsFieldByte : ℕ → Type 0
+abbrev pub IsFieldByte : ℕ → Type 0
 IsFieldByte b = (b ≢ space) × (b ≢ line_feed)
 
-hex_digit : (k : ℕ) → k < 16 → IsFieldByte (get_or lower_digits k 0)
+pub hex_digit : (k : ℕ) → k < 16 → IsFieldByte (get_or lower_digits k 0)
 hex_digit k lt = All-get_or IsFieldByte lower_digits k 0 (omega arith) (All-from_recursion IsFieldByte lower_digits (IsField-from_test lower_digits refl))
 
 pub IsField-encode_lower : (bytes : List ℕ) → IsBytes bytes → IsField (encode_lower bytes)
@@ -75,8 +75,8 @@ IsField-name (b ∷ bs) h =
     let q = both _ _ p.1 in
     (letter b p.0, name_bytes bs q.0)
 
-IsField-name_of : (keys : List NamedKey) (number : KeyNo) → AreKeys keys → number.0 < length (bare_keys keys) → IsField (name_of keys number)
-IsField-name_of keys number are lt = IsField-name (name_of keys number) (is_name_of keys number are lt)
+IsField-name_of : (keys : List NamedKey) (number : KeyNo) → AreKeys keys → number.0 < length (bare_keys keys) → IsField (key_name_of keys number)
+IsField-name_of keys number are lt = IsField-name (key_name_of keys number) (is_name_of keys number are lt)
 
 IsField-mode : (mode : Mode) → IsField (mode_text mode)
 IsField-mode Aes256Xts = IsField-from_test (codes "aes-256-xts") refl
@@ -128,7 +128,7 @@ text_fields_are : (keys : List NamedKey) (context : Option Context) (units : ℕ
 text_fields_are keys context units (Fill byte) is = (IsField-from_test (codes "fill") refl, (IsField-encode_lower (byte ∷ []) (IsBytes-one byte is), tt))
 text_fields_are keys context units (Bytes bytes) is = (IsField-from_test (codes "hex") refl, (IsField-encode_lower bytes is.0, tt))
 
--- fields in front of others
+-- fields before others
 bio_fields_are : (keys : List NamedKey) (context : Option Context) (sector units : ℕ) (others : TextLine) → AreKeys keys → IsBio (bare_keys keys) context sector units → AreFields others → AreFields (bio_fields keys context sector units ++ others)
 bio_fields_are keys context sector units others are is rest =
     let low = is.sector_is in

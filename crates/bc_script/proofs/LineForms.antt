@@ -21,10 +21,10 @@ use Rattle.bc_script.specs.declared.op.Text.{Text}
 use Rattle.bc_script.specs.declared.op.Text.TheVariants as texts
 use Rattle.bc_script.specs.Name.{is_name}
 use Rattle.bc_script.specs.Script.{AreKeys, IsContext, IsOp, bare_keys}
-use Rattle.bc_script.specs.ScriptText.{version_line, disk_line, fallback_line, device_line, thread_line, end_line, key_line, fault_line, op_line, mode_text, name_of, dash, key_field, number_field}
+use Rattle.bc_script.specs.ScriptText.{version_line, disk_line, fallback_line, device_line, thread_line, end_line, key_line, fault_line, op_line, mode_text, key_name_of, dash, key_field, number_field}
 use Rattle.bc_script.proofs.KeyNames.{is_name_of}
 use Rattle.bc_script.proofs.Faults.{fault_fields}
-use Rattle.bc_script.specs.Forms.{Form, KeyForm, BioForm, TextForm, Fill, Hex, Version, Disk, Fallback, Device, Key, Fault, Thread, Write, Read, Evict, Reset, Plug, Unplug, End, form_of, mode_of, key_form, dashes_agree}
+use Rattle.bc_script.specs.Forms.{Form, KeyForm, BioForm, TextForm, Fill, Hex, Version, Disk, Fallback, Device, Key, Fault, Thread, Write, Read, Evict, Reset, Plug, Unplug, End, form_of, mode_of_word, key_form, dashes_agree}
 use Rattle.bc_script.specs.DeviceFields.{device_form}
 
 -- the fields of a key's line
@@ -51,7 +51,7 @@ text_form_of (texts.Bytes bytes) = Hex (encode_lower bytes)
 abbrev pub op_form : List NamedKey → Op → Form
 op_form keys (ops.Write context sector units text) = Write (bio_form keys context sector units) (text_form_of text)
 op_form keys (ops.Read context sector units) = Read (bio_form keys context sector units)
-op_form keys (ops.Evict key) = Evict (name_of keys key)
+op_form keys (ops.Evict key) = Evict (key_name_of keys key)
 op_form keys (ops.Reset device) = Reset (decimal device)
 op_form keys ops.Plug = Plug
 op_form keys ops.Unplug = Unplug
@@ -77,7 +77,7 @@ number_is_no_dash n small e =
 -- ---- names of keys
 
 -- the name of the key at a place
-pub name_at : (keys : List NamedKey) (number : KeyNo) (named : NamedKey) → slice_get keys number.0 ≡ Some named → name_of keys number ≡ named.name
+pub name_at : (keys : List NamedKey) (number : KeyNo) (named : NamedKey) → slice_get keys number.0 ≡ Some named → key_name_of keys number ≡ named.name
 name_at keys number named at = ap (λ (o : Option NamedKey). unwrap_or (option_map (λ (n : NamedKey). n.name) o) []) at
 
 -- ---- lines
@@ -101,7 +101,7 @@ form_of-thread = refl
 pub form_of-end : form_of end_line ≡ Some End
 form_of-end = refl
 
-mode_of-mode_text : (mode : Mode) → mode_of (mode_text mode) ≡ Some mode
+mode_of-mode_text : (mode : Mode) → mode_of_word (mode_text mode) ≡ Some mode
 mode_of-mode_text Aes256Xts = refl
 mode_of-mode_text Aes128CbcEssiv = refl
 
@@ -117,8 +117,8 @@ form_of-fault_line fault = refl
 pub dashes_agree-bio_form : (keys : List NamedKey) (context : Option Context) (sector units : ℕ) → AreKeys keys → IsContext (bare_keys keys) context → dashes_agree (bio_form keys context sector units) ≡ true
 dashes_agree-bio_form keys None sector units are valid = refl
 dashes_agree-bio_form keys (Some context) sector units are valid =
-    let key : bytes_eq (name_of keys context.key) dash ≡ false =
-    bytes_eq-other (name_of keys context.key) dash (name_is_no_dash (name_of keys context.key) (is_name_of keys context.key are valid.0)) in
+    let key : bytes_eq (key_name_of keys context.key) dash ≡ false =
+    bytes_eq-other (key_name_of keys context.key) dash (name_is_no_dash (key_name_of keys context.key) (is_name_of keys context.key are valid.0)) in
     let number : bytes_eq (number_text context.dun) dash ≡ false = bytes_eq-other (number_text context.dun) dash (number_is_no_dash context.dun valid.1) in
     rw (key, number) refl
 

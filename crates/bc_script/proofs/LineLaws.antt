@@ -25,7 +25,7 @@ use Rattle.bc_script.specs.declared.op.Text.{Text}
 use Rattle.bc_script.specs.declared.op.Text.TheVariants.{Fill, Bytes}
 use Rattle.bc_script.specs.Name.{is_name}
 use Rattle.bc_script.specs.Script.{IsDevice, AreKeys, IsNamedKey, IsFault, IsContext, IsBio, IsText, IsOp, bare_keys}
-use Rattle.bc_script.specs.ScriptText.{on_off, device_line, key_line, fault_line, op_line, name_of, dash, mode_text, key_field, number_field, text_fields}
+use Rattle.bc_script.specs.ScriptText.{on_off, device_line, key_line, fault_line, op_line, key_name_of, dash, mode_text, key_field, number_field, text_fields}
 use Rattle.bc_script.proofs.KeyNames.{is_name_of, same_key, named_too}
 use Rattle.bc_script.proofs.ByteLists.{IsBytes-All}
 use Rattle.bc_script.proofs.LineFields.{IsBytes-one, small_unit}
@@ -140,7 +140,7 @@ fault_line_injective a b p q e =
 -- ---- an operation's line
 
 -- the name of a key is never `-`
-name_is_no_dash : (keys : List NamedKey) (number : KeyNo) → AreKeys keys → number.0 < length (bare_keys keys) → name_of keys number ≡ dash → ⊥
+name_is_no_dash : (keys : List NamedKey) (number : KeyNo) → AreKeys keys → number.0 < length (bare_keys keys) → key_name_of keys number ≡ dash → ⊥
 name_is_no_dash keys number are lt e = let name : true ≡ is_name dash = sym (is_name_of keys number are lt) ∙ ap is_name e in absurd cc
 
 same_context : (keys : List NamedKey) (a b : Option Context) → AreKeys keys → IsContext (bare_keys keys) a → IsContext (bare_keys keys) b → key_field keys a ≡ key_field keys b → number_field a ≡ number_field b → a ≡ b
@@ -164,7 +164,7 @@ same_text keys s t u v (Bytes a) (Bytes b) p q e = ap (λ (x : List ℕ). Bytes 
 same_text keys s t u v (Fill a) (Bytes b) p q e = absurd (clash (codes "fill") (codes "hex") _ _ refl e)
 same_text keys s t u v (Bytes a) (Fill b) p q e = absurd (clash (codes "hex") (codes "fill") _ _ refl e)
 
--- the four fields of a bio, and those behind them
+-- the four fields of a bio, and those after them
 after_first_of_five : (p q r s t v w x y z : List ℕ) (a b : TextLine) → p ∷ q ∷ r ∷ s ∷ t ∷ a ≡ v ∷ w ∷ x ∷ y ∷ z ∷ b → (q ≡ w) × (r ≡ x) × (s ≡ y) × (t ≡ z) × (a ≡ b)
 after_first_of_five p q r s t v w x y z a b e = (cc, cc, cc, cc, cc)
 

@@ -13,20 +13,20 @@ use Rattle.std.proofs.lemmas.Map.Text.{is_eq-slice_cmp}
 use Rattle.std.proofs.lemmas.Option.{none-some, same_Some}
 use Rattle.bc_key.specs.declared.keys.KeyNo.{KeyNo}
 use Rattle.bc_script.specs.declared.named_key.NamedKey.{NamedKey}
-use Rattle.bc_script.specs.ScriptText.{name_of}
+use Rattle.bc_script.specs.ScriptText.{key_name_of}
 use Rattle.bc_script.specs.NamedKeys.{IsNamed, IsNoName, IsIndex, number_at}
 
 -- ---- names of keys to which one is added
 
-name_in_front : (keys : List NamedKey) (more : NamedKey) (key : KeyNo) → key.0 < length keys → name_of (keys ++ more ∷ []) key ≡ name_of keys key
+name_in_front : (keys : List NamedKey) (more : NamedKey) (key : KeyNo) → key.0 < length keys → key_name_of (keys ++ more ∷ []) key ≡ key_name_of keys key
 name_in_front keys more key lt = from_front keys key.0 lt
   where
-    from_front : (keys : List NamedKey) (i : ℕ) → i < length keys → name_of (keys ++ more ∷ []) (record { 0 = i }) ≡ name_of keys (record { 0 = i })
+    from_front : (keys : List NamedKey) (i : ℕ) → i < length keys → key_name_of (keys ++ more ∷ []) (record { 0 = i }) ≡ key_name_of keys (record { 0 = i })
     from_front [] i lt = absurd (omega arith)
     from_front (k ∷ ks) zero lt = refl
     from_front (k ∷ ks) (suc i) lt = from_front ks i (omega arith)
 
-name_at_end : (keys : List NamedKey) (more : NamedKey) → name_of (keys ++ more ∷ []) (record { 0 = length keys }) ≡ more.name
+name_at_end : (keys : List NamedKey) (more : NamedKey) → key_name_of (keys ++ more ∷ []) (record { 0 = length keys }) ≡ more.name
 name_at_end [] more = refl
 name_at_end (k ∷ ks) more = name_at_end ks more
 
@@ -82,21 +82,21 @@ module _ {Y : Type 0} where
     abbrev all : List NamedKey
     all = keys ++ more ∷ []
 
-    ends : name_of all number ≡ more.name
-    ends = ap (λ (n : ℕ). name_of all (record { 0 = n })) next ∙ name_at_end keys more
+    ends : key_name_of all number ≡ more.name
+    ends = ap (λ (n : ℕ). key_name_of all (record { 0 = n })) next ∙ name_at_end keys more
 
-    has_all : (key : KeyNo) → key.0 < length all → number_at new (name_of all key) ≡ Some key
+    has_all : (key : KeyNo) → key.0 < length all → number_at new (key_name_of all key) ≡ Some key
     has_all key lt =
         ⊎_elim
         (λ (low : key.0 < length keys).
         let front = name_in_front keys more key low in
         ap (number_at new) front
-        ∙ number_at_others old new more.name (Some number) updates (name_of keys key) (λ same. fresh key (record { within = low; name_is = same }))
+        ∙ number_at_others old new more.name (Some number) updates (key_name_of keys key) (λ same. fresh key (record { within = low; name_is = same }))
         ∙ index.has key low)
         (λ (high : length keys ≤ key.0).
         let here : number.0 ≡ key.0 = omega (arith, length-append keys (more ∷ [])) in
         let same : number ≡ key = ap (λ (n : ℕ). let k : KeyNo = record { 0 = n } in k) here in
-        ap (λ (k : KeyNo). number_at new (name_of all k)) (sym same) ∙ ap (number_at new) ends ∙ updates.1 ∙ ap Some same)
+        ap (λ (k : KeyNo). number_at new (key_name_of all k)) (sym same) ∙ ap (number_at new) ends ∙ updates.1 ∙ ap Some same)
         (cases_lt key.0 (length keys))
 
     only_all : (other : List ℕ) (key : KeyNo) → number_at new other ≡ Some key → IsNamed all other key
@@ -108,7 +108,7 @@ module _ {Y : Type 0} where
         let place : number.0 ≡ key.0 = ap (λ (k : KeyNo). k.0) same in
         record {
           within = omega (arith, length-append keys (more ∷ []));
-          name_is = sym here ∙ sym ends ∙ ap (name_of all) same;
+          name_is = sym here ∙ sym ends ∙ ap (key_name_of all) same;
         })
         (λ (no : bytes_eq more.name other ≡ false).
         let differ : more.name ≢ other = λ same. true_is_no_false (bytes_eq more.name other) ((bytes_decides more.name other).1 same) no in

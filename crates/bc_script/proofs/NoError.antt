@@ -18,7 +18,7 @@ use Rattle.bc_script.specs.Script.{Script, IsScript, IsDiskSize, AreDevices, Are
 use Rattle.bc_script.specs.ScriptText.{NoScriptHas, script_text, script_lines, version_line, disk_line, fallback_line, device_line, key_line, fault_line, thread_line, op_line, section_lines, end_line}
 use Rattle.bc_script.specs.Forms.{Form, Version, Disk, Fallback, Device, Key, Fault, Thread, End, form_of, sort_of}
 use Rattle.bc_script.specs.Order.{may_follow}
-use Rattle.bc_script.specs.ScriptErrors.{Why, first_of, with_form, error_at, error_at_end, first_error, error_of, or_below, last_sort, is_end}
+use Rattle.bc_script.specs.ScriptErrors.{Why, first_why, with_form, error_at, error_at_end, first_error, error_of, or_below, last_sort, is_end}
 use Rattle.bc_text.specs.Lines.{is_nothing}
 use Rattle.bc_script.specs.Progress.{Progress, IsProgress, with_section, is_in_section, lines_read, forms_read, forms_below, sections_read}
 use Rattle.bc_script.proofs.Onto.{forms_below-append}
@@ -32,7 +32,7 @@ use Rattle.bc_script.proofs.Steps.{nothing_read, with_version, with_disk, with_f
 
 -- ---- lines that pass
 
--- each line passes its tests behind those above it
+-- each line passes its tests after those above it
 abbrev pub Pass : List Form → List TextLine → Type 0
 Pass above [] = ⊤
 Pass above (line ∷ lines) = (error_at above line ≡ None) × Pass (with_form (form_of line) above) lines
@@ -41,7 +41,7 @@ Pass-append : (above : List Form) (xs ys : List TextLine) → Pass above xs → 
 Pass-append above [] ys p q = q
 Pass-append above (x ∷ xs) ys p q = (p.0, Pass-append (with_form (form_of x) above) xs ys p.1 q)
 
--- then no line of theirs is the first that fails, and nor is what stands behind them
+-- then no line of theirs is the first that fails, and nor is what stands after them
 pub no_first_error : (above : List Form) (lines : List TextLine) (tail : TextLine) → Pass above lines → error_at_end (forms_below above lines) tail ≡ None → first_error above (lines ++ tail ∷ []) ≡ None
 no_first_error above [] tail pass e = ap (λ (w : Why). or_below (length above + 1) w None) e
 no_first_error above (l ∷ []) tail pass e =
@@ -71,7 +71,7 @@ one p q line form Then rules passes lines is_form holds =
     let step = forms_read-step p q line form lines is_form in
     record { after = q; rules = rules; pass = (passes, tt); forms = ap (λ (o : Option Form). with_form o (forms_read p)) is_form ∙ sym step; holds = holds }
 
--- lines, and others behind them
+-- lines, and others after them
 further : (p : Progress) (xs ys : List TextLine) (P Q : Progress → Type 0) → Reads p xs P → ((q : Progress) → IsProgress q → P q → Reads q ys Q) → Reads p (xs ++ ys) Q
 further p xs ys P Q first rest =
     let then = rest first.after first.rules first.holds in
@@ -89,7 +89,7 @@ weaker p lines P Q f reads = record { after = reads.after; rules = reads.rules; 
 
 -- ---- the first three lines
 
--- behind the first three lines
+-- after the first three lines
 record HasHead (blocks : ℕ) (q : Progress) : Type 0 where
   last : q.last ≡ Some sorts.Fallback
   size : q.blocks ≡ blocks
@@ -119,7 +119,7 @@ head_passes blocks on size =
 
 -- ---- devices
 
--- behind devices, where there are no keys yet
+-- after devices, where there are no keys yet
 record HasDevices (blocks : ℕ) (all : List Target) (q : Progress) : Type 0 where
   follows : may_follow q.last sorts.Device ≡ true
   size : q.blocks ≡ blocks
@@ -141,7 +141,7 @@ devices_pass p (d ∷ ds) blocks is follows are =
 
 -- ---- keys
 
--- behind keys, where no section has begun
+-- after keys, where no section has begun
 record HasKeys (blocks : ℕ) (devices : List Target) (all : List NamedKey) (q : Progress) : Type 0 where
   follows : may_follow q.last sorts.Key ≡ true
   size : q.blocks ≡ blocks
@@ -167,7 +167,7 @@ keys_pass p (k ∷ ks) is follows whole are =
 
 -- ---- planned faults
 
--- behind faults, where no section has begun
+-- after faults, where no section has begun
 record HasFaults (blocks : ℕ) (devices : List Target) (own : List NamedKey) (all : List (ℕ × ℕ)) (q : Progress) : Type 0 where
   follows : may_follow q.last sorts.Fault ≡ true
   size : q.blocks ≡ blocks
@@ -193,7 +193,7 @@ faults_pass p (f ∷ fs) is follows whole are =
 
 -- ---- operations
 
--- behind operations of a section
+-- after operations of a section
 record HasOps (p : Progress) (all : List Op) (q : Progress) : Type 0 where
   follows : may_follow q.last sorts.Operation ≡ true
   blocks : q.blocks ≡ p.blocks
@@ -202,7 +202,7 @@ record HasOps (p : Progress) (all : List Op) (q : Progress) : Type 0 where
   threads : q.threads ≡ p.threads
   section : q.section ≡ all
 
--- a front of operations closes no plug that isn't open and opens none twice, where all of them don't
+-- a prefix of operations closes no plug that isn't open and opens none twice, where all of them don't
 front_plugs : (before : Bool) (section more : List Op) → IsSome (open_after before (section ++ more)) → IsSome (open_after before section)
 front_plugs before [] more h = refl
 front_plugs before (ops.Write context sector units text ∷ section) more h = front_plugs before section more h
@@ -247,7 +247,7 @@ ops_pass p (op ∷ section) is follows valid plugs room fits =
 
 -- ---- sections
 
--- behind sections, each of which is closed
+-- after sections, each of which is closed
 record HasSections (p : Progress) (q : Progress) : Type 0 where
   follows : may_follow q.last sorts.End ≡ true
   whole : CoverAll q.blocks q.targets
@@ -266,7 +266,7 @@ threads_follow (Some sorts.Thread) h = refl
 threads_follow (Some sorts.Operation) h = refl
 threads_follow (Some sorts.End) h = absurd cc
 
--- the operations of a section stand behind the sections before it
+-- the operations of a section stand after the sections before it
 section_done : (p q : Progress) (section : List Op) → HasOps (with_section_ended p sorts.Thread) section q → sections_read q ≡ sections_read p ++ section ∷ []
 section_done p q section has =
     ap (λ (t : List (List Op)). t ++ with_section (is_in_section q.last) q.section) has.threads
@@ -354,7 +354,7 @@ sections_and_end_pass s valid q is_q follows whole targets keys =
     (subst (λ (k : List NamedKey). Reads q (flat_map (section_lines k) s.threads) (HasSections q)) keys all_sections)
     (λ r is_r done. end_passes r is_r done.follows done.whole done.closed)
 
--- the lines behind the devices
+-- the lines after the devices
 behind_devices_pass : (s : Script) → IsScript s → (p : Progress) → IsProgress p → may_follow p.last sorts.Device ≡ true → p.blocks ≡ s.blocks → p.targets ≡ s.targets
     → Reads p (map key_line s.keys ++ (map fault_line s.faults ++ (flat_map (section_lines s.keys) s.threads ++ end_line ∷ []))) HasEnded
 behind_devices_pass s valid p is follows size targets =
@@ -394,7 +394,7 @@ no_error s valid =
     let ended : is_end (last_sort (forms_below [] (script_lines s))) ≡ true =
     ap (λ (above : List Form). is_end (last_sort above)) reads.forms ∙ ap (λ (last : Option Sort). is_end last) (last_sort-read reads.after reads.rules ∙ reads.holds) in
     ap (first_error []) lines
-    ∙ no_first_error [] (script_lines s) nothing reads.pass (ap (λ (b : Bool). first_of (b && is_nothing nothing) why.End None) ended)
+    ∙ no_first_error [] (script_lines s) nothing reads.pass (ap (λ (b : Bool). first_why (b && is_nothing nothing) why.End None) ended)
 
 -- so a text with a line that fails is no script's
 pub no_script_has : (text : List ℕ) (e : ScriptError) → error_of text ≡ Some e → NoScriptHas text

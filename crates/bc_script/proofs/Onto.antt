@@ -5,7 +5,7 @@ use Rattle.std.proofs.lemmas.List.Sums.{sum_by-cons, sum_by-append}
 use Rattle.bc_text.specs.Lines.{TextLine}
 use Rattle.bc_script.specs.declared.sort.Sort.{Sort}
 use Rattle.bc_script.specs.Forms.{Form, FaultForm, Version, Disk, Fallback, Device, Key, Fault, Thread, Write, Read, Evict, Reset, Plug, Unplug, End, form_of, sort_of}
-use Rattle.bc_script.specs.ScriptErrors.{with_form, last_sort, is_key, is_fault, key_named, ascends}
+use Rattle.bc_script.specs.ScriptErrors.{with_form, last_sort, declares_key, plans_fault, key_named, ascends}
 use Rattle.bc_script.specs.Progress.{forms_below}
 
 -- ---- lists
@@ -107,7 +107,7 @@ last_sort-onto sort (f ∷ fs) above same e = last_sort-onto sort fs (f ∷ abov
 
 -- ---- forms that are no keys
 
-pub key_named-other : (name : List ℕ) (form : Form) (above : List Form) → is_key form ≡ false → key_named name (form ∷ above) ≡ key_named name above
+pub key_named-other : (name : List ℕ) (form : Form) (above : List Form) → declares_key form ≡ false → key_named name (form ∷ above) ≡ key_named name above
 key_named-other name Version above e = refl
 key_named-other name (Disk blocks) above e = refl
 key_named-other name (Fallback on) above e = refl
@@ -123,13 +123,13 @@ key_named-other name Plug above e = refl
 key_named-other name Unplug above e = refl
 key_named-other name End above e = refl
 
-pub key_named-onto : (name : List ℕ) (forms above : List Form) → AllByRecursion (λ form. is_key form ≡ false) forms → key_named name (onto forms above) ≡ key_named name above
+pub key_named-onto : (name : List ℕ) (forms above : List Form) → AllByRecursion (λ form. declares_key form ≡ false) forms → key_named name (onto forms above) ≡ key_named name above
 key_named-onto name [] above others = refl
 key_named-onto name (f ∷ fs) above others = key_named-onto name fs (f ∷ above) others.1 ∙ key_named-other name f above others.0
 
 -- ---- forms that are no faults
 
-ascends-other : (fault : FaultForm) (form : Form) (above : List Form) → is_fault form ≡ false → ascends (form ∷ above) fault ≡ ascends above fault
+ascends-other : (fault : FaultForm) (form : Form) (above : List Form) → plans_fault form ≡ false → ascends (form ∷ above) fault ≡ ascends above fault
 ascends-other fault Version above e = refl
 ascends-other fault (Disk blocks) above e = refl
 ascends-other fault (Fallback on) above e = refl
@@ -145,6 +145,6 @@ ascends-other fault Plug above e = refl
 ascends-other fault Unplug above e = refl
 ascends-other fault End above e = refl
 
-pub ascends-onto : (fault : FaultForm) (forms above : List Form) → AllByRecursion (λ form. is_fault form ≡ false) forms → ascends (onto forms above) fault ≡ ascends above fault
+pub ascends-onto : (fault : FaultForm) (forms above : List Form) → AllByRecursion (λ form. plans_fault form ≡ false) forms → ascends (onto forms above) fault ≡ ascends above fault
 ascends-onto fault [] above others = refl
 ascends-onto fault (f ∷ fs) above others = ascends-onto fault fs (f ∷ above) others.1 ∙ ascends-other fault f above others.0

@@ -8,12 +8,12 @@ use Rattle.bc_script.specs.declared.script_error.ScriptError.{ScriptError}
 use Rattle.bc_script.specs.declared.script_error.ParseError.{ParseError}
 use Rattle.bc_script.specs.declared.script_error.ParseError.TheVariants as errors
 use Rattle.bc_script.specs.Script.{Script}
-use Rattle.bc_script.specs.ScriptText.{Says, script_lines}
+use Rattle.bc_script.specs.ScriptText.{SaysScript, script_lines}
 use Rattle.bc_script.specs.Forms.{form_of}
 use Rattle.bc_script.specs.ScriptErrors.{Why, with_form, or_below, error_at, error_at_end, first_error, error_of}
 use Rattle.bc_script.specs.Progress.{Progress, lines_read, forms_read}
-use Rattle.bc_script.specs.Reading.{IsWhole, ReportsNext}
-use Rattle.bc_script.specs.Parsing.{IsRefused}
+use Rattle.bc_script.specs.Reading.{IsWholeScript, ReportsNext}
+use Rattle.bc_script.specs.Parsing.{IsRefusedScript}
 use Rattle.bc_script.proofs.NoError.{no_script_has}
 
 -- what has been read and what is left are the text, and the first error of what is left is that of the text
@@ -37,7 +37,7 @@ some_line text none = cases (parts_at line_feed text) refl
     cases (part ∷ parts) at = let lines : lines_of text ≡ parts_at space part ∷ map (parts_at space) parts = ap (map (parts_at space)) at in cc
 
 module _ (text : List ℕ) (p : Progress) (line next : TextLine) (left : List TextLine) (underway : Underway text p (line ∷ next ∷ left)) where
-  pub line_refused : (e : ParseError) → ReportsNext p (error_at (forms_read p) line) e → IsRefused text e
+  pub line_refused : (e : ParseError) → ReportsNext p (error_at (forms_read p) line) e → IsRefusedScript text e
   line_refused (errors.Bad e) tells =
       let at : error_of text ≡ Some e =
       sym underway.error ∙ ap (λ (w : Why). or_below (length (forms_read p) + 1) w (first_error (with_form (form_of line) (forms_read p)) (next ∷ left))) tells.1
@@ -46,20 +46,20 @@ module _ (text : List ℕ) (p : Progress) (line next : TextLine) (left : List Te
   line_refused errors.Memory tells = tt
 
 module _ (text : List ℕ) (p : Progress) (rest : TextLine) (underway : Underway text p (rest ∷ [])) where
-  rest_refused : (e : ParseError) → ReportsNext p (error_at_end (forms_read p) rest) e → IsRefused text e
+  rest_refused : (e : ParseError) → ReportsNext p (error_at_end (forms_read p) rest) e → IsRefusedScript text e
   rest_refused (errors.Bad e) tells =
       let at : error_of text ≡ Some e =
       sym underway.error ∙ ap (λ (w : Why). or_below (length (forms_read p) + 1) w None) tells.1 ∙ (λ i. let told : ScriptError = record { line = sym tells.0 i; why = e.why } in Some told) in
       (at, no_script_has text e at)
   rest_refused errors.Memory tells = tt
 
-  pub says : (r : Result Script ParseError) → IfOk r (IsWhole p rest) → IfOk r (Says text)
+  pub says : (r : Result Script ParseError) → IfOk r (IsWholeScript p rest) → IfOk r (SaysScript text)
   says (Ok s) whole = record {
     valid = whole.valid;
     text_is = lines_text-lines_of text (script_lines s) (underway.whole ∙ ap (λ (l : TextLine). lines_read p ++ l ∷ []) whole.rest_is ∙ sym (ap (λ (ls : List TextLine). ls ++ nothing ∷ []) whole.lines));
   }
   says (Err e) whole = tt
 
-  pub refuses : (r : Result Script ParseError) → IfErr r (ReportsNext p (error_at_end (forms_read p) rest)) → IfErr r (IsRefused text)
+  pub refuses : (r : Result Script ParseError) → IfErr r (ReportsNext p (error_at_end (forms_read p) rest)) → IfErr r (IsRefusedScript text)
   refuses (Ok s) tells = tt
   refuses (Err e) tells = rest_refused e tells

@@ -1,4 +1,4 @@
--- A line passes its tests where it stands in order and what it says fits behind the lines above.
+-- A line passes its tests where it stands in order and what it says fits after the lines above.
 use Rattle.std.proofs.Common.{◌≡◌, ◌≢◌, ℕ, ◌<◌, ◌≤◌, ◌+◌, ◌*◌, ◌^◌, Bool, true, false, not, ◌&&◌, ◌||◌, nat_lt, nat_le, nat_eq, List, [], ◌∷◌, ◌++◌, length, take, drop, Option, Some, None, bytes_eq, option_map, is_some, is_none, if◌then◌else◌, refl, sym, ap, ◌∙◌, arith, eq-eqb, le-leb, lt-ltb, mul-pos}
 use Rattle.std.specs.Prelude.{sum_by, count_by, IsSome}
 use Rattle.std.specs.List.{AllByRecursion}
@@ -32,17 +32,17 @@ use Rattle.bc_script.specs.declared.script_error.ScriptWhy.{ScriptWhy}
 use Rattle.bc_script.specs.declared.script_error.ScriptWhy.TheVariants as why
 use Rattle.bc_script.specs.Name.{is_name}
 use Rattle.bc_script.specs.Script.{IsDiskSize, IsDevice, IsNamedKey, IsFault, IsContext, IsBio, IsText, IsOp, bare_keys, open_after, unit_count, unit_count_of_section, max_blocks, last_block, max_devices, max_slots, max_unit_mask, max_device_dun_bytes, max_keys, max_faults, last_shard, last_access, max_threads, max_ops, max_units, max_bio_units, max_bio_sectors}
-use Rattle.bc_script.specs.ScriptText.{dash, name_of, key_field}
+use Rattle.bc_script.specs.ScriptText.{dash, key_name_of, key_field}
 use Rattle.bc_script.specs.Forms.{Form, Disk, Device, Key, Fault, Thread, End, form_of, sort_of}
 use Rattle.bc_script.specs.Order.{may_follow}
-use Rattle.bc_script.specs.ScriptErrors.{Why, first_of, is_number, is_number_below, device_blocks_above, are_whole, device_test, device_fields, is_device, is_number_text, number_in, bytes_in, is_hex_text, number_test, key_refused, key_test, is_declared, sectors_under, is_open, ascends, is_key, is_fault, is_thread, is_operation, units_in, op_limit, bio_limits, bio_tests, is_text, size_of, last_sort, is_end, tests_of, error_of_form, error_at}
+use Rattle.bc_script.specs.ScriptErrors.{Why, first_why, is_number, is_number_below, device_blocks_above, are_whole, device_test, device_fields, is_device, is_number_text, number_in, bytes_in, is_hex_text, number_test, key_refused, key_test, is_declared, sectors_under, is_open, ascends, declares_key, plans_fault, is_thread, is_operation, form_units, op_limit, bio_limits, bio_tests, is_text, size_of, last_sort, is_end, tests_of, error_of_form, error_at}
 use Rattle.bc_script.specs.Progress.{Progress, IsProgress, blocks_of, forms_read, sections_read}
 use Rattle.bc_script.proofs.Fields.{number_in-decimal, is_number-decimal, is_number_text-number_text, bytes_in-encode_lower, is_hex_text-encode_lower}
 use Rattle.bc_script.proofs.KeyNames.{named_too}
 use Rattle.bc_script.proofs.ByteLists.{IsBytes-All}
 use Rattle.bc_script.proofs.LineFields.{IsBytes-one}
 use Rattle.bc_script.proofs.Above.{key_fields, fault_fields, op_form, bio_form, text_form_of, last_sort-read, devices-read, device_blocks-read, are_whole-read, keys-read, faults-read, threads-read, operations-read, units-read, is_open-read, ascends-read, is_declared-read, is_declared-none, sectors_under-read}
-use Rattle.bc_script.specs.Statements.{is_after}
+use Rattle.bc_script.specs.Statements.{follows_faults}
 use Rattle.bc_script.specs.DeviceFields.{device_form}
 use Rattle.bc_script.proofs.Devices.{is_covered}
 use Rattle.bc_script.proofs.Faults.{fault_in-fault_fields}
@@ -51,8 +51,8 @@ use Rattle.bc_script.proofs.LineForms.{bytes_eq-same, bytes_eq-other}
 -- ---- tests, one after the other
 
 -- a test that is passed is followed by the next
-pub passed : (test : Bool) (kind : ScriptWhy) (next : Why) → test ≡ true → next ≡ None → first_of test kind next ≡ None
-passed test kind next holds rest = ap (λ (b : Bool). first_of b kind next) holds ∙ rest
+pub passed : (test : Bool) (kind : ScriptWhy) (next : Why) → test ≡ true → next ≡ None → first_why test kind next ≡ None
+passed test kind next holds rest = ap (λ (b : Bool). first_why b kind next) holds ∙ rest
 
 not_after_end : (last : Option Sort) (sort : Sort) → may_follow last sort ≡ true → is_end last ≡ false
 not_after_end None sort h = refl
@@ -122,7 +122,7 @@ device_passed p device is valid at room =
     (passed (nat_eq (number_in (decimal device.first)) (device_blocks_above above)) why.Device _ first
     (passed (nat_lt (count_by is_device above) max_devices) why.Limit None limit refl))
 
--- devices that cover the disk pass at the lines behind them
+-- devices that cover the disk pass at the lines after them
 pub whole_passed : (p : Progress) (next : Why) → IsProgress p → CoverAll p.blocks p.targets → next ≡ None → device_test (forms_read p) next ≡ None
 whole_passed p next is whole rest = passed (are_whole (forms_read p)) why.Device next (are_whole-read p is ∙ is_covered p.targets p.blocks whole) rest
 
@@ -190,28 +190,28 @@ key_passed p named is whole valid fresh room =
     let most = key_size_most named.key.config.mode in
     let name : (is_name named.name && not (is_declared named.name above)) ≡ true = and_from _ _ valid.name (not_from_false _ (is_declared-none p named.name is fresh)) in
     let digits : is_hex_text 1 128 (encode_lower named.key.raw) ≡ true = is_hex_text-encode_lower 1 128 named.key.raw (IsBytes-All named.key.raw valid.valid.bytes) (omega arith) (omega arith) in
-    let limit : nat_lt (count_by is_key above) max_keys ≡ true = ap (λ (n : ℕ). nat_lt n max_keys) (keys-read p is) ∙ lt-ltb (length p.keys) max_keys room in
+    let limit : nat_lt (count_by declares_key above) max_keys ≡ true = ap (λ (n : ℕ). nat_lt n max_keys) (keys-read p is) ∙ lt-ltb (length p.keys) max_keys room in
     passed (is_name named.name && not (is_declared named.name above)) why.Name _ name
     (number_passed 0 4294967295 (bytes_of named.key.config.unit) _ (omega arith) (omega arith) (omega arith)
     (number_passed 0 255 named.key.config.dun_bytes _ (omega arith) (omega arith) (omega arith)
     (passed (is_hex_text 1 128 (encode_lower named.key.raw)) why.Hex _ digits
-    (ap (λ (w : Why). key_test w (device_test above (first_of (nat_lt (count_by is_key above) max_keys) why.Limit None))) (not_refused named valid)
-    ∙ whole_passed p _ is whole (passed (nat_lt (count_by is_key above) max_keys) why.Limit None limit refl)))))
+    (ap (λ (w : Why). key_test w (device_test above (first_why (nat_lt (count_by declares_key above) max_keys) why.Limit None))) (not_refused named valid)
+    ∙ whole_passed p _ is whole (passed (nat_lt (count_by declares_key above) max_keys) why.Limit None limit refl)))))
 
 -- ---- planned faults
 
 -- a fault that comes after the last one passes, where there is room
-pub fault_passed : (p : Progress) (fault : ℕ × ℕ) → IsProgress p → CoverAll p.blocks p.targets → IsFault fault → is_after p.faults fault ≡ true → length p.faults < max_faults → tests_of (forms_read p) (Fault (fault_fields fault)) ≡ None
+pub fault_passed : (p : Progress) (fault : ℕ × ℕ) → IsProgress p → CoverAll p.blocks p.targets → IsFault fault → follows_faults p.faults fault ≡ true → length p.faults < max_faults → tests_of (forms_read p) (Fault (fault_fields fault)) ≡ None
 fault_passed p fault is whole valid after room =
     let above = forms_read p in
     let shard = valid.shard in
     let access = valid.access in
-    let behind : ascends above (fault_fields fault) ≡ true = ascends-read p (fault_fields fault) is ∙ ap (is_after p.faults) (fault_in-fault_fields fault valid) ∙ after in
-    let limit : nat_lt (count_by is_fault above) max_faults ≡ true = ap (λ (n : ℕ). nat_lt n max_faults) (faults-read p is) ∙ lt-ltb (length p.faults) max_faults room in
+    let behind : ascends above (fault_fields fault) ≡ true = ascends-read p (fault_fields fault) is ∙ ap (follows_faults p.faults) (fault_in-fault_fields fault valid) ∙ after in
+    let limit : nat_lt (count_by plans_fault above) max_faults ≡ true = ap (λ (n : ℕ). nat_lt n max_faults) (faults-read p is) ∙ lt-ltb (length p.faults) max_faults room in
     number_passed 0 last_shard fault.0 _ (omega arith) (omega arith) shard
     (number_passed 0 last_access fault.1 _ (omega arith) (omega arith) access
     (passed (ascends above (fault_fields fault)) why.Order _ behind
-    (whole_passed p _ is whole (passed (nat_lt (count_by is_fault above) max_faults) why.Limit None limit refl))))
+    (whole_passed p _ is whole (passed (nat_lt (count_by plans_fault above) max_faults) why.Limit None limit refl))))
 
 -- ---- sections
 
@@ -240,7 +240,7 @@ op_room p is room =
 key_known : (p : Progress) (context : Option Context) → IsProgress p → IsContext (bare_keys p.keys) context → (bytes_eq (key_field p.keys context) dash || is_declared (key_field p.keys context) (forms_read p)) ≡ true
 key_known p None is valid = refl
 key_known p (Some context) is valid =
-    or_right (bytes_eq (name_of p.keys context.key) dash) (is_declared (name_of p.keys context.key) (forms_read p)) (is_declared-read p context.key is (named_too p.keys context.key.0 valid.0))
+    or_right (bytes_eq (key_name_of p.keys context.key) dash) (is_declared (key_name_of p.keys context.key) (forms_read p)) (is_declared-read p context.key is (named_too p.keys context.key.0 valid.0))
 
 number_known : (p : Progress) (context : Option Context) (sector units : ℕ) → IsContext (bare_keys p.keys) context → (bytes_eq (bio_form p.keys context sector units).number dash || is_number_text (bio_form p.keys context sector units).number) ≡ true
 number_known p None sector units valid = refl
@@ -267,10 +267,10 @@ bio_room p context sector units is valid room fits =
     let said : number_in bio.units ≡ units = units_said p context sector units valid in
     let sectors : sectors_under bio.key above ≡ unit_sectors (bare_keys p.keys) context = sectors_under-read p context is valid.context_is in
     let product : number_in bio.units * sectors_under bio.key above ≡ units * unit_sectors (bare_keys p.keys) context = ap (λ (n : ℕ). n * sectors_under bio.key above) said ∙ ap (λ (n : ℕ). units * n) sectors in
-    let sum : sum_by units_in above + number_in bio.units ≡ sum_by unit_count_of_section (sections_read p) + units = ap (λ (n : ℕ). n + number_in bio.units) (units-read p is) ∙ ap (λ (n : ℕ). sum_by unit_count_of_section (sections_read p) + n) said in
+    let sum : sum_by form_units above + number_in bio.units ≡ sum_by unit_count_of_section (sections_read p) + units = ap (λ (n : ℕ). n + number_in bio.units) (units-read p is) ∙ ap (λ (n : ℕ). sum_by unit_count_of_section (sections_read p) + n) said in
     passed (nat_le (number_in bio.units * sectors_under bio.key above) max_bio_sectors) why.Limit _
     (ap (λ (n : ℕ). nat_le n max_bio_sectors) product ∙ le-leb (units * unit_sectors (bare_keys p.keys) context) max_bio_sectors valid.few_sectors)
-    (passed (nat_le (sum_by units_in above + number_in bio.units) max_units) why.Limit _
+    (passed (nat_le (sum_by form_units above + number_in bio.units) max_units) why.Limit _
     (ap (λ (n : ℕ). nat_le n max_units) sum ∙ le-leb (sum_by unit_count_of_section (sections_read p) + units) max_units fits)
     (op_room p is room))
 
@@ -350,7 +350,7 @@ op_passed p (ops.Write context sector units text) is valid plugs room fits =
     (bio_room p context sector units is valid.0 room fits))
 op_passed p (ops.Read context sector units) is valid plugs room fits = bio_passed p context sector units _ is valid (bio_room p context sector units is valid room fits)
 op_passed p (ops.Evict key) is valid plugs room fits =
-    passed (is_declared (name_of p.keys key) (forms_read p)) why.Name _ (is_declared-read p key is (named_too p.keys key.0 valid)) (op_room p is room)
+    passed (is_declared (key_name_of p.keys key) (forms_read p)) why.Name _ (is_declared-read p key is (named_too p.keys key.0 valid)) (op_room p is room)
 op_passed p (ops.Reset device) is valid plugs room fits =
     let few = is.devices.count in
     let said = number_in-decimal device (omega arith) in

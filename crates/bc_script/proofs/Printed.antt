@@ -1,13 +1,11 @@
 -- What a loop that prints has printed so far.
-use Rattle.std.proofs.Common.{◌≡◌, ℕ, ◌+◌, ◌<◌, List, [], ◌∷◌, ◌++◌, length, take, get_or, map, refl, sym, ap, ◌∙◌, append_assoc}
+use Rattle.std.proofs.Common.{◌≡◌, ℕ, ◌+◌, ◌<◌, List, [], ◌∷◌, ◌++◌, length, take, get_or, refl, sym, ap, ◌∙◌, append_assoc}
 use Rattle.std.specs.Prelude.{codes}
 use Rattle.std.specs.List.{flat_map}
-use Rattle.std.proofs.lemmas.List.{take_more, map_push, append-nil}
+use Rattle.std.proofs.lemmas.List.{take_more, append-nil}
 use Rattle.std.proofs.lemmas.List.Concat.{flat_map-append}
 use Rattle.bc_text.specs.Lines.{TextLine, space, line_feed, fields_text, line_text, lines_text}
-
-lines_text-append : (a b : List TextLine) → lines_text (a ++ b) ≡ lines_text a ++ lines_text b
-lines_text-append a b = flat_map-append line_text a b
+use Rattle.bc_text.proofs.Printing.{lines_text-append}
 
 -- one part of several lines more
 pub parts_more : {X : Type 0} (f : X → List TextLine) (xs : List X) (i : ℕ) (d : X) (old new : List ℕ) → i < length xs
@@ -20,16 +18,7 @@ parts_more {X} f xs i d old new lt e =
     ∙ lines_text-append before (f x ++ []) ∙ ap (λ (t : List TextLine). lines_text before ++ lines_text t) (append-nil (f x)) in
     e ∙ append_assoc old (lines_text before) (lines_text (f x)) ∙ ap (λ (t : List ℕ). old ++ t) (sym step)
 
--- one line more
-pub lines_text_more : {X : Type 0} (f : X → TextLine) (xs : List X) (i : ℕ) (d : X) (old new : List ℕ) → i < length xs → new ≡ (old ++ lines_text (map f (take i xs))) ++ line_text (f (get_or xs i d))
-    → new ≡ old ++ lines_text (map f (take (i + 1) xs))
-lines_text_more f xs i d old new lt e =
-    let step : lines_text (map f (take (i + 1) xs)) ≡ lines_text (map f (take i xs)) ++ line_text (f (get_or xs i d)) =
-    ap (λ (t : List _). lines_text (map f t)) (take_more xs i d lt) ∙ ap lines_text (map_push f (take i xs) (get_or xs i d)) ∙ lines_text-append (map f (take i xs)) (f (get_or xs i d) ∷ [])
-    ∙ ap (λ (t : List ℕ). lines_text (map f (take i xs)) ++ t) (append-nil (line_text (f (get_or xs i d)))) in
-    e ∙ append_assoc old (lines_text (map f (take i xs))) (line_text (f (get_or xs i d))) ∙ ap (λ (t : List ℕ). old ++ t) (sym step)
-
--- one field in front of others, and what stands behind them
+-- one field before others, and what stands after them
 in_front : (x y n r : List ℕ) → y ++ n ≡ r → (x ++ space ∷ y) ++ n ≡ x ++ space ∷ r
 in_front x y n r e = append_assoc x (space ∷ y) n ∙ ap (λ (t : List ℕ). x ++ space ∷ t) e
 

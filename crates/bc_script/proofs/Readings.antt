@@ -18,8 +18,8 @@ use Rattle.bc_script.specs.Order.{may_follow}
 use Rattle.bc_script.specs.ScriptErrors.{with_form, error_at, error_at_end, last_sort, is_end}
 use Rattle.bc_text.specs.Lines.{is_nothing}
 use Rattle.bc_script.specs.Progress.{Progress, IsProgress, IsAt, first_read, with_section, is_in_section, end_read, lines_read, forms_read, sections_read}
-use Rattle.bc_script.specs.Statements.{Fits, FitsDevice, FitsKey, FitsFault, FitsOp, AreWhole, IsClosed, EndsSection, HasRoomFor, IsNext, sort_of_statement, line_of, with_statement, with_section_ended}
-use Rattle.bc_script.specs.Reading.{IsReading, Took, left_section}
+use Rattle.bc_script.specs.Statements.{Fits, FitsDevice, FitsKey, FitsFault, FitsOp, CoverDisk, PlugsAreClosed, EndsSection, HasRoomFor, IsNextStatement, sort_of_statement, statement_line, with_statement, with_section_ended}
+use Rattle.bc_script.specs.Reading.{IsReading, TookScriptLine, left_section}
 use Rattle.bc_script.proofs.FormsRead.{forms_read-step}
 use Rattle.bc_script.proofs.Faults.{fault_fields}
 use Rattle.bc_script.proofs.LineForms.{key_fields, op_form, form_of-fallback, form_of-device_line, form_of-key_line, form_of-fault_line, form_of-op_line}
@@ -150,7 +150,7 @@ module _ (p : Progress) (lines count units : ℕ) (plugged : Bool) (is : IsReadi
       let all = is.unit_count in
       (omega arith, omega arith)
 
-  pub reading_ended : (sort : Sort) → EndsSection sort → may_follow p.last sort ≡ true → IsClosed p → AreWhole p → HasRoomFor p sort → IsReading (with_section_ended p sort) (lines + 1) plugged count units
+  pub reading_ended : (sort : Sort) → EndsSection sort → may_follow p.last sort ≡ true → PlugsAreClosed p → CoverDisk p → HasRoomFor p sort → IsReading (with_section_ended p sort) (lines + 1) plugged count units
   reading_ended sorts.Thread ends follows closed whole room =
       let ops = sum_by-append length (sections_read p) ([] ∷ []) in
       let all = sum_by-append unit_count_of_section (sections_read p) ([] ∷ []) in
@@ -197,13 +197,13 @@ none_left p is = at (is_in_section p.last) refl
 -- what follows passes, and its line is read with it
 module _ (p : Progress) (is : IsProgress p) where
   abbrev TookStatement : Statement → Type 0
-  TookStatement statement = Took p (line_of p.keys statement) (with_statement p statement)
+  TookStatement statement = TookScriptLine p (statement_line p.keys statement) (with_statement p statement)
 
-  taken : (statement : Statement) (form : Form) → form_of (line_of p.keys statement) ≡ Some form → error_at (forms_read p) (line_of p.keys statement) ≡ None → lines_read (with_statement p statement) ≡ lines_read p ++ line_of p.keys statement ∷ [] → TookStatement statement
+  taken : (statement : Statement) (form : Form) → form_of (statement_line p.keys statement) ≡ Some form → error_at (forms_read p) (statement_line p.keys statement) ≡ None → lines_read (with_statement p statement) ≡ lines_read p ++ statement_line p.keys statement ∷ [] → TookStatement statement
   taken statement form is_form passes lines = record {
     passes = passes;
     lines = lines;
-    forms = forms_read-step p (with_statement p statement) (line_of p.keys statement) form lines is_form ∙ sym (ap (λ (f : Option Form). with_form f (forms_read p)) is_form);
+    forms = forms_read-step p (with_statement p statement) (statement_line p.keys statement) form lines is_form ∙ sym (ap (λ (f : Option Form). with_form f (forms_read p)) is_form);
   }
 
   took_statement : (statement : Statement) → may_follow p.last (sort_of_statement statement) ≡ true → Fits p statement → TookStatement statement
@@ -234,9 +234,9 @@ module _ (p : Progress) (is : IsProgress p) where
       (lines_read-op p op is follows)
   took_statement statements.End follows fits = taken statements.End End refl (error_at-passed p end_line End is refl follows (end_passed p is fits.1 fits.0)) (lines_read-end p is follows)
 
-pub took : (p : Progress) (line : TextLine) (statement : Statement) (q : Progress) → IsNext p line statement → q ≡ with_statement p statement → Took p line q
+pub took : (p : Progress) (line : TextLine) (statement : Statement) (q : Progress) → IsNextStatement p line statement → q ≡ with_statement p statement → TookScriptLine p line q
 took p line statement q next same =
-    subst (λ (r : Progress). Took p line r) (sym same) (subst (λ (l : TextLine). Took p l (with_statement p statement)) (sym next.line_is) (took_statement p next.rules statement next.follows next.fits))
+    subst (λ (r : Progress). TookScriptLine p line r) (sym same) (subst (λ (l : TextLine). TookScriptLine p l (with_statement p statement)) (sym next.line_is) (took_statement p next.rules statement next.follows next.fits))
 
 -- ---- the end
 

@@ -22,10 +22,10 @@ use Rattle.bc_script.specs.Script.{bare_keys, unit_count_of_section, max_devices
 use Rattle.bc_script.specs.ScriptText.{dash}
 use Rattle.bc_script.specs.Forms.{Form, DeviceForm, KeyForm, FaultForm, BioForm, TextForm, form_of, sort_of}
 use Rattle.bc_script.specs.Order.{may_follow}
-use Rattle.bc_script.specs.ScriptErrors.{Why, first_of, number_test, is_number, is_number_below, is_device, device_blocks_above, are_whole, device_test, device_tests, is_number_text, is_hex_text, is_text, number_in, bytes_in, is_key, is_fault, is_thread, is_operation, is_declared, sectors_under, is_open, key_refused, key_test, key_tests, fault_tests, ascends, op_limit, bio_limits, bio_tests, size_of, tests_of, is_end, last_sort, error_of_form, error_at}
+use Rattle.bc_script.specs.ScriptErrors.{Why, first_why, number_test, is_number, is_number_below, is_device, device_blocks_above, are_whole, device_test, device_tests, is_number_text, is_hex_text, is_text, number_in, bytes_in, declares_key, plans_fault, is_thread, is_operation, is_declared, sectors_under, is_open, key_refused, key_test, key_tests, fault_tests, ascends, op_limit, bio_limits, bio_tests, size_of, tests_of, is_end, last_sort, error_of_form, error_at}
 use Rattle.bc_script.specs.Progress.{Progress, IsProgress, blocks_of, is_whole, forms_read, sections_read}
 use Rattle.bc_script.specs.NamedKeys.{IsNamed, IsNoName}
-use Rattle.bc_script.specs.Statements.{Reports, Refuses, is_after}
+use Rattle.bc_script.specs.Statements.{Reports, RefusesTest, follows_faults}
 use Rattle.bc_script.specs.Says.{SaysNumber}
 use Rattle.bc_script.specs.DeviceFields.{SaysDevice}
 use Rattle.bc_script.specs.BioFields.{SaysKey, SaysNumberField, SaysBio}
@@ -35,18 +35,18 @@ use Rattle.bc_script.proofs.Above.{devices-read, device_blocks-read, are_whole-r
 -- ---- one test
 
 -- a test that fails is the error
-pub fails : (test : Bool) (kind : ScriptWhy) (next : Why) → test ≡ false → first_of test kind next ≡ Some kind
-fails test kind next e = ap (λ (b : Bool). first_of b kind next) e
+pub fails : (test : Bool) (kind : ScriptWhy) (next : Why) → test ≡ false → first_why test kind next ≡ Some kind
+fails test kind next e = ap (λ (b : Bool). first_why b kind next) e
 
 -- one that is passed is followed by the next
-pub goes_on : (test : Bool) (kind : ScriptWhy) (next : Why) → test ≡ true → first_of test kind next ≡ next
-goes_on test kind next e = ap (λ (b : Bool). first_of b kind next) e
+pub goes_on : (test : Bool) (kind : ScriptWhy) (next : Why) → test ≡ true → first_why test kind next ≡ next
+goes_on test kind next e = ap (λ (b : Bool). first_why b kind next) e
 
-pub refused : (test : Bool) (kind : ScriptWhy) (next : Why) (e : Unread) → Refuses test kind e → Reports (first_of test kind next) e
+pub refused : (test : Bool) (kind : ScriptWhy) (next : Why) (e : Unread) → RefusesTest test kind e → Reports (first_why test kind next) e
 refused test kind next (unread.Bad found) h = fails test kind next h.0 ∙ ap (λ (k : ScriptWhy). let w : Why = Some k in w) (sym h.1)
 refused test kind next unread.Memory h = tt
 
--- an error of the tests behind those that are passed
+-- an error of the tests after those that are passed
 pub tells : (before next : Why) (e : Unread) → before ≡ next → Reports next e → Reports before e
 tells before next e same h = subst (λ (w : Why). Reports w e) (sym same) h
 
@@ -90,7 +90,7 @@ module _ (p : Progress) (line : TextLine) (last : Option Sort) (is : IsProgress 
     follow_is : may_follow (last_sort (forms_read p)) (sort_of form) ≡ may_follow last (sort_of form)
     follow_is = ap (λ (l : Option Sort). may_follow l (sort_of form)) nearest_is
 
-    at_form : is_end last ≡ false → error_at (forms_read p) line ≡ first_of (may_follow (last_sort (forms_read p)) (sort_of form)) why.Word (tests_of (forms_read p) form)
+    at_form : is_end last ≡ false → error_at (forms_read p) line ≡ first_why (may_follow (last_sort (forms_read p)) (sort_of form)) why.Word (tests_of (forms_read p) form)
     at_form e = past_end e ∙ ap (error_of_form (forms_read p)) (sym is_form)
 
     pub elsewhere : is_end last ≡ false → may_follow last (sort_of form) ≡ false → error_at (forms_read p) line ≡ Some why.Word
@@ -109,19 +109,19 @@ follows_here p last form sort follows nearest sorted test holds =
 pub open_is : (p : Progress) (lines count units : ℕ) (plugged : Bool) → IsReading p lines plugged count units → is_open (forms_read p) ≡ plugged
 open_is p lines count units plugged is = is_open-read p plugged is.rules is.plug
 
-pub is_plugged : (p : Progress) (lines count units : ℕ) (plugged : Bool) (next : Why) → IsReading p lines plugged count units → plugged ≡ true → first_of (not (is_open (forms_read p))) why.Order next ≡ Some why.Order
+pub is_plugged : (p : Progress) (lines count units : ℕ) (plugged : Bool) (next : Why) → IsReading p lines plugged count units → plugged ≡ true → first_why (not (is_open (forms_read p))) why.Order next ≡ Some why.Order
 is_plugged p lines count units plugged next is holds = fails _ why.Order next (not_true _ (open_is p lines count units plugged is ∙ holds))
 
-pub is_unplugged : (p : Progress) (lines count units : ℕ) (plugged : Bool) (next : Why) → IsReading p lines plugged count units → plugged ≡ false → first_of (not (is_open (forms_read p))) why.Order next ≡ next
+pub is_unplugged : (p : Progress) (lines count units : ℕ) (plugged : Bool) (next : Why) → IsReading p lines plugged count units → plugged ≡ false → first_why (not (is_open (forms_read p))) why.Order next ≡ next
 is_unplugged p lines count units plugged next is denied = goes_on _ why.Order next (not_false _ (open_is p lines count units plugged is ∙ denied))
 
 pub no_room : (p : Progress) (room : Bool) → IsProgress p → room ≡ nat_lt (sum_by length (sections_read p)) max_ops → room ≡ false → op_limit (forms_read p) ≡ Some why.Limit
 no_room p room is test denied = fails (nat_lt (count_by is_operation (forms_read p)) max_ops) why.Limit None (ap (λ (n : ℕ). nat_lt n max_ops) (operations-read p is) ∙ sym test ∙ denied)
 
-pub too_many_threads : (p : Progress) (count : ℕ) → IsProgress p → count ≡ length (sections_read p) → max_threads ≤ count → first_of (nat_lt (count_by is_thread (forms_read p)) max_threads) why.Limit None ≡ Some why.Limit
+pub too_many_threads : (p : Progress) (count : ℕ) → IsProgress p → count ≡ length (sections_read p) → max_threads ≤ count → first_why (nat_lt (count_by is_thread (forms_read p)) max_threads) why.Limit None ≡ Some why.Limit
 too_many_threads p count is same many = fails (nat_lt (count_by is_thread (forms_read p)) max_threads) why.Limit None (ap (λ (n : ℕ). nat_lt n max_threads) (threads-read p is ∙ sym same) ∙ at_least count max_threads many)
 
--- ---- devices at the lines behind them
+-- ---- devices at the lines after them
 
 -- devices that don't have the disk's blocks together fail
 pub not_whole : (p : Progress) (next : Why) (whole : Bool) → IsProgress p → whole ≡ is_whole p → whole ≡ false → device_test (forms_read p) next ≡ Some why.Device
@@ -135,13 +135,13 @@ goes_on_whole p next whole is test holds = goes_on (are_whole (forms_read p)) wh
 pub below_is : (p : Progress) (count : ℕ) (field : List ℕ) → IsProgress p → count ≡ length p.targets → is_number_below (count_by is_device (forms_read p)) field ≡ is_number_below count field
 below_is p count field is same = ap (λ (n : ℕ). is_number_below n field) (devices-read p is ∙ sym same)
 
-pub reset_refused : (p : Progress) (count : ℕ) (field : List ℕ) (e : Unread) → IsProgress p → count ≡ length p.targets → Refuses (is_number_below count field) why.Number e
-    → Reports (first_of (is_number_below (count_by is_device (forms_read p)) field) why.Number (op_limit (forms_read p))) e
+pub reset_refused : (p : Progress) (count : ℕ) (field : List ℕ) (e : Unread) → IsProgress p → count ≡ length p.targets → RefusesTest (is_number_below count field) why.Number e
+    → Reports (first_why (is_number_below (count_by is_device (forms_read p)) field) why.Number (op_limit (forms_read p))) e
 reset_refused p count field e is same r =
-    refused (is_number_below (count_by is_device (forms_read p)) field) why.Number (op_limit (forms_read p)) e (subst (λ (b : Bool). Refuses b why.Number e) (sym (below_is p count field is same)) r)
+    refused (is_number_below (count_by is_device (forms_read p)) field) why.Number (op_limit (forms_read p)) e (subst (λ (b : Bool). RefusesTest b why.Number e) (sym (below_is p count field is same)) r)
 
 pub reset_without_room : (p : Progress) (count : ℕ) (field : List ℕ) (room : Bool) → IsProgress p → count ≡ length p.targets → is_number_below count field ≡ true → room ≡ nat_lt (sum_by length (sections_read p)) max_ops → room ≡ false
-    → first_of (is_number_below (count_by is_device (forms_read p)) field) why.Number (op_limit (forms_read p)) ≡ Some why.Limit
+    → first_why (is_number_below (count_by is_device (forms_read p)) field) why.Number (op_limit (forms_read p)) ≡ Some why.Limit
 reset_without_room p count field room is same passes test denied =
     goes_on (is_number_below (count_by is_device (forms_read p)) field) why.Number (op_limit (forms_read p)) (below_is p count field is same ∙ passes) ∙ no_room p room is test denied
 
@@ -175,13 +175,13 @@ module _ (above : List Form) (key : KeyForm) where
   name_test = is_name key.name && not (is_declared key.name above)
 
   abbrev limit_left : Why
-  limit_left = device_test above (first_of (nat_lt (count_by is_key above) max_keys) why.Limit None)
+  limit_left = device_test above (first_why (nat_lt (count_by declares_key above) max_keys) why.Limit None)
 
   abbrev key_left : Why
   key_left = key_test (key_refused key) limit_left
 
   abbrev digits_left : Why
-  digits_left = first_of (is_hex_text 1 128 key.digits) why.Hex key_left
+  digits_left = first_why (is_hex_text 1 128 key.digits) why.Hex key_left
 
   abbrev dun_left : Why
   dun_left = number_test 0 255 key.dun_bytes digits_left
@@ -201,10 +201,10 @@ module _ (above : List Form) (key : KeyForm) where
   past_digits : name_test ≡ true → is_number 0 4294967295 key.unit ≡ true → is_number 0 255 key.dun_bytes ≡ true → is_hex_text 1 128 key.digits ≡ true → key_tests above key ≡ key_left
   past_digits n u d h = past_dun n u d ∙ goes_on (is_hex_text 1 128 key.digits) why.Hex key_left h
 
-  pub key_unit_refused : (e : Unread) → name_test ≡ true → Refuses (is_number 0 4294967295 key.unit) why.Number e → Reports (key_tests above key) e
+  pub key_unit_refused : (e : Unread) → name_test ≡ true → RefusesTest (is_number 0 4294967295 key.unit) why.Number e → Reports (key_tests above key) e
   key_unit_refused e n r = tells (key_tests above key) unit_left e (past_name n) (refused (is_number 0 4294967295 key.unit) why.Number dun_left e r)
 
-  pub key_dun_refused : (e : Unread) → name_test ≡ true → is_number 0 4294967295 key.unit ≡ true → Refuses (is_number 0 255 key.dun_bytes) why.Number e → Reports (key_tests above key) e
+  pub key_dun_refused : (e : Unread) → name_test ≡ true → is_number 0 4294967295 key.unit ≡ true → RefusesTest (is_number 0 255 key.dun_bytes) why.Number e → Reports (key_tests above key) e
   key_dun_refused e n u r = tells (key_tests above key) dun_left e (past_unit n u) (refused (is_number 0 255 key.dun_bytes) why.Number digits_left e r)
 
   pub key_digits_refused : name_test ≡ true → is_number 0 4294967295 key.unit ≡ true → is_number 0 255 key.dun_bytes ≡ true → is_hex_text 1 128 key.digits ≡ false → key_tests above key ≡ Some why.Hex
@@ -225,7 +225,7 @@ module _ (above : List Form) (key : KeyForm) where
 
       module _ (p : Progress) (whole : Bool) (forms : above ≡ forms_read p) (is : IsProgress p) (test : whole ≡ is_whole p) where
         abbrev room_left : List Form → Why
-        room_left forms = first_of (nat_lt (count_by is_key forms) max_keys) why.Limit None
+        room_left forms = first_why (nat_lt (count_by declares_key forms) max_keys) why.Limit None
 
         pub key_not_whole : whole ≡ false → key_tests above key ≡ Some why.Device
         key_not_whole denied = past_key_test ∙ ap (λ (fs : List Form). device_test fs (room_left fs)) forms ∙ not_whole p (room_left (forms_read p)) whole is test denied
@@ -235,16 +235,16 @@ module _ (above : List Form) (key : KeyForm) where
             past_key_test
             ∙ ap (λ (fs : List Form). device_test fs (room_left fs)) forms
             ∙ goes_on_whole p (room_left (forms_read p)) whole is test holds
-            ∙ fails (nat_lt (count_by is_key (forms_read p)) max_keys) why.Limit None (ap (λ (n : ℕ). nat_lt n max_keys) (keys-read p is ∙ sym same) ∙ at_least count max_keys many)
+            ∙ fails (nat_lt (count_by declares_key (forms_read p)) max_keys) why.Limit None (ap (λ (n : ℕ). nat_lt n max_keys) (keys-read p is ∙ sym same) ∙ at_least count max_keys many)
 
 -- ---- a device's line
 
 module _ (p : Progress) (form : DeviceForm) (device : Target) (end : ℕ) (is : IsProgress p) (says : SaysDevice form device) (end_is : end ≡ blocks_of p.targets) where
   abbrev devices_left : Why
-  devices_left = first_of (nat_lt (count_by is_device (forms_read p)) max_devices) why.Limit None
+  devices_left = first_why (nat_lt (count_by is_device (forms_read p)) max_devices) why.Limit None
 
   abbrev first_left : Why
-  first_left = first_of (nat_eq (number_in form.first) (device_blocks_above (forms_read p))) why.Device devices_left
+  first_left = first_why (nat_eq (number_in form.first) (device_blocks_above (forms_read p))) why.Device devices_left
 
   first_test : nat_eq (number_in form.first) (device_blocks_above (forms_read p)) ≡ nat_eq device.first end
   first_test = λ i. nat_eq (sym says.first_is i) ((device_blocks-read p is ∙ sym end_is) i)
@@ -264,10 +264,10 @@ module _ (p : Progress) (form : DeviceForm) (device : Target) (end : ℕ) (is : 
 
 module _ (above : List Form) (fault : FaultForm) where
   abbrev fault_limit_left : Why
-  fault_limit_left = device_test above (first_of (nat_lt (count_by is_fault above) max_faults) why.Limit None)
+  fault_limit_left = device_test above (first_why (nat_lt (count_by plans_fault above) max_faults) why.Limit None)
 
   abbrev order_left : Why
-  order_left = first_of (ascends above fault) why.Order fault_limit_left
+  order_left = first_why (ascends above fault) why.Order fault_limit_left
 
   abbrev access_left : Why
   access_left = number_test 0 last_access fault.access order_left
@@ -278,20 +278,20 @@ module _ (above : List Form) (fault : FaultForm) where
   past_access : is_number 0 last_shard fault.shard ≡ true → is_number 0 last_access fault.access ≡ true → fault_tests above fault ≡ order_left
   past_access s a = past_shard s ∙ goes_on (is_number 0 last_access fault.access) why.Number order_left a
 
-  pub fault_access_refused : (e : Unread) → is_number 0 last_shard fault.shard ≡ true → Refuses (is_number 0 last_access fault.access) why.Number e → Reports (fault_tests above fault) e
+  pub fault_access_refused : (e : Unread) → is_number 0 last_shard fault.shard ≡ true → RefusesTest (is_number 0 last_access fault.access) why.Number e → Reports (fault_tests above fault) e
   fault_access_refused e s r = tells (fault_tests above fault) access_left e (past_shard s) (refused (is_number 0 last_access fault.access) why.Number order_left e r)
 
 module _ (p : Progress) (fault : FaultForm) (shard access : ℕ) (after : Bool) (is : IsProgress p) (says_shard : SaysNumber 0 last_shard fault.shard shard) (says_access : SaysNumber 0 last_access fault.access access)
-    (test : after ≡ is_after p.faults (shard, access)) where
+    (test : after ≡ follows_faults p.faults (shard, access)) where
   pub after_is : ascends (forms_read p) fault ≡ after
-  after_is = ascends-read p fault is ∙ (λ i. is_after p.faults (sym says_shard.value i, sym says_access.value i)) ∙ sym test
+  after_is = ascends-read p fault is ∙ (λ i. follows_faults p.faults (sym says_shard.value i, sym says_access.value i)) ∙ sym test
 
   pub fault_out_of_order : after ≡ false → fault_tests (forms_read p) fault ≡ Some why.Order
   fault_out_of_order denied = past_access (forms_read p) fault says_shard.passes says_access.passes ∙ fails (ascends (forms_read p) fault) why.Order _ (after_is ∙ denied)
 
   module _ (whole : Bool) (holds : after ≡ true) (whole_test : whole ≡ is_whole p) where
     abbrev faults_left : Why
-    faults_left = first_of (nat_lt (count_by is_fault (forms_read p)) max_faults) why.Limit None
+    faults_left = first_why (nat_lt (count_by plans_fault (forms_read p)) max_faults) why.Limit None
 
     past_order : fault_tests (forms_read p) fault ≡ device_test (forms_read p) faults_left
     past_order = past_access (forms_read p) fault says_shard.passes says_access.passes ∙ goes_on (ascends (forms_read p) fault) why.Order _ (after_is ∙ holds)
@@ -303,7 +303,7 @@ module _ (p : Progress) (fault : FaultForm) (shard access : ℕ) (after : Bool) 
     too_many_faults count is_so same many =
         past_order
         ∙ goes_on_whole p faults_left whole is whole_test is_so
-        ∙ fails (nat_lt (count_by is_fault (forms_read p)) max_faults) why.Limit None (ap (λ (n : ℕ). nat_lt n max_faults) (faults-read p is ∙ sym same) ∙ at_least count max_faults many)
+        ∙ fails (nat_lt (count_by plans_fault (forms_read p)) max_faults) why.Limit None (ap (λ (n : ℕ). nat_lt n max_faults) (faults-read p is ∙ sym same) ∙ at_least count max_faults many)
 
 -- ---- the fields of a bio
 
@@ -323,7 +323,7 @@ module _ (above : List Form) (bio : BioForm) (next : Why) where
   number_ok = bytes_eq bio.number dash || is_number_text bio.number
 
   abbrev number_left : Why
-  number_left = first_of number_ok why.Number next
+  number_left = first_why number_ok why.Number next
 
   abbrev units_left : Why
   units_left = number_test 0 max_bio_units bio.units number_left
@@ -343,16 +343,16 @@ module _ (above : List Form) (bio : BioForm) (next : Why) where
   pub bio_passes : key_ok ≡ true → is_number 0 4294967295 bio.sector ≡ true → is_number 0 max_bio_units bio.units ≡ true → number_ok ≡ true → bio_tests above bio next ≡ next
   bio_passes k s u n = past_units k s u ∙ goes_on number_ok why.Number next n
 
-  pub bio_key_refused : (e : Unread) → Refuses key_ok why.Name e → Reports (bio_tests above bio next) e
+  pub bio_key_refused : (e : Unread) → RefusesTest key_ok why.Name e → Reports (bio_tests above bio next) e
   bio_key_refused e r = refused key_ok why.Name sector_left e r
 
-  pub bio_sector_refused : (e : Unread) → key_ok ≡ true → Refuses (is_number 0 4294967295 bio.sector) why.Number e → Reports (bio_tests above bio next) e
+  pub bio_sector_refused : (e : Unread) → key_ok ≡ true → RefusesTest (is_number 0 4294967295 bio.sector) why.Number e → Reports (bio_tests above bio next) e
   bio_sector_refused e k r = tells (bio_tests above bio next) sector_left e (past_key k) (refused (is_number 0 4294967295 bio.sector) why.Number units_left e r)
 
-  pub bio_units_refused : (e : Unread) → key_ok ≡ true → is_number 0 4294967295 bio.sector ≡ true → Refuses (is_number 0 max_bio_units bio.units) why.Number e → Reports (bio_tests above bio next) e
+  pub bio_units_refused : (e : Unread) → key_ok ≡ true → is_number 0 4294967295 bio.sector ≡ true → RefusesTest (is_number 0 max_bio_units bio.units) why.Number e → Reports (bio_tests above bio next) e
   bio_units_refused e k s r = tells (bio_tests above bio next) units_left e (past_sector k s) (refused (is_number 0 max_bio_units bio.units) why.Number number_left e r)
 
-  pub bio_number_refused : (e : Unread) → key_ok ≡ true → is_number 0 4294967295 bio.sector ≡ true → is_number 0 max_bio_units bio.units ≡ true → Refuses number_ok why.Number e → Reports (bio_tests above bio next) e
+  pub bio_number_refused : (e : Unread) → key_ok ≡ true → is_number 0 4294967295 bio.sector ≡ true → is_number 0 max_bio_units bio.units ≡ true → RefusesTest number_ok why.Number e → Reports (bio_tests above bio next) e
   bio_number_refused e k s u r = tells (bio_tests above bio next) number_left e (past_units k s u) (refused number_ok why.Number next e r)
 
 -- ---- the limits of a bio
@@ -367,14 +367,14 @@ module _ (p : Progress) (bio : BioForm) (fields : BioFields) (sectors : ℕ) (is
   abbrev room_for : Bool
   room_for = nat_le (fields.units * sectors) max_bio_sectors && (nat_le (sum_by unit_count_of_section (sections_read p) + fields.units) max_units && nat_lt (sum_by length (sections_read p)) max_ops)
 
-  limits_are : (a b c : Bool) → first_of a why.Limit (first_of b why.Limit (first_of c why.Limit None)) ≡ first_of (a && (b && c)) why.Limit None
+  limits_are : (a b c : Bool) → first_why a why.Limit (first_why b why.Limit (first_why c why.Limit None)) ≡ first_why (a && (b && c)) why.Limit None
   limits_are true true c = refl
   limits_are true false c = refl
   limits_are false b c = refl
 
-  pub bio_limits_are : bio_limits (forms_read p) bio ≡ first_of room_for why.Limit None
+  pub bio_limits_are : bio_limits (forms_read p) bio ≡ first_why room_for why.Limit None
   bio_limits_are =
-      (λ i. first_of (nat_le (says.units_in i * sectors_are i) max_bio_sectors) why.Limit (first_of (nat_le (units-read p is i + says.units_in i) max_units) why.Limit (first_of (nat_lt (operations-read p is i) max_ops) why.Limit None)))
+      (λ i. first_why (nat_le (says.units_in i * sectors_are i) max_bio_sectors) why.Limit (first_why (nat_le (units-read p is i + says.units_in i) max_units) why.Limit (first_why (nat_lt (operations-read p is i) max_ops) why.Limit None)))
       ∙ limits_are (nat_le (fields.units * sectors) max_bio_sectors) (nat_le (sum_by unit_count_of_section (sections_read p) + fields.units) max_units) (nat_lt (sum_by length (sections_read p)) max_ops)
 
   pub no_room_for : (room : Bool) → room ≡ room_for → room ≡ false → bio_limits (forms_read p) bio ≡ Some why.Limit
@@ -382,13 +382,13 @@ module _ (p : Progress) (bio : BioForm) (fields : BioFields) (sectors : ℕ) (is
 
   -- ---- the text of a write
 
-  pub text_refused : (text : TextForm) (e : Unread) → Refuses (is_text (fields.units * (512 * sectors)) text) why.Hex e → Reports (bio_tests (forms_read p) bio (first_of (is_text (size_of (forms_read p) bio) text) why.Hex (bio_limits (forms_read p) bio))) e
+  pub text_refused : (text : TextForm) (e : Unread) → RefusesTest (is_text (fields.units * (512 * sectors)) text) why.Hex e → Reports (bio_tests (forms_read p) bio (first_why (is_text (size_of (forms_read p) bio) text) why.Hex (bio_limits (forms_read p) bio))) e
   text_refused text e r =
-      let left = first_of (is_text (size_of (forms_read p) bio) text) why.Hex (bio_limits (forms_read p) bio) in
+      let left = first_why (is_text (size_of (forms_read p) bio) text) why.Hex (bio_limits (forms_read p) bio) in
       tells (bio_tests (forms_read p) bio left) left e (says.passes left)
-      (refused (is_text (size_of (forms_read p) bio) text) why.Hex (bio_limits (forms_read p) bio) e (subst (λ (size : ℕ). Refuses (is_text size text) why.Hex e) (sym size_is) r))
+      (refused (is_text (size_of (forms_read p) bio) text) why.Hex (bio_limits (forms_read p) bio) e (subst (λ (size : ℕ). RefusesTest (is_text size text) why.Hex e) (sym size_is) r))
 
   pub write_without_room : (text : TextForm) (room : Bool) → is_text (fields.units * (512 * sectors)) text ≡ true → room ≡ room_for → room ≡ false
-      → bio_tests (forms_read p) bio (first_of (is_text (size_of (forms_read p) bio) text) why.Hex (bio_limits (forms_read p) bio)) ≡ Some why.Limit
+      → bio_tests (forms_read p) bio (first_why (is_text (size_of (forms_read p) bio) text) why.Hex (bio_limits (forms_read p) bio)) ≡ Some why.Limit
   write_without_room text room passes test denied =
       says.passes _ ∙ goes_on (is_text (size_of (forms_read p) bio) text) why.Hex _ (ap (λ (size : ℕ). is_text size text) size_is ∙ passes) ∙ no_room_for room test denied

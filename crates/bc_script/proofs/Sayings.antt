@@ -1,4 +1,4 @@
--- What a line says where it passes its tests, and that it fits behind what has been read.
+-- What a line says where it passes its tests, and that it fits after what has been read.
 use Rattle.std.proofs.Common.{◌≡◌, ℕ, zero, suc, ◌<◌, ◌≤◌, ◌+◌, ◌*◌, Bool, true, false, not, ◌&&◌, if◌then◌else◌, nat_lt, nat_le, List, [], ◌∷◌, ◌++◌, length, Option, Some, None, is_some, bytes_eq, Result, Ok, Err, refl, sym, ap, subst, ◌∙◌, arith, ltb-true, leb-true}
 use Rattle.std.specs.Prelude.{codes, sum_by, MatchOption, MatchResult, IfOk, IfErr, IsSome, IsTrue}
 use Rattle.std.proofs.lemmas.Bool.{and_parts}
@@ -25,7 +25,7 @@ use Rattle.bc_script.specs.ScriptErrors.{Why, is_declared, tests_of, error_at}
 use Rattle.bc_script.specs.Progress.{Progress, IsProgress, forms_read, sections_read}
 use Rattle.bc_script.specs.Says.{SaysNumber, SaysNumberBelow}
 use Rattle.bc_script.specs.NamedKeys.{IsNamed, IsNoName}
-use Rattle.bc_script.specs.Statements.{IsStatementOf, IsNext, Reports, form_line}
+use Rattle.bc_script.specs.Statements.{IsStatementOf, IsNextStatement, Reports, form_line}
 use Rattle.bc_script.specs.BioFields.{IsNewName, IsDeclared, SaysKey, SaysNumberField, SaysBio, SaysText, IsTextOf, context_with}
 use Rattle.bc_script.specs.Reading.{IsReading}
 use Rattle.bc_script.proofs.LineForms.{bytes_eq-same, bytes_eq-other}
@@ -214,7 +214,7 @@ module _ (p : Progress) (bio : BioForm) (fields : BioFields) (sectors : ℕ) (ro
 
 -- ---- the whole line
 
-pub next_is : (p : Progress) (line : TextLine) (form : Form) (said : Result Statement Unread) → IsProgress p → line ≡ form_line form → may_follow p.last (sort_of form) ≡ true → MatchResult said (IsStatementOf p form) (Reports (tests_of (forms_read p) form)) → IfOk said (IsNext p line)
+pub next_is : (p : Progress) (line : TextLine) (form : Form) (said : Result Statement Unread) → IsProgress p → line ≡ form_line form → may_follow p.last (sort_of form) ≡ true → MatchResult said (IsStatementOf p form) (Reports (tests_of (forms_read p) form)) → IfOk said (IsNextStatement p line)
 next_is p line form (Ok statement) rules line_is follows is = record { rules = rules; line_is = line_is ∙ is.line_is; follows = ap (λ (s : Sort). may_follow p.last s) (sym is.sort_is) ∙ follows; fits = is.fits }
 next_is p line form (Err e) rules line_is follows tells = tt
 

@@ -45,7 +45,7 @@ thread_is_no_end a b e = clash (codes "thread") (codes "end") [] [] refl (first_
     first_line : (x y : TextLine) (a b : List TextLine) → x ∷ a ≡ y ∷ b → x ≡ y
     first_line x y a b e = cc
 
--- the lines of sections and the last line, and what stands behind them
+-- the lines of sections and the last line, and what stands after them
 abbrev sections_and_end : List NamedKey → List (List Op) → List TextLine → List TextLine
 sections_and_end keys threads rest = flat_map (section_lines keys) threads ++ end_line ∷ rest
 
@@ -71,7 +71,7 @@ begins_no_other_sections devices keys are few (s ∷ a) (t ∷ b) c p q e =
 
 -- ---- planned faults
 
--- the lines of faults and of what follows them, and what stands behind that
+-- the lines of faults and of what follows them, and what stands after that
 abbrev faults_and_rest : List NamedKey → List (ℕ × ℕ) → List (List Op) → List TextLine → List TextLine
 faults_and_rest keys faults threads rest = map fault_line faults ++ sections_and_end keys threads rest
 
@@ -102,7 +102,7 @@ ends_keys keys (fault ∷ faults) threads rest e = clash_words (codes "fault") (
 
 -- ---- devices
 
--- the lines of keys and of what follows them, and what stands behind that
+-- the lines of keys and of what follows them, and what stands after that
 abbrev keys_and_rest : Script → List TextLine → List TextLine
 keys_and_rest s rest = map key_line s.keys ++ faults_and_rest s.keys s.faults s.threads rest
 

@@ -17,7 +17,7 @@ use Rattle.bc_script.specs.Script.{IsDiskSize, IsDevice, AreKeys, IsNamedKey, Is
 use Rattle.bc_script.specs.ScriptText.{version_line, disk_line, fallback_line, device_line, key_line, fault_line, thread_line, op_line, section_lines, end_line}
 use Rattle.bc_script.specs.Order.{may_follow}
 use Rattle.bc_script.specs.Progress.{Progress, IsProgress, IsAt, blocks_of, first_read, head_read, with_section, is_in_section, end_read, lines_read, sections_read}
-use Rattle.bc_script.specs.Statements.{is_after}
+use Rattle.bc_script.specs.Statements.{follows_faults}
 use Rattle.bc_script.proofs.Onto.{map-append, AllByRecursion-append}
 use Rattle.bc_script.proofs.Faults.{no_faults, AreFaults-push}
 use Rattle.bc_script.proofs.Devices.{no_devices, follow_push}
@@ -73,7 +73,7 @@ first_only p last keys faults threads targets nearest outside unended =
     ∙ append-nil (first_read p.last p.blocks p.fallback)
     ∙ ap (λ (l : Option Sort). first_read l p.blocks p.fallback) nearest
 
--- behind which lines each of the first three stands
+-- after which lines each of the first three stands
 behind_none : (last : Option Sort) → may_follow last sorts.Version ≡ true → last ≡ None
 behind_none None h = refl
 behind_none (Some sorts.Version) h = absurd cc
@@ -173,9 +173,9 @@ lines_read-fallback p on is follows =
     let before : lines_read p ≡ version_line ∷ disk_line p.blocks ∷ [] = first_only p (Some sorts.Disk) at.1 at.2 at.3 at.5 last refl refl in
     first_only (with_fallback p on) (Some sorts.Fallback) at.1 at.2 at.3 at.5 refl refl refl ∙ sym (ap (λ (ls : List TextLine). ls ++ fallback_line on ∷ []) before)
 
--- ---- behind the first three lines
+-- ---- after the first three lines
 
--- Behind the first three lines, and before the end.
+-- After the first three lines, and before the end.
 record IsBehindHead (last : Option Sort) : Type 0 where
   head : (blocks : ℕ) (fallback : Bool) → first_read last blocks fallback ≡ version_line ∷ disk_line blocks ∷ fallback_line fallback ∷ []
   unended : end_read last ≡ []
@@ -206,7 +206,7 @@ thread_or_end (Some sorts.Thread) = refl
 thread_or_end (Some sorts.Operation) = refl
 thread_or_end (Some sorts.End) = refl
 
--- a planned fault stands behind the first three lines, keys and other faults, so there are no sections yet
+-- a planned fault stands after the first three lines, keys and other faults, so there are no sections yet
 record IsBeforeSections (last : Option Sort) : Type 0 where
   ends : may_follow last sorts.End ≡ true
   outside : is_in_section last ≡ false
@@ -290,7 +290,7 @@ full_head p = version_line ∷ disk_line p.blocks ∷ fallback_line p.fallback �
 head_is : (p : Progress) → IsBehindHead p.last → head_read p ≡ full_head p
 head_is p behind = ap (λ (first : List TextLine). first ++ map device_line p.targets) (behind.head p.blocks p.fallback)
 
--- the lines behind the head
+-- the lines after the head
 body : (p : Progress) → IsBehindHead p.last → lines_read p ≡ full_head p ++ (map key_line p.keys ++ (map fault_line p.faults ++ flat_map (section_lines p.keys) (sections_read p)))
 body p behind =
     let sections = flat_map (section_lines p.keys) (sections_read p) in
@@ -298,11 +298,11 @@ body p behind =
     ∙ ap (λ (end : List TextLine). full_head p ++ (map key_line p.keys ++ (map fault_line p.faults ++ (sections ++ end)))) behind.unended
     ∙ ap (λ (ls : List TextLine). full_head p ++ (map key_line p.keys ++ (map fault_line p.faults ++ ls))) (append-nil sections)
 
--- one more line behind three lists of lines
+-- one more line after three lists of lines
 one_more : (a b c : List TextLine) (line : TextLine) → (a ++ (b ++ c)) ++ line ∷ [] ≡ a ++ (b ++ (c ++ line ∷ []))
 one_more a b c line = append_assoc a (b ++ c) (line ∷ []) ∙ ap (λ (ls : List TextLine). a ++ ls) (append_assoc b c (line ∷ []))
 
--- and behind four
+-- and after four
 one_more_behind : (a b c d : List TextLine) (line : TextLine) → (a ++ (b ++ (c ++ d))) ++ line ∷ [] ≡ a ++ (b ++ (c ++ (d ++ line ∷ [])))
 one_more_behind a b c d line = one_more a b (c ++ d) line ∙ ap (λ (ls : List TextLine). a ++ (b ++ ls)) (append_assoc c d (line ∷ []))
 
@@ -445,7 +445,7 @@ lines_read-fault p fault is follows =
     ∙ ap (λ (ls : List TextLine). full_head p ++ (keys ++ ls)) (append-nil (map fault_line faults) ∙ map-append fault_line p.faults (fault ∷ []))
     ∙ sym (ap (λ (ls : List TextLine). ls ++ fault_line fault ∷ []) old ∙ one_more_behind (full_head p) keys (map fault_line p.faults) [] (fault_line fault))
 
-pub IsProgress-fault : (p : Progress) (fault : ℕ × ℕ) → IsProgress p → may_follow p.last sorts.Fault ≡ true → CoverAll p.blocks p.targets → IsFault fault → is_after p.faults fault ≡ true → length p.faults < max_faults → IsProgress (with_fault p fault)
+pub IsProgress-fault : (p : Progress) (fault : ℕ × ℕ) → IsProgress p → may_follow p.last sorts.Fault ≡ true → CoverAll p.blocks p.targets → IsFault fault → follows_faults p.faults fault ≡ true → length p.faults < max_faults → IsProgress (with_fault p fault)
 IsProgress-fault p fault is follows whole valid after room =
     let before = before_sections p.last follows in
     let threads = before.threads p is.at in

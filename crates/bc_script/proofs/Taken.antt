@@ -32,14 +32,14 @@ use Rattle.bc_script.specs.declared.script_error.ScriptWhy.{ScriptWhy}
 use Rattle.bc_script.specs.declared.script_error.ScriptWhy.TheVariants as why
 use Rattle.bc_script.specs.Name.{is_name}
 use Rattle.bc_script.specs.Script.{IsDevice, IsNamedKey, IsFault, IsContext, IsBio, IsText, IsOp, bare_keys, open_after, unit_count, unit_count_of_section, max_blocks, last_block, max_devices, max_slots, max_unit_mask, max_device_dun_bytes, max_keys, max_faults, last_shard, last_access, max_threads, max_ops, max_units, max_bio_units, max_bio_sectors}
-use Rattle.bc_script.specs.ScriptText.{dash, name_of, key_field, number_field, device_line, key_line, fault_line, op_line}
+use Rattle.bc_script.specs.ScriptText.{dash, key_name_of, key_field, number_field, device_line, key_line, fault_line, op_line}
 use Rattle.bc_script.specs.Forms.{Form, DeviceForm, KeyForm, FaultForm, BioForm, TextForm, Fill, Hex, Version, Disk, Fallback, Device, Key, Fault, Thread, Write, Read, Evict, Reset, Plug, Unplug, End, form_of, sort_of, dashes_agree}
 use Rattle.bc_script.specs.Order.{may_follow}
-use Rattle.bc_script.specs.ScriptErrors.{Why, first_of, is_number, is_number_below, is_device, device_blocks_above, are_whole, device_test, device_fields, is_number_text, number_in, bytes_in, is_hex_text, number_test, key_refused, key_test, is_declared, sectors_under, is_open, fault_in, ascends, is_key, is_fault, is_thread, is_operation, units_in, op_limit, bio_limits, bio_tests, is_text, size_of, last_sort, is_end, tests_of, error_of_form, error_at}
+use Rattle.bc_script.specs.ScriptErrors.{Why, first_why, is_number, is_number_below, is_device, device_blocks_above, are_whole, device_test, device_fields, is_number_text, number_in, bytes_in, is_hex_text, number_test, key_refused, key_test, is_declared, sectors_under, is_open, fault_in, ascends, declares_key, plans_fault, is_thread, is_operation, form_units, op_limit, bio_limits, bio_tests, is_text, size_of, last_sort, is_end, tests_of, error_of_form, error_at}
 use Rattle.bc_script.specs.Progress.{Progress, IsProgress, blocks_of, lines_read, forms_read, sections_read}
 use Rattle.bc_script.proofs.ByteLists.{All-IsBytes}
 use Rattle.bc_script.proofs.Fields.{number_in-decimal, decimal-number_in, number_text-is_number_text, IsBytes-bytes_in, encode_lower-bytes_in}
-use Rattle.bc_script.specs.Statements.{form_line, DashesAgree, is_after}
+use Rattle.bc_script.specs.Statements.{form_line, DashesAgree, follows_faults}
 use Rattle.bc_script.specs.DeviceFields.{device_form}
 use Rattle.bc_script.proofs.Devices.{covers}
 use Rattle.bc_script.proofs.FormLines.{IsLineOf-form_of}
@@ -57,7 +57,7 @@ pub record Took (p : Progress) (line : TextLine) : Type 0 where
 -- ---- tests, one after the other
 
 -- where no test fails, the first is passed, and no other fails
-both_passed : (test : Bool) (kind : ScriptWhy) (next : Why) → first_of test kind next ≡ None → (test ≡ true) × (next ≡ None)
+both_passed : (test : Bool) (kind : ScriptWhy) (next : Why) → first_why test kind next ≡ None → (test ≡ true) × (next ≡ None)
 both_passed true kind next e = (refl, e)
 both_passed false kind next e = absurd cc
 
@@ -126,7 +126,7 @@ device_taken p device is follows e =
       lines = lines_read-device p said.target is follows ∙ ap (λ (l : TextLine). lines_read p ++ l ∷ []) line;
     }
 
--- devices that pass at a line behind them cover the disk
+-- devices that pass at a line after them cover the disk
 whole_said : (p : Progress) (next : Why) → IsProgress p → device_test (forms_read p) next ≡ None → CoverAll p.blocks p.targets × (next ≡ None)
 whole_said p next is e =
     let a = both_passed (are_whole (forms_read p)) why.Device next e in
@@ -135,17 +135,17 @@ whole_said p next is e =
 -- ---- names
 
 -- a name is some key's, or no key's
-named_or_not : (name : List ℕ) (keys : List NamedKey) → ((number : KeyNo) × (number.0 < length keys) × (name ≡ name_of keys number)) ⊎ AllByRecursion (λ (named : NamedKey). named.name ≢ name) keys
+named_or_not : (name : List ℕ) (keys : List NamedKey) → ((number : KeyNo) × (number.0 < length keys) × (name ≡ key_name_of keys number)) ⊎ AllByRecursion (λ (named : NamedKey). named.name ≢ name) keys
 named_or_not name [] = inr tt
 named_or_not name (k ∷ ks) = first (bytes_eq k.name name) refl (named_or_not name ks)
   where
-    first : (b : Bool) → bytes_eq k.name name ≡ b → ((number : KeyNo) × (number.0 < length ks) × (name ≡ name_of ks number)) ⊎ AllByRecursion (λ (named : NamedKey). named.name ≢ name) ks
-        → ((number : KeyNo) × (number.0 < length (k ∷ ks)) × (name ≡ name_of (k ∷ ks) number)) ⊎ AllByRecursion (λ (named : NamedKey). named.name ≢ name) (k ∷ ks)
+    first : (b : Bool) → bytes_eq k.name name ≡ b → ((number : KeyNo) × (number.0 < length ks) × (name ≡ key_name_of ks number)) ⊎ AllByRecursion (λ (named : NamedKey). named.name ≢ name) ks
+        → ((number : KeyNo) × (number.0 < length (k ∷ ks)) × (name ≡ key_name_of (k ∷ ks) number)) ⊎ AllByRecursion (λ (named : NamedKey). named.name ≢ name) (k ∷ ks)
     first true is rest = inl (record { 0 = 0 }, omega arith, sym ((bytes_eq-Decides k.name name).0 is))
     first false is (inl found) = inl (record { 0 = suc found.0.0 }, (let lt = found.1 in omega arith), found.2)
     first false is (inr none) = inr (λ e. both_ways (bytes_eq k.name name) is ((bytes_eq-Decides k.name name).1 e), none)
 
-declared_is : (p : Progress) (name : List ℕ) → IsProgress p → is_declared name (forms_read p) ≡ true → (number : KeyNo) × (number.0 < length p.keys) × (name ≡ name_of p.keys number)
+declared_is : (p : Progress) (name : List ℕ) → IsProgress p → is_declared name (forms_read p) ≡ true → (number : KeyNo) × (number.0 < length p.keys) × (name ≡ key_name_of p.keys number)
 declared_is p name is known =
     ⊎_elim (λ found. found) (λ none. absurd (both_ways (is_declared name (forms_read p)) (is_declared-none p name is none) known)) (named_or_not name p.keys)
 
@@ -237,8 +237,8 @@ key_taken p key is follows e =
     let c = none_of_key (key_refused key) _ b.1 in
     let made = key_of key.mode (bytes_in key.digits) (number_in key.unit) (number_in key.dun_bytes) (not_refused _ c.0) in
     let whole = whole_said p _ is c.1 in
-    let limit = both_passed (nat_lt (count_by is_key above) max_keys) why.Limit None whole.1 in
-    let room : length p.keys < max_keys = subst (λ (n : ℕ). n < max_keys) (keys-read p is) (ltb-true (count_by is_key above) max_keys limit.0) in
+    let limit = both_passed (nat_lt (count_by declares_key above) max_keys) why.Limit None whole.1 in
+    let room : length p.keys < max_keys = subst (λ (n : ℕ). n < max_keys) (keys-read p is) (ltb-true (count_by declares_key above) max_keys limit.0) in
     let fresh = undeclared_is p key.name is (not-true _ name.1) in
     let named : NamedKey = record { name = key.name; key = record { config = record { mode = key.mode; unit = made.unit; dun_bytes = number_in key.dun_bytes }; raw = bytes_in key.digits } } in
     let valid : IsNamedKey named = record {
@@ -258,9 +258,9 @@ fault_taken p fault is follows e =
     let access = number_said 0 last_access fault.access _ shard.3 in
     let a = both_passed (ascends above fault) why.Order _ access.3 in
     let whole = whole_said p _ is a.1 in
-    let b = both_passed (nat_lt (count_by is_fault above) max_faults) why.Limit None whole.1 in
-    let room : length p.faults < max_faults = subst (λ (n : ℕ). n < max_faults) (faults-read p is) (ltb-true (count_by is_fault above) max_faults b.0) in
-    let after : is_after p.faults (fault_in fault) ≡ true = sym (ascends-read p fault is) ∙ a.0 in
+    let b = both_passed (nat_lt (count_by plans_fault above) max_faults) why.Limit None whole.1 in
+    let room : length p.faults < max_faults = subst (λ (n : ℕ). n < max_faults) (faults-read p is) (ltb-true (count_by plans_fault above) max_faults b.0) in
+    let after : follows_faults p.faults (fault_in fault) ≡ true = sym (ascends-read p fault is) ∙ a.0 in
     let valid : IsFault (fault_in fault) = record { shard = shard.2; access = access.2 } in
     let line : fault_line (fault_in fault) ≡ form_line (Fault fault) = λ i. form_line (Fault (record { shard = sym shard.0 i; access = sym access.0 i })) in
     record { after = with_fault p (fault_in fault); rules = IsProgress-fault p (fault_in fault) is follows whole.0 valid after room; lines = lines_read-fault p (fault_in fault) is follows ∙ ap (λ (l : TextLine). lines_read p ++ l ∷ []) line }
@@ -316,7 +316,7 @@ room_is p is e =
 fits_none : (p : Progress) → IsProgress p → sum_by unit_count_of_section (sections_read p) + 0 ≤ max_units
 fits_none p is = let few = is.few_units in omega arith
 
--- the plugs behind one operation more
+-- the plugs after one operation more
 plugs_behind : (p : Progress) (plugged : Bool) (op : Op) → open_after false p.section ≡ Some plugged → IsSome (open_after plugged (op ∷ [])) → IsSome (open_after false (p.section ++ op ∷ []))
 plugs_behind p plugged op behind h = ap (λ (o : Option Bool). is_some o) (open_after-append false plugged p.section (op ∷ []) behind) ∙ h
 
@@ -417,10 +417,10 @@ limits_said p context sector units is valid few e =
     let said = few_units_said units few in
     let product : number_in bio.units * sectors_under bio.key above ≡ units * unit_sectors (bare_keys p.keys) context =
     ap (λ (n : ℕ). n * sectors_under bio.key above) said ∙ ap (λ (n : ℕ). units * n) (sectors_under-read p context is valid) in
-    let sum : sum_by units_in above + number_in bio.units ≡ sum_by unit_count_of_section (sections_read p) + units =
+    let sum : sum_by form_units above + number_in bio.units ≡ sum_by unit_count_of_section (sections_read p) + units =
     ap (λ (n : ℕ). n + number_in bio.units) (units-read p is) ∙ ap (λ (n : ℕ). sum_by unit_count_of_section (sections_read p) + n) said in
     let a = both_passed (nat_le (number_in bio.units * sectors_under bio.key above) max_bio_sectors) why.Limit _ e in
-    let b = both_passed (nat_le (sum_by units_in above + number_in bio.units) max_units) why.Limit _ a.1 in
+    let b = both_passed (nat_le (sum_by form_units above + number_in bio.units) max_units) why.Limit _ a.1 in
     record {
       few_sectors = subst (λ (n : ℕ). n ≤ max_bio_sectors) product (leb-true _ max_bio_sectors a.0);
       fits = subst (λ (n : ℕ). n ≤ max_units) sum (leb-true _ max_units b.0);
@@ -474,7 +474,7 @@ text_said p context sector units (Hex digits) is valid few e =
 write_taken : (p : Progress) (bio : BioForm) (form : TextForm) → IsProgress p → may_follow p.last sorts.Operation ≡ true → dashes_agree bio ≡ true → tests_of (forms_read p) (Write bio form) ≡ None → Took p (form_line (Write bio form))
 write_taken p bio form is follows agree e =
     let above = forms_read p in
-    let said = bio_said p bio (first_of (is_text (size_of above bio) form) why.Hex (bio_limits above bio)) is agree e in
+    let said = bio_said p bio (first_why (is_text (size_of above bio) form) why.Hex (bio_limits above bio)) is agree e in
     let a = both_passed (is_text (size_of above bio) form) why.Hex (bio_limits above bio) said.passes in
     let limits = limits_said p said.context said.sector said.units is said.valid said.few (ap (λ (b : BioForm). bio_limits above b) (sym said.fields) ∙ a.1) in
     let text = text_said p said.context said.sector said.units form is said.valid said.few (ap (λ (b : BioForm). is_text (size_of above b) form) (sym said.fields) ∙ a.0) in

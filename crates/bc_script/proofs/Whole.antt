@@ -12,9 +12,9 @@ use Rattle.bc_script.specs.declared.script_error.ScriptWhy.{ScriptWhy}
 use Rattle.bc_script.specs.declared.script_error.ScriptWhy.TheVariants as why
 use Rattle.bc_script.specs.declared.op.Op.{Op}
 use Rattle.bc_script.specs.Script.{Script, IsScript, max_threads, max_ops, max_units, unit_count_of_section}
-use Rattle.bc_script.specs.ScriptText.{Says, script_lines, version_line, disk_line, fallback_line, device_line, key_line, fault_line, section_lines, end_line}
+use Rattle.bc_script.specs.ScriptText.{SaysScript, script_lines, version_line, disk_line, fallback_line, device_line, key_line, fault_line, section_lines, end_line}
 use Rattle.bc_script.specs.Forms.{Form, form_of}
-use Rattle.bc_script.specs.ScriptErrors.{Why, first_of, with_form, error_at, error_at_end, first_error, error_of, or_below, last_sort, is_end}
+use Rattle.bc_script.specs.ScriptErrors.{Why, first_why, with_form, error_at, error_at_end, first_error, error_of, or_below, last_sort, is_end}
 use Rattle.bc_text.specs.Lines.{is_nothing}
 use Rattle.bc_script.specs.Progress.{Progress, IsProgress, lines_read, forms_read, forms_below}
 use Rattle.bc_script.proofs.Above.{is_at_end, last_sort-read, forms_read-step}
@@ -22,6 +22,7 @@ use Rattle.bc_script.proofs.Steps.{nothing_read, IsProgress-nothing_read}
 use Rattle.bc_script.proofs.Taken.{line_taken}
 use Rattle.bc_script.proofs.NoError.{Pass, no_error}
 use Rattle.bc_script.proofs.Devices.{are_devices}
+use Rattle.bc_script.proofs.Readings.{script_read}
 
 -- ---- the lines of a text in which none fails
 
@@ -29,7 +30,7 @@ none_below : (number : ℕ) (here : Why) (below : Option ScriptError) → or_bel
 none_below number None below e = (refl, e)
 none_below number (Some kind) below e = absurd cc
 
--- all lines but the last pass, and the last is what stands behind the end
+-- all lines but the last pass, and the last is what stands after the end
 record PassToEnd (above : List Form) (all : List TextLine) : Type 0 where
   lines : List TextLine
   tail : TextLine
@@ -78,10 +79,6 @@ all_taken p (line ∷ lines) is pass =
       forms = rest.forms ∙ ap (λ (above : List Form). forms_below above lines) forms;
     }
 
--- the script whose last line has been read
-abbrev pub script_read : Progress → Script
-script_read p = record { blocks = p.blocks; fallback = p.fallback; targets = p.targets; keys = p.keys; faults = p.faults; threads = p.threads }
-
 at_the_end : (p : Progress) → IsProgress p → p.last ≡ Some sorts.End → (IsScript (script_read p)) × (script_lines (script_read p) ≡ lines_read p)
 at_the_end p is last =
     let q : Progress = record p { last = Some sorts.End } in
@@ -104,12 +101,12 @@ at_the_end p is last =
       ap (λ (t : List (List Op)). (version_line ∷ disk_line p.blocks ∷ fallback_line p.fallback ∷ map device_line p.targets) ++ (map key_line p.keys ++ (map fault_line p.faults ++ (flat_map (section_lines p.keys) t ++ end_line ∷ [])))) (sym none) ∙ sym (ap lines_read same),
     )
 
-passed_test : (test : Bool) (kind : ScriptWhy) → first_of test kind None ≡ None → test ≡ true
+passed_test : (test : Bool) (kind : ScriptWhy) → first_why test kind None ≡ None → test ≡ true
 passed_test true kind e = refl
 passed_test false kind e = absurd cc
 
 -- a text in which no line fails is a script's
-pub has_script : (text : List ℕ) → error_of text ≡ None → (s : Script) × Says text s
+pub has_script : (text : List ℕ) → error_of text ≡ None → (s : Script) × SaysScript text s
 has_script text e =
     let first = some_part line_feed text in
     let all : lines_of text ≡ parts_at space first.0 ∷ map (parts_at space) first.1 = ap (map (parts_at space)) first.2 in
@@ -124,5 +121,5 @@ has_script text e =
     (script_read p, record { valid = script.0; text_is = lines_text-lines_of text to_end.lines lines ∙ ap lines_text (sym took.lines ∙ sym script.1) })
 
 -- no line of a text fails exactly where some script has the text
-pub errors_exact : (text : List ℕ) → (error_of text ≡ None) ↔ ((s : Script) × Says text s)
+pub errors_exact : (text : List ℕ) → (error_of text ≡ None) ↔ ((s : Script) × SaysScript text s)
 errors_exact text = (has_script text, λ said. ap error_of said.1.text_is ∙ no_error said.0 said.1.valid)

@@ -1,5 +1,5 @@
--- What the fields of an operation's line say, after the lines that have been read. The contracts of private functions speak of
--- this; no public one does.
+-- What the fields of an operation's line say, after the lines that have been read. The contracts of
+-- private functions speak of this; no public one does.
 use Rattle.std.specs.Prelude.{◌≡◌, ◌≢◌, ℕ, ◌^◌, ◌<◌, ◌≤◌, ◌&&◌, not, true, IsTrue, List, length, Option, Some, None}
 use Rattle.std.specs.Fmt.{decimal}
 use Rattle.hex.specs.Hex.{IsBytes}
@@ -59,7 +59,8 @@ pub record SaysBio (p : Progress) (bio : BioForm) (fields : BioFields) : Type 0 
   pub few_units : fields.units ≤ max_bio_units
   pub units_in : number_in bio.units ≡ fields.units
 
--- the fields of a bio fail this test, whatever stands after them, or are not read since there was no memory
+-- the fields of a bio fail this test, whatever stands after them, or are not read since there was
+-- no memory
 abbrev pub RefusesBio : Progress → BioForm → Unread → Type 0
 RefusesBio p bio e = (next : Why) → Reports (bio_tests (forms_read p) bio next) e
 

@@ -28,13 +28,13 @@ is_inline script number =
     option_map_or (λ key. all_support script.targets key.config) (key_at (keys_of script) number) false
 
 -- a bio is supported that has no context, or whose key is inline, or goes to the fallback
-abbrev pub is_supported : Script → Option Context → Bool
-is_supported script None = true
-is_supported script (Some context) = is_inline script context.key || script.fallback
+abbrev pub context_is_supported : Script → Option Context → Bool
+context_is_supported script None = true
+context_is_supported script (Some context) = is_inline script context.key || script.fallback
 
 -- a bio that isn't supported is refused as such
 abbrev pub unsupported_of : Script → Option Context → Option Refusal
-unsupported_of script context = if is_supported script context then None else Some refusals.Unsupported
+unsupported_of script context = if context_is_supported script context then None else Some refusals.Unsupported
 
 -- why a bio is refused, if it is: it isn't well formed, and else it isn't supported
 abbrev pub refusal_of : Script → Extent → Option Refusal

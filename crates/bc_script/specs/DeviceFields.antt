@@ -1,4 +1,5 @@
--- What the fields of a device's line say. The contracts of private functions speak of this; no public one does.
+-- What the fields of a device's line say. The contracts of private functions speak of this; no
+-- public one does.
 use Rattle.std.specs.Prelude.{◌≡◌}
 use Rattle.std.specs.Fmt.{decimal}
 use Rattle.bc_stack.specs.declared.target.Target.{Target}
@@ -26,6 +27,7 @@ pub record SaysDevice (form : DeviceForm) (device : Target) : Type 0 where
   pub first_is : device.first ≡ number_in form.first
   pub valid : IsDevice device
 
--- the fields of a device fail this test, whatever stands after them, or are not read since there was no memory
+-- the fields of a device fail this test, whatever stands after them, or are not read since there
+-- was no memory
 abbrev pub RefusesDevice : DeviceForm → Unread → Type 0
 RefusesDevice form e = (next : Why) → Reports (device_fields form next) e

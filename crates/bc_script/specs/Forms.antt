@@ -1,5 +1,5 @@
--- The forms of lines: what sort of line it is, by its first word, the number of its fields and its fixed words; the other
--- fields stand as they are written.
+-- The forms of lines: what sort of line it is, by its first word, the number of its fields and its
+-- fixed words; the other fields stand as they are written.
 use Rattle.std.specs.Prelude.{ℕ, Bool, true, false, not, if◌then◌else◌, List, [], ◌∷◌, codes, Option, Some, None}
 use Rattle.std.specs.Str.{bytes_eq}
 use Rattle.bc_text.specs.Lines.{TextLine}
@@ -73,9 +73,9 @@ with_one form [] = None
 with_one form (field ∷ fields) = alone (form field) fields
 
 -- a form that has one more field, which is fixed
-abbrev pub with_word : List ℕ → Form → TextLine → Option Form
-with_word word form [] = None
-with_word word form (field ∷ fields) = if bytes_eq field word then alone form fields else None
+abbrev pub form_with_word : List ℕ → Form → TextLine → Option Form
+form_with_word word form [] = None
+form_with_word word form (field ∷ fields) = if bytes_eq field word then alone form fields else None
 
 -- `on` or `off`
 abbrev pub switch_of : List ℕ → Option Bool
@@ -93,8 +93,8 @@ with_switch (word ∷ []) = fallback_form (switch_of word)
 with_switch _ = None
 
 -- FIRST BLOCKS SLOTS XTS ESSIV DUN
-abbrev pub with_device : TextLine → Option Form
-with_device (first ∷ blocks ∷ slots ∷ xts ∷ essiv ∷ dun_bytes ∷ []) = Some (Device (record {
+abbrev pub form_with_device : TextLine → Option Form
+form_with_device (first ∷ blocks ∷ slots ∷ xts ∷ essiv ∷ dun_bytes ∷ []) = Some (Device (record {
   first = first;
   blocks = blocks;
   slots = slots;
@@ -102,11 +102,11 @@ with_device (first ∷ blocks ∷ slots ∷ xts ∷ essiv ∷ dun_bytes ∷ []) 
   essiv = essiv;
   dun_bytes = dun_bytes;
 }))
-with_device _ = None
+form_with_device _ = None
 
 -- the mode with this word
-abbrev pub mode_of : List ℕ → Option Mode
-mode_of word =
+abbrev pub mode_of_word : List ℕ → Option Mode
+mode_of_word word =
     if bytes_eq word (codes "aes-256-xts") then Some Aes256Xts
     else (if bytes_eq word (codes "aes-128-cbc-essiv") then Some Aes128CbcEssiv else None)
 
@@ -118,13 +118,13 @@ key_form name (Some mode) unit dun_bytes digits =
 
 -- NAME MODE UNIT BYTES HEX
 abbrev pub with_key : TextLine → Option Form
-with_key (name ∷ mode ∷ unit ∷ dun_bytes ∷ digits ∷ []) = key_form name (mode_of mode) unit dun_bytes digits
+with_key (name ∷ mode ∷ unit ∷ dun_bytes ∷ digits ∷ []) = key_form name (mode_of_word mode) unit dun_bytes digits
 with_key _ = None
 
 -- SHARD ACCESS
-abbrev pub with_fault : TextLine → Option Form
-with_fault (shard ∷ access ∷ []) = Some (Fault (record { shard = shard; access = access }))
-with_fault _ = None
+abbrev pub form_with_fault : TextLine → Option Form
+form_with_fault (shard ∷ access ∷ []) = Some (Fault (record { shard = shard; access = access }))
+form_with_fault _ = None
 
 -- `-` stands for the key exactly where it stands for the number
 abbrev pub dashes_agree : BioForm → Bool
@@ -146,10 +146,10 @@ write_form bio None = None
 write_form bio (Some text) = if dashes_agree bio then Some (Write bio text) else None
 
 -- KEY SECTOR UNITS NUMBER
-abbrev pub with_bio : TextLine → Option Form
-with_bio (key ∷ sector ∷ units ∷ number ∷ []) =
+abbrev pub form_with_bio : TextLine → Option Form
+form_with_bio (key ∷ sector ∷ units ∷ number ∷ []) =
     read_form (record { key = key; sector = sector; units = units; number = number })
-with_bio _ = None
+form_with_bio _ = None
 
 -- KEY SECTOR UNITS NUMBER, and `fill` or `hex` with digits
 abbrev pub with_bio_and_text : TextLine → Option Form
@@ -161,18 +161,18 @@ with_bio_and_text _ = None
 abbrev pub form_of_word : List ℕ → TextLine → Option Form
 form_of_word word fields =
     if bytes_eq word (codes "write") then with_bio_and_text fields
-    else (if bytes_eq word (codes "read") then with_bio fields
+    else (if bytes_eq word (codes "read") then form_with_bio fields
     else (if bytes_eq word (codes "evict") then with_one Evict fields
     else (if bytes_eq word (codes "reset") then with_one Reset fields
     else (if bytes_eq word (codes "plug") then alone Plug fields
     else (if bytes_eq word (codes "unplug") then alone Unplug fields
     else (if bytes_eq word (codes "thread") then alone Thread fields
     else (if bytes_eq word (codes "key") then with_key fields
-    else (if bytes_eq word (codes "fault") then with_fault fields
-    else (if bytes_eq word (codes "blkcrypt") then with_word (codes "1") Version fields
+    else (if bytes_eq word (codes "fault") then form_with_fault fields
+    else (if bytes_eq word (codes "blkcrypt") then form_with_word (codes "1") Version fields
     else (if bytes_eq word (codes "disk") then with_one Disk fields
     else (if bytes_eq word (codes "fallback") then with_switch fields
-    else (if bytes_eq word (codes "device") then with_device fields
+    else (if bytes_eq word (codes "device") then form_with_device fields
     else (if bytes_eq word (codes "end") then alone End fields
     else None)))))))))))))
 

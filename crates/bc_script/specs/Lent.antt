@@ -1,5 +1,5 @@
--- The form of a line whose fields are lent: the same form with the fields themselves. The contracts of private functions
--- speak of these; no public one does.
+-- The form of a line whose fields are lent: the same form with the fields themselves. The contracts
+-- of private functions speak of these; no public one does.
 use Rattle.bc_script.specs.Forms.{Form, Version, Disk, Fallback, Device, Key, Fault, Thread, Write, Read, Evict, Reset, Plug, Unplug, End, DeviceForm, KeyForm, FaultForm, BioForm, TextForm, Fill, Hex}
 use Rattle.bc_script.specs.declared.form.DeviceForm as device_forms
 use Rattle.bc_script.specs.declared.form.KeyForm as key_forms

@@ -5,7 +5,7 @@ pub mod Plan
 pub mod Way
 pub mod Windows
 pub mod ScriptText
-pub mod Generated
+pub mod GeneratedScript
 pub mod Forms
 pub mod Order
 pub mod ScriptErrors

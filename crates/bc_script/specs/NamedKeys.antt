@@ -5,12 +5,12 @@ use Rattle.std.specs.Cmp.Lexicographic.{slice_cmp}
 use Rattle.std.specs.BTreeMap.{BTreeMap, get_by}
 use Rattle.bc_key.specs.declared.keys.KeyNo.{KeyNo}
 use Rattle.bc_script.specs.declared.named_key.NamedKey.{NamedKey}
-use Rattle.bc_script.specs.ScriptText.{name_of}
+use Rattle.bc_script.specs.ScriptText.{key_name_of}
 
 -- this key is one of the keys, and has the name
 pub record IsNamed (keys : List NamedKey) (name : List ℕ) (key : KeyNo) : Type 0 where
   pub within : key.0 < length keys
-  pub name_is : name ≡ name_of keys key
+  pub name_is : name ≡ key_name_of keys key
 
 -- none of the keys has it
 abbrev pub IsNoName : List NamedKey → List ℕ → Type 0
@@ -22,5 +22,5 @@ number_at numbers name = get_by (λ other. slice_cmp nat_cmp name other.items) n
 
 -- the index has each key's number at its name, and no other names
 pub record IsIndex {Y : Type 0} (keys : List NamedKey) (numbers : BTreeMap (Vec ℕ Y) KeyNo) : Type 0 where
-  pub has : (key : KeyNo) → key.0 < length keys → number_at numbers (name_of keys key) ≡ Some key
+  pub has : (key : KeyNo) → key.0 < length keys → number_at numbers (key_name_of keys key) ≡ Some key
   pub only : (name : List ℕ) (key : KeyNo) → number_at numbers name ≡ Some key → IsNamed keys name key

@@ -3,8 +3,9 @@ use Rattle.std.specs.Prelude.{Bool, true, false, Option, Some, None}
 use Rattle.bc_script.specs.declared.sort.Sort.{Sort}
 use Rattle.bc_script.specs.declared.sort.Sort.TheVariants as sorts
 
--- A line of this sort may stand after the line of that sort, or as the first line. The first three lines stand once and in
--- order; then come devices, then keys, then planned faults, then sections, then the end.
+-- A line of this sort may stand after the line of that sort, or as the first line. The first three
+-- lines stand once and in order; then come devices, then keys, then planned faults, then sections,
+-- then the end.
 abbrev pub may_follow : Option Sort → Sort → Bool
 may_follow None sorts.Version = true
 may_follow (Some sorts.Version) sorts.Disk = true

@@ -1,5 +1,6 @@
--- The plan of a script: for each thread the data units of its accepted bios, by operation and then unit.
-use Rattle.std.specs.Prelude.{ℕ, ◌+◌, ◌*◌, List, [], map, replicate, flat_map, slice_range, is_none, if◌then◌else◌}
+-- The plan of a script: for each thread the data units of its accepted bios, by operation and then
+-- unit.
+use Rattle.std.specs.Prelude.{ℕ, ◌+◌, ◌*◌, ◌≤◌, List, [], length, map, replicate, flat_map, slice_range, is_none, ⊤, if◌then◌else◌}
 use Rattle.std.specs.List.{enumerate_from, range_with_len}
 use Rattle.std.specs.Option.{option_map_or}
 use Rattle.bc_key.specs.KeyData.{KeyData}
@@ -17,6 +18,11 @@ use Rattle.bc_script.specs.Bios.{bio_of, refusal_of}
 abbrev pub text_at : Text → ℕ → ℕ → List ℕ
 text_at (Fill byte) size i = replicate size byte
 text_at (Bytes bytes) size i = slice_range bytes (size * i) (size * i + size)
+
+-- a text has bytes for this unit, of so many bytes each
+abbrev pub HasUnit : Text → ℕ → ℕ → Type 0
+HasUnit (Fill byte) size i = ⊤
+HasUnit (Bytes bytes) size i = size * i + size ≤ length bytes
 
 -- the bytes that unit i of an operation writes
 abbrev pub written_at : Op → ℕ → ℕ → List ℕ

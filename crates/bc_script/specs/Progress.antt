@@ -1,5 +1,5 @@
--- A script that is being read: what the lines say that have been read so far. The contracts of private functions speak of
--- this; no public one does.
+-- A script that is being read: what the lines say that have been read so far. The contracts of
+-- private functions speak of this; no public one does.
 use Rattle.std.specs.Prelude.{◌≡◌, ℕ, ◌≤◌, ◌||◌, nat_eq, Bool, true, false, List, [], ◌∷◌, ◌++◌, length, map, flat_map, sum_by, Option, Some, None, IsSome}
 use Rattle.std.specs.List.{AllByRecursion}
 use Rattle.bc_text.specs.Lines.{TextLine}
@@ -14,8 +14,9 @@ use Rattle.bc_script.specs.ScriptText.{version_line, disk_line, fallback_line, d
 use Rattle.bc_script.specs.Forms.{Form, form_of}
 use Rattle.bc_script.specs.ScriptErrors.{with_form}
 
--- the sort of the nearest line, the disk's blocks, whether software does what no device can, the devices, the keys, the
--- planned faults, the sections that have ended, and the operations of the section that is being read
+-- the sort of the nearest line, the disk's blocks, whether software does what no device can, the
+-- devices, the keys, the planned faults, the sections that have ended, and the operations of the
+-- section that is being read
 pub record Progress : Type 0 where
   pub last : Option Sort
   pub blocks : ℕ
@@ -77,7 +78,8 @@ forms_read p = forms_below [] (lines_read p)
 
 -- ---- what holds of them
 
--- nothing is read yet of what stands below the nearest line, and the devices, if they are above it, cover the disk
+-- nothing is read yet of what stands below the nearest line, and the devices, if they are above it,
+-- cover the disk
 abbrev pub IsAt : Option Sort → Progress → Type 0
 IsAt None p = (p.keys ≡ []) × (p.faults ≡ []) × (p.threads ≡ []) × (p.section ≡ []) × (p.targets ≡ [])
 IsAt (Some sorts.Version) p =
@@ -105,7 +107,7 @@ abbrev pub is_whole : Progress → Bool
 is_whole p = nat_eq (length p.targets) 0 || nat_eq (blocks_of p.targets) p.blocks
 
 -- few enough devices, one after the other from the first block on
-pub record FollowOneAnother (devices : List Target) : Type 0 where
+pub record DevicesFollow (devices : List Target) : Type 0 where
   pub count : length devices ≤ max_devices
   pub lie : LieBetween 0 (blocks_of devices) devices
   pub each : AllByRecursion IsDevice devices
@@ -113,7 +115,7 @@ pub record FollowOneAnother (devices : List Target) : Type 0 where
 -- the rules of a script, as far as it has been read
 pub record IsProgress (p : Progress) : Type 0 where
   pub at : IsAt p.last p
-  pub devices : FollowOneAnother p.targets
+  pub devices : DevicesFollow p.targets
   pub keys : AreKeys p.keys
   pub faults : AreFaults p.faults
   pub threads : AllByRecursion (IsSection (length p.targets) (bare_keys p.keys)) p.threads

@@ -1,5 +1,5 @@
--- What a reader of scripts keeps beside the progress, and what it answers. The contracts of private functions speak of this;
--- no public one does.
+-- What a reader of scripts keeps beside the progress, and what it answers. The contracts of private
+-- functions speak of this; no public one does.
 use Rattle.std.specs.Prelude.{◌≡◌, ℕ, ◌+◌, Bool, true, false, List, [], ◌∷◌, ◌++◌, length, sum_by, Some, None, ⊤}
 use Rattle.bc_text.specs.Lines.{TextLine, nothing}
 use Rattle.bc_script.specs.declared.op.Op.{Op}
@@ -25,13 +25,13 @@ left_section true section = []
 left_section false section = section
 
 -- the line has been read, which passes its tests
-pub record Took (old : Progress) (line : TextLine) (new : Progress) : Type 0 where
+pub record TookScriptLine (old : Progress) (line : TextLine) (new : Progress) : Type 0 where
   pub passes : error_at (forms_read old) line ≡ None
   pub lines : lines_read new ≡ lines_read old ++ line ∷ []
   pub forms : forms_read new ≡ with_form (form_of line) (forms_read old)
 
 -- the script whose lines have all been read, and which has nothing after them
-pub record IsWhole (p : Progress) (rest : TextLine) (s : Script) : Type 0 where
+pub record IsWholeScript (p : Progress) (rest : TextLine) (s : Script) : Type 0 where
   pub valid : IsScript s
   pub lines : script_lines s ≡ lines_read p
   pub rest_is : rest ≡ nothing

@@ -1,5 +1,5 @@
--- What a field says, where it passes its test: it is the one text of its value. The contracts of private functions speak of
--- these; no public one does.
+-- What a field says, where it passes its test: it is the one text of its value. The contracts of
+-- private functions speak of these; no public one does.
 use Rattle.std.specs.Prelude.{◌≡◌, ℕ, ◌^◌, ◌<◌, ◌≤◌, true, List, length}
 use Rattle.std.specs.Str.Parse.{digits_value}
 use Rattle.std.specs.Fmt.{decimal}

@@ -1,5 +1,5 @@
--- What a script says: a disk, its devices and keys, and for each thread the section of its operations; and the rules that each
--- script keeps.
+-- What a script says: a disk, its devices and keys, and for each thread the section of its
+-- operations; and the rules that each script keeps.
 use Rattle.std.specs.Prelude.{◌≡◌, ◌≢◌, ℕ, ◌*◌, ◌^◌, ◌<◌, ◌≤◌, ◌&&◌, ◌||◌, nat_lt, nat_eq, Bool, true, false, if◌then◌else◌, IsTrue, List, [], ◌∷◌, length, map, sum_by, AllPairs, Option, Some, None, ⊤}
 use Rattle.std.specs.List.{AllByRecursion}
 use Rattle.hex.specs.Hex.{IsBytes}
@@ -16,8 +16,9 @@ use Rattle.bc_script.specs.declared.op.Text.{Text}
 use Rattle.bc_script.specs.declared.op.Text.TheVariants.{Fill, Bytes}
 use Rattle.bc_script.specs.Name.{is_name}
 
--- A script as contracts see it: how many blocks of 4096 bytes its disk has, whether software does what no device can,
--- its devices, its keys, the faults that are planned (each by a shard and a place in its order), and its sections.
+-- A script as contracts see it: how many blocks of 4096 bytes its disk has, whether software does
+-- what no device can, its devices, its keys, the faults that are planned (each by a shard and a
+-- place in its order), and its sections.
 pub record Script : Type 0 where
   pub blocks : ℕ
   pub fallback : Bool
@@ -126,7 +127,8 @@ max_bio_sectors = limits.MAX_BIO_SECTORS
 abbrev pub IsDiskSize : ℕ → Type 0
 IsDiskSize n = (1 ≤ n) × (n ≤ max_blocks)
 
--- a device's first block, blocks, keyslots, mask of data unit sizes for each mode, and number bytes are in their ranges
+-- a device's first block, blocks, keyslots, mask of data unit sizes for each mode, and number bytes
+-- are in their ranges
 pub record IsDevice (device : Target) : Type 0 where
   pub first : device.first ≤ last_block
   pub some_blocks : 1 ≤ device.blocks
@@ -158,7 +160,8 @@ pub record IsFault (fault : ℕ × ℕ) : Type 0 where
   pub shard : fault.0 ≤ last_shard
   pub access : fault.1 ≤ last_access
 
--- whether the first fault comes before the second: on a lower shard, or at a lower place of the same shard
+-- whether the first fault comes before the second: on a lower shard, or at a lower place of the
+-- same shard
 abbrev pub is_before : ℕ × ℕ → ℕ × ℕ → Bool
 is_before first second = nat_lt first.0 second.0 || (nat_eq first.0 second.0 && nat_lt first.1 second.1)
 
@@ -173,7 +176,8 @@ abbrev pub IsContext : List KeyData → Option Context → Type 0
 IsContext keys None = ⊤
 IsContext keys (Some context) = (context.key.0 < length keys) × (context.dun < 2 ^ 256)
 
--- what a bio's line can say, wherever the bio lies: whether it is well formed is found when it is carried out
+-- what a bio's line can say, wherever the bio lies: whether it is well formed is found when it is
+-- carried out
 pub record IsBio (keys : List KeyData) (context : Option Context) (sector units : ℕ) : Type 0 where
   pub context_is : IsContext keys context
   pub sector_is : sector < 2 ^ 32
@@ -196,7 +200,8 @@ IsOp devices keys (Reset device) = device < devices
 IsOp devices keys Plug = ⊤
 IsOp devices keys Unplug = ⊤
 
--- whether a plug is open after these operations; none where one is opened twice, or closed without being open
+-- whether a plug is open after these operations; none where one is opened twice, or closed without
+-- being open
 abbrev pub open_after : Bool → List Op → Option Bool
 open_after plugged [] = Some plugged
 open_after plugged (Plug ∷ ops) = if plugged then None else open_after true ops
@@ -219,10 +224,11 @@ pub record AreSections (devices : ℕ) (keys : List KeyData) (threads : List (Li
 abbrev pub device_count : Script → ℕ
 device_count script = length script.targets
 
--- an operation, and a section, of a script
+-- an operation of a script: its device and its key are there, its bio and what it writes valid
 abbrev pub IsScriptOp : Script → Op → Type 0
 IsScriptOp script op = IsOp (device_count script) (keys_of script) op
 
+-- a section of a script: its operations are within the ranges of the script's devices and keys
 abbrev pub IsScriptSection : Script → List Op → Type 0
 IsScriptSection script section = IsSection (device_count script) (keys_of script) section
 

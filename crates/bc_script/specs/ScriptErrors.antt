@@ -1,7 +1,8 @@
 -- The first line of a text that fails a test, and the first test that it fails.
 --
--- A test speaks of its line and of the lines above: how many devices, keys, faults, operations or data units those have is
--- a count or a sum over their forms, which stand here with the nearest line first.
+-- A test speaks of its line and of the lines above: how many devices, keys, faults, operations or
+-- data units those have is a count or a sum over their forms, which stand here with the nearest
+-- line first.
 use Rattle.std.specs.Prelude.{ℕ, ◌+◌, ◌*◌, ◌/◌, ◌^◌, ◌&&◌, ◌||◌, not, nat_lt, nat_le, nat_eq, Bool, true, false, if◌then◌else◌, List, [], ◌∷◌, length, Option, Some, None, is_some, sum_by, count_by, unwrap_or}
 use Rattle.std.specs.Option.{option_map, option_map_or}
 use Rattle.std.specs.Result.{result_ok}
@@ -85,14 +86,14 @@ are_whole above =
     nat_eq (count_by is_device above) 0 || nat_eq (device_blocks_above above) (sum_by disk_blocks_in above)
 
 -- whether a line declares a key
-abbrev pub is_key : Form → Bool
-is_key (Key key) = true
-is_key _ = false
+abbrev pub declares_key : Form → Bool
+declares_key (Key key) = true
+declares_key _ = false
 
 -- whether it plans a fault
-abbrev pub is_fault : Form → Bool
-is_fault (Fault fault) = true
-is_fault _ = false
+abbrev pub plans_fault : Form → Bool
+plans_fault (Fault fault) = true
+plans_fault _ = false
 
 -- whether it begins a section
 abbrev pub is_thread : Form → Bool
@@ -110,10 +111,10 @@ is_operation Unplug = true
 is_operation _ = false
 
 -- how many data units a line's bio has
-abbrev pub units_in : Form → ℕ
-units_in (Write bio text) = number_in bio.units
-units_in (Read bio) = number_in bio.units
-units_in _ = 0
+abbrev pub form_units : Form → ℕ
+form_units (Write bio text) = number_in bio.units
+form_units (Read bio) = number_in bio.units
+form_units _ = 0
 
 -- the key's line with this name
 abbrev pub key_named : List ℕ → List Form → Option KeyForm
@@ -154,12 +155,12 @@ abbrev pub Why : Type 0
 Why = Option ScriptWhy
 
 -- go on to the next test where this one is passed
-abbrev pub first_of : Bool → ScriptWhy → Why → Why
-first_of passed kind next = if passed then next else Some kind
+abbrev pub first_why : Bool → ScriptWhy → Why → Why
+first_why passed kind next = if passed then next else Some kind
 
 -- go on to the next test where the field is the decimal text of a number in the range
 abbrev pub number_test : ℕ → ℕ → List ℕ → Why → Why
-number_test least most field next = first_of (is_number least most field) why.Number next
+number_test least most field next = first_why (is_number least most field) why.Number next
 
 -- why the values of a key's fields are no key, if they are none
 abbrev pub key_refused : KeyForm → Why
@@ -172,10 +173,10 @@ abbrev pub key_test : Why → Why → Why
 key_test None next = next
 key_test (Some kind) next = Some kind
 
--- The devices, if there are any, have the disk's blocks together. The line at which this fails, if one does, is the
--- first after the devices.
+-- The devices, if there are any, have the disk's blocks together. The line at which this fails, if
+-- one does, is the first after the devices.
 abbrev pub device_test : List Form → Why → Why
-device_test above next = first_of (are_whole above) why.Device next
+device_test above next = first_why (are_whole above) why.Device next
 
 -- a first block, blocks, keyslots, two masks, and number bytes
 abbrev pub device_fields : DeviceForm → Why → Why
@@ -191,50 +192,52 @@ device_fields device next =
 abbrev pub device_tests : List Form → DeviceForm → Why
 device_tests above device =
     device_fields device
-    (first_of (nat_eq (number_in device.first) (device_blocks_above above)) why.Device
-    (first_of (nat_lt (count_by is_device above) max_devices) why.Limit
+    (first_why (nat_eq (number_in device.first) (device_blocks_above above)) why.Device
+    (first_why (nat_lt (count_by is_device above) max_devices) why.Limit
     None))
 
--- a new name; a mode, a unit and number bytes; some digits; a valid key; whole devices; and room for one more key
+-- a new name; a mode, a unit and number bytes; some digits; a valid key; whole devices; and room
+-- for one more key
 abbrev pub key_tests : List Form → KeyForm → Why
 key_tests above key =
-    first_of (is_name key.name && not (is_declared key.name above)) why.Name
+    first_why (is_name key.name && not (is_declared key.name above)) why.Name
     (number_test 0 4294967295 key.unit
     (number_test 0 255 key.dun_bytes
-    (first_of (is_hex_text 1 128 key.digits) why.Hex
+    (first_why (is_hex_text 1 128 key.digits) why.Hex
     (key_test (key_refused key)
     (device_test above
-    (first_of (nat_lt (count_by is_key above) max_keys) why.Limit
+    (first_why (nat_lt (count_by declares_key above) max_keys) why.Limit
     None))))))
 
--- a shard and a place in its order; after the fault before it; whole devices; and room for one more fault
+-- a shard and a place in its order; after the fault before it; whole devices; and room for one more
+-- fault
 abbrev pub fault_tests : List Form → FaultForm → Why
 fault_tests above fault =
     number_test 0 last_shard fault.shard
     (number_test 0 last_access fault.access
-    (first_of (ascends above fault) why.Order
+    (first_why (ascends above fault) why.Order
     (device_test above
-    (first_of (nat_lt (count_by is_fault above) max_faults) why.Limit
+    (first_why (nat_lt (count_by plans_fault above) max_faults) why.Limit
     None))))
 
 -- a section has room for one more operation
 abbrev pub op_limit : List Form → Why
-op_limit above = first_of (nat_lt (count_by is_operation above) max_ops) why.Limit None
+op_limit above = first_why (nat_lt (count_by is_operation above) max_ops) why.Limit None
 
 -- a bio has few enough sectors, and the script few enough data units and operations
 abbrev pub bio_limits : List Form → BioForm → Why
 bio_limits above bio =
-    first_of (nat_le (number_in bio.units * sectors_under bio.key above) max_bio_sectors) why.Limit
-    (first_of (nat_le (sum_by units_in above + number_in bio.units) max_units) why.Limit
+    first_why (nat_le (number_in bio.units * sectors_under bio.key above) max_bio_sectors) why.Limit
+    (first_why (nat_le (sum_by form_units above + number_in bio.units) max_units) why.Limit
     (op_limit above))
 
 -- `-`, or a declared name; a sector; a number of data units; `-`, or a data unit number
 abbrev pub bio_tests : List Form → BioForm → Why → Why
 bio_tests above bio next =
-    first_of (bytes_eq bio.key dash || is_declared bio.key above) why.Name
+    first_why (bytes_eq bio.key dash || is_declared bio.key above) why.Name
     (number_test 0 4294967295 bio.sector
     (number_test 0 max_bio_units bio.units
-    (first_of (bytes_eq bio.number dash || is_number_text bio.number) why.Number
+    (first_why (bytes_eq bio.number dash || is_number_text bio.number) why.Number
     next)))
 
 -- one byte; or the bytes of all data units, of which there is one at least
@@ -253,19 +256,19 @@ tests_of above (Device device) = device_tests above device
 tests_of above (Key key) = key_tests above key
 tests_of above (Fault fault) = fault_tests above fault
 tests_of above Thread =
-    first_of (not (is_open above)) why.Order
+    first_why (not (is_open above)) why.Order
     (device_test above
-    (first_of (nat_lt (count_by is_thread above) max_threads) why.Limit None))
+    (first_why (nat_lt (count_by is_thread above) max_threads) why.Limit None))
 tests_of above (Write bio text) =
     bio_tests above bio
-    (first_of (is_text (size_of above bio) text) why.Hex (bio_limits above bio))
+    (first_why (is_text (size_of above bio) text) why.Hex (bio_limits above bio))
 tests_of above (Read bio) = bio_tests above bio (bio_limits above bio)
-tests_of above (Evict name) = first_of (is_declared name above) why.Name (op_limit above)
+tests_of above (Evict name) = first_why (is_declared name above) why.Name (op_limit above)
 tests_of above (Reset device) =
-    first_of (is_number_below (count_by is_device above) device) why.Number (op_limit above)
-tests_of above Plug = first_of (not (is_open above)) why.Order (op_limit above)
-tests_of above Unplug = first_of (is_open above) why.Order (op_limit above)
-tests_of above End = first_of (not (is_open above)) why.Order (device_test above None)
+    first_why (is_number_below (count_by is_device above) device) why.Number (op_limit above)
+tests_of above Plug = first_why (not (is_open above)) why.Order (op_limit above)
+tests_of above Unplug = first_why (is_open above) why.Order (op_limit above)
+tests_of above End = first_why (not (is_open above)) why.Order (device_test above None)
 tests_of above _ = None
 
 -- ---- the first line that fails
@@ -278,16 +281,16 @@ is_end _ = false
 -- the test that a line of this form fails, or of none
 abbrev pub error_of_form : List Form → Option Form → Why
 error_of_form above None = Some why.Word
-error_of_form above (Some form) = first_of (may_follow (last_sort above) (sort_of form)) why.Word (tests_of above form)
+error_of_form above (Some form) = first_why (may_follow (last_sort above) (sort_of form)) why.Word (tests_of above form)
 
 -- the test that a line fails
 abbrev pub error_at : List Form → TextLine → Why
 error_at above line =
-    first_of (not (is_end (last_sort above))) why.End (error_of_form above (form_of line))
+    first_why (not (is_end (last_sort above))) why.End (error_of_form above (form_of line))
 
 -- the text ends here: after the `end` line, and with a line feed; or too early
 abbrev pub error_at_end : List Form → TextLine → Why
-error_at_end above tail = first_of (is_end (last_sort above) && is_nothing tail) why.End None
+error_at_end above tail = first_why (is_end (last_sort above) && is_nothing tail) why.End None
 
 -- the forms above, with the form of one line more
 abbrev pub with_form : Option Form → List Form → List Form
@@ -299,7 +302,8 @@ abbrev pub or_below : ℕ → Why → Option ScriptError → Option ScriptError
 or_below number None below = below
 or_below number (Some kind) below = Some (record { line = number; why = kind })
 
--- The first line, from 1, that fails, and the test. The last of the lines is what stands after the last line feed.
+-- The first line, from 1, that fails, and the test. The last of the lines is what stands after the
+-- last line feed.
 abbrev pub first_error : List Form → List TextLine → Option ScriptError
 first_error above [] = None
 first_error above (tail ∷ []) = or_below (length above + 1) (error_at_end above tail) None

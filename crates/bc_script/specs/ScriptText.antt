@@ -38,7 +38,8 @@ on_off false = codes "off"
 abbrev pub fallback_line : Bool → TextLine
 fallback_line fallback = codes "fallback" ∷ on_off fallback ∷ []
 
--- the first block, the blocks, the keyslots, the masks of data unit sizes of both modes, and the number bytes
+-- the first block, the blocks, the keyslots, the masks of data unit sizes of both modes, and the
+-- number bytes
 abbrev pub device_line : Target → TextLine
 device_line device =
     codes "device" ∷ decimal device.first ∷ decimal device.blocks ∷ decimal device.slots ∷ decimal device.caps.xts
@@ -56,7 +57,8 @@ abbrev pub mode_text : Mode → List ℕ
 mode_text Aes256Xts = codes "aes-256-xts"
 mode_text Aes128CbcEssiv = codes "aes-128-cbc-essiv"
 
--- the name, the mode, the data unit's bytes, the number bytes, and the key's bytes in hexadecimal digits
+-- the name, the mode, the data unit's bytes, the number bytes, and the key's bytes in hexadecimal
+-- digits
 abbrev pub key_line : NamedKey → TextLine
 key_line named =
     codes "key" ∷ named.name ∷ mode_text named.key.config.mode ∷ decimal (bytes_of named.key.config.unit)
@@ -72,8 +74,8 @@ fault_line fault = codes "fault" ∷ decimal fault.0 ∷ decimal fault.1 ∷ []
 -- ---- a line for each thread, and one for each of its operations
 
 -- the name of the key with this number
-abbrev pub name_of : List NamedKey → KeyNo → List ℕ
-name_of keys number = unwrap_or (option_map (λ (named : NamedKey). named.name) (slice_get keys number.0)) []
+abbrev pub key_name_of : List NamedKey → KeyNo → List ℕ
+key_name_of keys number = unwrap_or (option_map (λ (named : NamedKey). named.name) (slice_get keys number.0)) []
 
 -- what stands for no key, and for no number
 abbrev pub dash : List ℕ
@@ -82,7 +84,7 @@ dash = codes "-"
 -- the name of a bio's key
 abbrev pub key_field : List NamedKey → Option Context → List ℕ
 key_field keys None = dash
-key_field keys (Some context) = name_of keys context.key
+key_field keys (Some context) = key_name_of keys context.key
 
 -- the number of a bio's first data unit
 abbrev pub number_field : Option Context → List ℕ
@@ -104,7 +106,7 @@ abbrev pub op_line : List NamedKey → Op → TextLine
 op_line keys (Write context sector units text) =
     codes "write" ∷ (bio_fields keys context sector units ++ text_fields text)
 op_line keys (Read context sector units) = codes "read" ∷ bio_fields keys context sector units
-op_line keys (Evict key) = codes "evict" ∷ name_of keys key ∷ []
+op_line keys (Evict key) = codes "evict" ∷ key_name_of keys key ∷ []
 op_line keys (Reset device) = codes "reset" ∷ decimal device ∷ []
 op_line keys Plug = codes "plug" ∷ []
 op_line keys Unplug = codes "unplug" ∷ []
@@ -135,7 +137,7 @@ abbrev pub script_text : Script → List ℕ
 script_text s = lines_text (script_lines s)
 
 -- the text is this script's
-pub record Says (text : List ℕ) (s : Script) : Type 0 where
+pub record SaysScript (text : List ℕ) (s : Script) : Type 0 where
   pub valid : IsScript s
   pub text_is : text ≡ script_text s
 

@@ -1,5 +1,6 @@
--- What one line states: the line that states it, whether it fits after the lines that have been read, and what is read with it.
--- The contracts of private functions speak of this; no public one does.
+-- What one line states: the line that states it, whether it fits after the lines that have been
+-- read, and what is read with it. The contracts of private functions speak of this; no public one
+-- does.
 use Rattle.std.specs.Prelude.{◌≡◌, ℕ, ◌+◌, ◌-◌, ◌<◌, ◌≤◌, Bool, true, false, List, [], ◌∷◌, ◌++◌, codes, length, slice_get, sum_by, Some, IsSome, Result, MatchResult, ⊤}
 use Rattle.std.specs.Option.{option_map_or}
 use Rattle.bc_text.specs.Lines.{TextLine}
@@ -50,16 +51,16 @@ form_line End = codes "end" ∷ []
 -- ---- items
 
 -- the line that states it
-abbrev pub line_of : List NamedKey → Statement → TextLine
-line_of keys statements.Version = version_line
-line_of keys (statements.Disk blocks) = disk_line blocks
-line_of keys (statements.Fallback on) = fallback_line on
-line_of keys (statements.Device device) = device_line device
-line_of keys (statements.Key named) = key_line named
-line_of keys (statements.Fault fault) = fault_line fault
-line_of keys statements.Thread = thread_line
-line_of keys (statements.Operation op) = op_line keys op
-line_of keys statements.End = end_line
+abbrev pub statement_line : List NamedKey → Statement → TextLine
+statement_line keys statements.Version = version_line
+statement_line keys (statements.Disk blocks) = disk_line blocks
+statement_line keys (statements.Fallback on) = fallback_line on
+statement_line keys (statements.Device device) = device_line device
+statement_line keys (statements.Key named) = key_line named
+statement_line keys (statements.Fault fault) = fault_line fault
+statement_line keys statements.Thread = thread_line
+statement_line keys (statements.Operation op) = op_line keys op
+statement_line keys statements.End = end_line
 
 -- what its line is for
 abbrev pub sort_of_statement : Statement → Sort
@@ -80,29 +81,30 @@ pub record FitsDevice (p : Progress) (device : Target) : Type 0 where
   pub room : length p.targets < max_devices
 
 -- the devices that have been read, if there are any, cover the disk
-abbrev pub AreWhole : Progress → Type 0
-AreWhole p = CoverAll p.blocks p.targets
+abbrev pub CoverDisk : Progress → Type 0
+CoverDisk p = CoverAll p.blocks p.targets
 
 -- a valid key with a new name, of which there is room for one more
 pub record FitsKey (p : Progress) (named : NamedKey) : Type 0 where
-  pub whole : AreWhole p
+  pub whole : CoverDisk p
   pub valid : IsNamedKey named
   pub fresh : IsNoName p.keys named.name
   pub room : length p.keys < max_keys
 
 -- whether a fault comes after the last of these, if there is one
-abbrev pub is_after : List (ℕ × ℕ) → ℕ × ℕ → Bool
-is_after faults fault =
+abbrev pub follows_faults : List (ℕ × ℕ) → ℕ × ℕ → Bool
+follows_faults faults fault =
     option_map_or (λ (last : ℕ × ℕ). is_before last fault) (slice_get faults (length faults - 1)) true
 
 -- a valid fault, which comes after those that have been read, and for which there is room
 pub record FitsFault (p : Progress) (fault : ℕ × ℕ) : Type 0 where
-  pub whole : AreWhole p
+  pub whole : CoverDisk p
   pub valid : IsFault fault
-  pub ascends : is_after p.faults fault ≡ true
+  pub ascends : follows_faults p.faults fault ≡ true
   pub room : length p.faults < max_faults
 
--- a valid operation, which opens no plug twice and closes none that isn't open, and for which there is room
+-- a valid operation, which opens no plug twice and closes none that isn't open, and for which there
+-- is room
 pub record FitsOp (p : Progress) (op : Op) : Type 0 where
   pub valid : IsOp (length p.targets) (bare_keys p.keys) op
   pub plugs : IsSome (open_after false (p.section ++ op ∷ []))
@@ -110,8 +112,8 @@ pub record FitsOp (p : Progress) (op : Op) : Type 0 where
   pub units : sum_by unit_count_of_section (sections_read p) + unit_count op ≤ max_units
 
 -- each plug of the section that is being read is closed
-abbrev pub IsClosed : Progress → Type 0
-IsClosed p = open_after false p.section ≡ Some false
+abbrev pub PlugsAreClosed : Progress → Type 0
+PlugsAreClosed p = open_after false p.section ≡ Some false
 
 -- a line of this sort ends the section above it
 abbrev pub EndsSection : Sort → Type 0
@@ -132,9 +134,9 @@ Fits p (statements.Fallback on) = ⊤
 Fits p (statements.Device device) = FitsDevice p device
 Fits p (statements.Key named) = FitsKey p named
 Fits p (statements.Fault fault) = FitsFault p fault
-Fits p statements.Thread = IsClosed p × (length (sections_read p) < max_threads) × AreWhole p
+Fits p statements.Thread = PlugsAreClosed p × (length (sections_read p) < max_threads) × CoverDisk p
 Fits p (statements.Operation op) = FitsOp p op
-Fits p statements.End = IsClosed p × AreWhole p
+Fits p statements.End = PlugsAreClosed p × CoverDisk p
 
 -- the section that is being read has ended, with a line of this sort
 abbrev pub with_section_ended : Progress → Sort → Progress
@@ -164,14 +166,14 @@ with_statement p statements.End = with_section_ended p sorts.End
 
 -- a line of this form makes the statement, which fits after what has been read
 pub record IsStatementOf (p : Progress) (form : Form) (statement : Statement) : Type 0 where
-  pub line_is : form_line form ≡ line_of p.keys statement
+  pub line_is : form_line form ≡ statement_line p.keys statement
   pub sort_is : sort_of form ≡ sort_of_statement statement
   pub fits : Fits p statement
 
 -- the line makes the statement, which may stand after what has been read and fits
-pub record IsNext (p : Progress) (line : TextLine) (statement : Statement) : Type 0 where
+pub record IsNextStatement (p : Progress) (line : TextLine) (statement : Statement) : Type 0 where
   pub rules : IsProgress p
-  pub line_is : line ≡ line_of p.keys statement
+  pub line_is : line ≡ statement_line p.keys statement
   pub follows : may_follow p.last (sort_of_statement statement) ≡ true
   pub fits : Fits p statement
 
@@ -189,10 +191,11 @@ Reports why (unread.Bad kind) = why ≡ Some kind
 Reports why unread.Memory = ⊤
 
 -- the same of one test alone
-abbrev pub Refuses : Bool → ScriptWhy → Unread → Type 0
-Refuses passed kind (unread.Bad why) = (passed ≡ false) × (why ≡ kind)
-Refuses passed kind unread.Memory = ⊤
+abbrev pub RefusesTest : Bool → ScriptWhy → Unread → Type 0
+RefusesTest passed kind (unread.Bad why) = (passed ≡ false) × (why ≡ kind)
+RefusesTest passed kind unread.Memory = ⊤
 
--- a line of this form is read as the statement that it makes, or refused by the first test that it fails
+-- a line of this form is read as the statement that it makes, or refused by the first test that it
+-- fails
 abbrev pub ReadsForm : Progress → Form → Result Statement Unread → Type 0
 ReadsForm p form r = MatchResult r (IsStatementOf p form) (Reports (tests_of (forms_read p) form))

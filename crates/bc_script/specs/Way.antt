@@ -11,7 +11,8 @@ pub data Way : Type 0 where
   soft : Way
   inline : ℕ → Way
 
--- the way of an accepted unit with this context at this sector: by its device where the key is inline
+-- the way of an accepted unit with this context at this sector: by its device where the key is
+-- inline
 abbrev pub way_of : Script → Option Context → ℕ → Way
 way_of script None sector = plain
 way_of script (Some context) sector =

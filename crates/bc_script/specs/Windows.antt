@@ -1,4 +1,5 @@
--- The windows of a section: which accepted bios are submitted together, and the evictions and resets between them.
+-- The windows of a section: which accepted bios are submitted together, and the evictions and
+-- resets between them.
 use Rattle.std.specs.Prelude.{ℕ, ◌==◌, List, [], ◌∷◌, ◌++◌, length, filter_map, Option, Some, None, is_none, if◌then◌else◌}
 use Rattle.std.specs.List.{enumerate_from}
 use Rattle.std.specs.Option.{option_map_or}
@@ -48,8 +49,9 @@ abbrev pub emptied : Option (List TaggedBio) → Option (List TaggedBio)
 emptied None = None
 emptied (Some bios) = Some []
 
--- The turns from here on, where the open plug has these bios, or none is open. A bio outside a plug is a window; in a
--- plug a window ends at an unplug, an eviction, a reset, and before a bio more than fit.
+-- The turns from here on, where the open plug has these bios, or none is open. A bio outside a plug
+-- is a window; in a plug a window ends at an unplug, an eviction, a reset, and before a bio more
+-- than fit.
 abbrev pub turns_from : Option (List TaggedBio) → List Step → List Turn
 turns_from plugged [] = submitted plugged
 turns_from None (Accepted bio ∷ steps) = Window (bio ∷ []) ∷ turns_from None steps

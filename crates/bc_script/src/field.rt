@@ -7,7 +7,7 @@ ghost use Rattle.bc_script.specs.ScriptText.{dash};
 ghost use Rattle.bc_script.specs.ScriptErrors.{is_number, is_number_below, is_number_text, is_hex_text, is_text};
 ghost use Rattle.bc_script.specs.Lent.{text_lent};
 ghost use Rattle.bc_script.specs.Says.{SaysNumber, SaysNumberBelow, SaysDataUnitNumber, SaysBytes};
-ghost use Rattle.bc_script.specs.Statements.{Refuses};
+ghost use Rattle.bc_script.specs.Statements.{RefusesTest};
 ghost use Rattle.bc_script.specs.BioFields.{SaysNumberField, SaysText};
 
 use crate::form::TextForm;
@@ -24,7 +24,7 @@ use std::alloc::{AllocError, Global};
 pub(crate) fn number(field: &[u8], least: u32, most: u32) -> Result<u32, Unread>
     ensures { MatchResult result
         (SaysNumber least most field.now)
-        (Refuses (is_number least most field.now) why.Number) }
+        (RefusesTest (is_number least most field.now) why.Number) }
 {
     match decimal_number(field, least, most) {
         Some(number) => Ok(number),
@@ -36,7 +36,7 @@ pub(crate) fn number(field: &[u8], least: u32, most: u32) -> Result<u32, Unread>
 pub(crate) fn number_below(field: &[u8], end: u32) -> Result<u32, Unread>
     ensures { MatchResult result
         (SaysNumberBelow end field.now)
-        (Refuses (is_number_below end field.now) why.Number) }
+        (RefusesTest (is_number_below end field.now) why.Number) }
 {
     if end == 0 {
         return Err(Unread::Bad(ScriptWhy::Number));
@@ -48,7 +48,7 @@ pub(crate) fn number_below(field: &[u8], end: u32) -> Result<u32, Unread>
 pub(crate) fn bio_number(field: &[u8]) -> Result<Option<Dun>, Unread>
     ensures { MatchResult result
         (SaysNumberField field.now)
-        (Refuses (bytes_eq field.now dash || is_number_text field.now) why.Number) }
+        (RefusesTest (bytes_eq field.now dash || is_number_text field.now) why.Number) }
 {
     if field == b"-".as_slice() {
         return Ok(None);
@@ -63,7 +63,7 @@ pub(crate) fn bio_number(field: &[u8]) -> Result<Option<Dun>, Unread>
 pub(crate) fn write_text(alloc: Global, form: TextForm, size: usize) -> Result<Text, Unread>
     ensures { MatchResult result
         (SaysText size (text_lent form.entry))
-        (Refuses (is_text size (text_lent form.entry)) why.Hex) }
+        (RefusesTest (is_text size (text_lent form.entry)) why.Hex) }
 {
     match form {
         TextForm::Fill(digits) => match fill_byte(digits) {
@@ -136,7 +136,8 @@ fn key_bytes_in(field: &[u8], room: &mut [u8]) -> Option<ArrayVec<u8, MAX_KEY_BY
     Some(bytes)
 }
 
-/// The `count` bytes that the field says. Takes memory only where the field is as long as their digits.
+/// The `count` bytes that the field says. Takes memory only where the field is as long as their
+/// digits.
 fn hex_bytes(alloc: Global, field: &[u8], count: usize) -> Result<Option<Items<u8>>, AllocError>
     ensures value { IfOk result (λ answer. MatchOption answer
         (is_hex_text count count field.now ≡ false)

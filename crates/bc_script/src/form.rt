@@ -156,7 +156,7 @@ fn alone<'a>(form: Form<'a>, fields: Parts<'a>) -> Option<Form<'a>>
 }
 
 fn with_word<'a>(word: &[u8], form: Form<'a>, mut fields: Parts<'a>) -> Option<Form<'a>>
-    ensures { option_map form_lent result ≡ specs.with_word word.now (form_lent form.entry) fields.entry }
+    ensures { option_map form_lent result ≡ specs.form_with_word word.now (form_lent form.entry) fields.entry }
 {
     if fields.next()? == word {
         alone(form, fields)
@@ -189,7 +189,7 @@ fn with_switch(fields: Parts) -> Option<Form>
 }
 
 fn with_device(mut fields: Parts) -> Option<Form>
-    ensures { option_map form_lent result ≡ specs.with_device fields.entry }
+    ensures { option_map form_lent result ≡ specs.form_with_device fields.entry }
 {
     let first = fields.next()?;
     let blocks = fields.next()?;
@@ -208,7 +208,7 @@ fn with_device(mut fields: Parts) -> Option<Form>
 }
 
 fn mode(word: &[u8]) -> Option<Mode>
-    ensures { result ≡ specs.mode_of word.now }
+    ensures { result ≡ specs.mode_of_word word.now }
 {
     if is(word, b"aes-256-xts") {
         Some(Mode::Aes256Xts)
@@ -241,7 +241,7 @@ fn with_key(mut fields: Parts) -> Option<Form>
 }
 
 fn with_fault(mut fields: Parts) -> Option<Form>
-    ensures { option_map form_lent result ≡ specs.with_fault fields.entry }
+    ensures { option_map form_lent result ≡ specs.form_with_fault fields.entry }
 {
     let shard = fields.next()?;
     let access = one(fields)?;
@@ -285,7 +285,7 @@ fn text<'a>(word: &[u8], digits: &'a [u8]) -> Option<TextForm<'a>>
 }
 
 fn with_bio(mut fields: Parts) -> Option<Form>
-    ensures { option_map form_lent result ≡ specs.with_bio fields.entry }
+    ensures { option_map form_lent result ≡ specs.form_with_bio fields.entry }
 {
     let bio = bio(&mut fields)?;
     if !fields.is_empty() || !dashes_agree(&bio) {

@@ -1,7 +1,7 @@
 //! The script that `make N` carries out.
 //!
-//! Sixteen threads write data units under three keys, and each reads back what it wrote. A thread keeps to 64 blocks of its
-//! own, so every answer is the same in whatever order the threads run.
+//! Sixteen threads write data units under three keys, and each reads back what it wrote. A thread
+//! keeps to 64 blocks of its own, so every answer is the same in whatever order the threads run.
 
 ghost use Rattle.std.specs.Prelude.{◌≡◌, ◌++◌, ◌<◌, ◌≤◌, None, IsTrue, IfOk, OnOk, [], ◌∷◌, map};
 ghost use Rattle.std.specs.List.{range_with_len};
@@ -10,7 +10,7 @@ ghost use Rattle.bc_key.specs.KeyRefusal.{key_refusal};
 ghost use Rattle.bc_key.specs.KeyData.{key_size};
 ghost use Rattle.bc_script.specs.Script.{max_slots, max_generated};
 ghost use Rattle.bc_script.specs.Name.{is_name};
-ghost use Rattle.bc_script.specs.Generated.{generated, generated_threads, generated_device, generated_keys, counted_key, generated_context, generated_sector, generated_byte, generated_write, generated_read, generated_pair, generated_section};
+ghost use Rattle.bc_script.specs.GeneratedScript.{generated, generated_threads, generated_device, generated_keys, counted_key, generated_context, generated_sector, generated_byte, generated_write, generated_read, generated_pair, generated_section};
 
 use crate::limits::MAX_THREADS;
 use crate::name::Name;
@@ -32,8 +32,8 @@ const THREAD_BLOCKS: u32 = BLOCKS / MAX_THREADS as u32;
 /// How many bytes the numbers of data units may have.
 const NUMBER_BYTES: u8 = 8;
 
-/// The script of `make`: a disk of 1024 blocks on one device with so many keyslots, three keys, and sixteen threads. Each
-/// thread writes a data unit and reads it back, `n` times.
+/// The script of `make`: a disk of 1024 blocks on one device with so many keyslots, three keys, and
+/// sixteen threads. Each thread writes a data unit and reads it back, `n` times.
 ///
 /// # Errors
 ///
@@ -57,7 +57,8 @@ pub fn generate(alloc: Global, n: u32, slots: u16) -> Result<Script, AllocError>
     ))
 }
 
-/// The one device. It has the whole disk, and supports XTS alone, with data units of 512 and 4096 bytes.
+/// The one device. It has the whole disk, and supports XTS alone, with data units of 512 and 4096
+/// bytes.
 fn devices(alloc: Global, slots: u16) -> Result<Vec<Target>, AllocError>
     ensures { IfOk result (λ devices. devices.items ≡ generated_device slots ∷ []) }
 {
@@ -121,7 +122,8 @@ fn counted_bytes(first: u8) -> [u8; 64]
 #[tactic(auto, using(crate::proofs::GeneratedLoops::section_more))]
 fn sections(alloc: Global, n: u32) -> Result<Vec<Items<Op>>, AllocError>
     requires { n ≤ max_generated }
-    ensures { IfOk result (λ sections. sections.items ≡ map (generated_section n) (range_with_len 0 generated_threads)) }
+    ensures { IfOk result (λ sections.
+        sections.items ≡ map (generated_section n) (range_with_len 0 generated_threads)) }
 {
     let mut sections = Vec::new(alloc);
     for thread in 0..MAX_THREADS as u32 {
@@ -214,6 +216,3 @@ fn sector(n: u32, thread: u32, j: u32) -> u32
 {
     BLOCK_SECTORS * (THREAD_BLOCKS * thread + (7 * j + n) % THREAD_BLOCKS)
 }
-
-#[cfg(test)]
-mod tests;

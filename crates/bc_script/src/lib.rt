@@ -1,5 +1,6 @@
-//! The script language: what a script says, its text, and why a text is none. Whether a text is a script's, or the first line
-//! that fails a test and which, as `script line 4: key` (`is_script` of the crate `uses`):
+//! The script language: what a script says, its text, and why a text is none. Whether a text is a
+//! script's, or the first line that fails a test and which, as `script line 4: key` (`is_script` of
+//! the crate `uses`):
 //!
 //!     match parse(alloc, text) {
 //!         Ok(_script) => Ok(true),
@@ -45,6 +46,3 @@ pub use parser::parse;
 pub use printing::print;
 pub use script::Script;
 pub use script_error::{ParseError, ScriptError, ScriptWhy};
-
-#[cfg(test)]
-mod tests;

@@ -8,7 +8,8 @@ use crate::limits::MAX_NAME;
 use arrayvec::ArrayVec;
 use std::marker::Model;
 
-/// The name of a key: a lower-case letter, and then at most 15 lower-case letters or digits, all of ASCII.
+/// The name of a key: a lower-case letter, and then at most 15 lower-case letters or digits, all of
+/// ASCII.
 #[derive(Debug, Drop)]
 pub struct Name {
     bytes: ArrayVec<u8, MAX_NAME>,

@@ -11,8 +11,8 @@ use std::alloc::{AllocError, Global};
 use std::collections::BTreeMap;
 use std::marker::Model;
 
-/// Keys with their names, of which no two are equal. A key's number is its place. Finding the number of a name takes
-/// time in the logarithm of their count.
+/// Keys with their names, of which no two are equal. A key's number is its place. Finding the
+/// number of a name takes time in the logarithm of their count.
 #[derive(Drop)]
 pub(crate) struct NamedKeys {
     keys: Vec<NamedKey>,
@@ -43,8 +43,8 @@ impl NamedKeys {
         }
     }
 
-    /// Appends a key with a new name. Its number is the count of those before it. Nothing changes where there is no
-    /// memory.
+    /// Appends a key with a new name. Its number is the count of those before it. Nothing changes
+    /// where there is no memory.
     pub(crate) fn add(&mut self, alloc: Global, named: NamedKey) -> Result<(), AllocError>
         requires room { length self.old < 2 ^ 16 }
         requires fresh { IsNoName self.old named.name }

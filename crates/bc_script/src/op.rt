@@ -18,11 +18,12 @@ pub enum Text {
     Bytes(Items<u8>),
 }
 
-/// One operation of a section. Operations are numbered from 0 in each section, and each has one answer.
+/// One operation of a section. Operations are numbered from 0 in each section, and each has one
+/// answer.
 #[derive(Debug, Drop)]
 pub enum Op {
-    /// Writes so many data units from a sector of 512 bytes on, under a key and the number of the first of them, or in the
-    /// clear where there is no context.
+    /// Writes so many data units from a sector of 512 bytes on, under a key and the number of the
+    /// first of them, or in the clear where there is no context.
     Write {
         context: Option<Context>,
         sector: u32,
@@ -39,15 +40,16 @@ pub enum Op {
     Evict(KeyNo),
     /// Has the device with this number, from 0, program its keyslots again.
     Reset(u8),
-    /// Opens a plug: the bios that follow are held until it is closed, or full. It is paired with `Unplug`, in one section.
+    /// Opens a plug: the bios that follow are held until it is closed, or full. It is paired with
+    /// `Unplug`, in one section.
     Plug,
     /// Closes the plug, and submits the bios that it holds.
     Unplug,
 }
 
 impl Op {
-    /// The bio that the operation submits; `None` where it submits none. Its sectors are of 512 bytes, its data units of
-    /// its key's size. What a write writes is no part of it.
+    /// The bio that the operation submits; `None` where it submits none. Its sectors are of 512
+    /// bytes, its data units of its key's size. What a write writes is no part of it.
     pub fn bio(&self) -> Option<Extent>
         ensures { result ≡ bio_of self.now }
     {

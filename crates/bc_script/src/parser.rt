@@ -1,9 +1,9 @@
 //! The script that a text says.
 
 ghost use Rattle.std.specs.Prelude.{◌≡◌, None, IfOk, IfErr, OnOk};
-ghost use Rattle.bc_script.specs.ScriptText.{Says};
+ghost use Rattle.bc_script.specs.ScriptText.{SaysScript};
 ghost use Rattle.bc_script.specs.ScriptErrors.{error_of};
-ghost use Rattle.bc_script.specs.Parsing.{IsRefused};
+ghost use Rattle.bc_script.specs.Parsing.{IsRefusedScript};
 
 use crate::reader::Reader;
 use crate::script::Script;
@@ -15,12 +15,12 @@ use std::alloc::Global;
 ///
 /// # Errors
 ///
-/// `Bad` where no script has the text: the first line that fails a test, and the first test that it fails. `Memory` where
-/// there was no memory for the script.
+/// `Bad` where no script has the text: the first line that fails a test, and the first test that it
+/// fails. `Memory` where there was no memory for the script.
 pub fn parse(alloc: Global, text: &[u8]) -> Result<Script, ParseError>
-    ensures says { IfOk result (Says text.now) }
+    ensures says { IfOk result (SaysScript text.now) }
     ensures passes { OnOk result (error_of text.now ≡ None) }
-    ensures refused { IfErr result (IsRefused text.now) }
+    ensures refused { IfErr result (IsRefusedScript text.now) }
 {
     let mut lines = Lines::new(text);
     let mut reader = Reader::new(alloc);

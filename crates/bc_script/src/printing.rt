@@ -6,7 +6,7 @@ ghost use Rattle.hex.specs.Hex.{encode_lower};
 ghost use Rattle.bc_key.specs.DataUnits.{bytes_of};
 ghost use Rattle.bc_key.specs.NumberText.{number_text};
 ghost use Rattle.bc_text.specs.Lines.{fields_text, line_text, lines_text};
-ghost use Rattle.bc_script.specs.ScriptText.{head_lines, version_line, disk_line, on_off, fallback_line, device_line, mode_text, key_line, fault_line, name_of, key_field, number_field, bio_fields, text_fields, op_line, section_lines, script_text};
+ghost use Rattle.bc_script.specs.ScriptText.{head_lines, version_line, disk_line, on_off, fallback_line, device_line, mode_text, key_line, fault_line, key_name_of, key_field, number_field, bio_fields, text_fields, op_line, section_lines, script_text};
 
 use crate::named_key::NamedKey;
 use crate::op::{Op, Text};
@@ -19,8 +19,8 @@ use bc_stack::Target;
 use bc_text::{put_hex, put_number};
 use std::alloc::{AllocError, Global};
 
-/// The one text of the script: its first three lines, a line for each device, for each key, for each fault that is
-/// planned and for each thread's section and its operations, and the `end` line.
+/// The one text of the script: its first three lines, a line for each device, for each key, for
+/// each fault that is planned and for each thread's section and its operations, and the `end` line.
 ///
 /// # Errors
 ///
@@ -81,7 +81,7 @@ fn on_off(is_on: bool) -> &'static [u8]
     if is_on { b"on" } else { b"off" }
 }
 
-#[tactic(auto, using(crate::proofs::Printed::lines_text_more))]
+#[tactic(auto, using(bc_text::proofs::Printing::lines_text_more))]
 fn put_devices(text: &mut Vec<u8>, devices: &[Target]) -> Result<(), AllocError>
     ensures { OnOk result (text.new.items ≡ text.old.items ++ lines_text (map device_line devices.now)) }
 {
@@ -129,7 +129,7 @@ fn put_caps(text: &mut Vec<u8>, caps: &Caps) -> Result<(), AllocError>
 
 // ---- keys
 
-#[tactic(auto, using(crate::proofs::Printed::lines_text_more))]
+#[tactic(auto, using(bc_text::proofs::Printing::lines_text_more))]
 fn put_keys(text: &mut Vec<u8>, keys: &[NamedKey]) -> Result<(), AllocError>
     ensures { OnOk result (text.new.items ≡ text.old.items ++ lines_text (map key_line keys.now)) }
 {
@@ -184,7 +184,7 @@ fn mode_text(mode: Mode) -> &'static [u8]
 
 // ---- faults
 
-#[tactic(auto, using(crate::proofs::Printed::lines_text_more))]
+#[tactic(auto, using(bc_text::proofs::Printing::lines_text_more))]
 fn put_faults(text: &mut Vec<u8>, faults: &[(u16, u32)]) -> Result<(), AllocError>
     ensures { OnOk result (text.new.items ≡ text.old.items ++ lines_text (map fault_line faults.now)) }
 {
@@ -222,7 +222,7 @@ fn put_sections(
     Ok(())
 }
 
-#[tactic(auto, using(crate::proofs::Printed::lines_text_more))]
+#[tactic(auto, using(bc_text::proofs::Printing::lines_text_more))]
 fn put_section(text: &mut Vec<u8>, keys: &[NamedKey], section: &[Op]) -> Result<(), AllocError>
     ensures { OnOk result (text.new.items ≡ text.old.items ++ lines_text (section_lines keys.now section.now)) }
 {
@@ -345,13 +345,10 @@ fn put_text(text: &mut Vec<u8>, bytes: &Text) -> Result<(), AllocError>
 
 /// The name of the key with this number.
 fn put_name(text: &mut Vec<u8>, keys: &[NamedKey], number: KeyNo) -> Result<(), AllocError>
-    ensures { OnOk result (text.new.items ≡ text.old.items ++ name_of keys.now number) }
+    ensures { OnOk result (text.new.items ≡ text.old.items ++ key_name_of keys.now number) }
 {
     match keys.get(usize::from(number.0)) {
         None => Ok(()),
         Some(named) => text.extend_from_slice(named.name.as_bytes()),
     }
 }
-
-#[cfg(test)]
-mod tests;

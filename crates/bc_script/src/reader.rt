@@ -9,8 +9,8 @@ ghost use Rattle.bc_script.specs.Order.{may_follow};
 ghost use Rattle.bc_script.specs.ScriptErrors.{error_at, error_at_end, is_end};
 ghost use Rattle.bc_text.specs.Lines.{is_nothing};
 ghost use Rattle.bc_script.specs.Progress.{IsProgress, lines_read, forms_read, is_in_section, with_section};
-ghost use Rattle.bc_script.specs.Statements.{Fits, FitsDevice, FitsKey, FitsFault, FitsOp, AreWhole, IsClosed, EndsSection, HasRoomFor, sort_of_statement, with_statement, with_section_ended};
-ghost use Rattle.bc_script.specs.Reading.{Took, IsWhole, ReportsNext, left_section};
+ghost use Rattle.bc_script.specs.Statements.{Fits, FitsDevice, FitsKey, FitsFault, FitsOp, CoverDisk, PlugsAreClosed, EndsSection, HasRoomFor, sort_of_statement, with_statement, with_section_ended};
+ghost use Rattle.bc_script.specs.Reading.{TookScriptLine, IsWholeScript, ReportsNext, left_section};
 
 mod line;
 
@@ -100,7 +100,7 @@ impl Reader {
 
     /// Reads the next line.
     pub(crate) fn take(&mut self, alloc: Global, line: Parts) -> Result<(), ParseError>
-        ensures ok { OnOk result (Took self.old line.entry self.new) }
+        ensures ok { OnOk result (TookScriptLine self.old line.entry self.new) }
         ensures bad { IfErr result (ReportsNext self.old (error_at (forms_read self.old) line.entry)) }
     {
         match self.statement(alloc, line) {
@@ -239,8 +239,8 @@ impl Reader {
     fn end_section(&mut self, alloc: Global, sort: Sort) -> Result<(), AllocError>
         requires sort { EndsSection sort }
         requires follows { may_follow self.old.last sort ≡ true }
-        requires closed { IsClosed self.old }
-        requires whole { AreWhole self.old }
+        requires closed { PlugsAreClosed self.old }
+        requires whole { CoverDisk self.old }
         requires room { HasRoomFor self.old sort }
         ensures { OnOk result (self.new ≡ with_section_ended self.old sort) }
     {
@@ -253,7 +253,7 @@ impl Reader {
 
     /// The script, whose last line has been read, and which has nothing after it but this.
     pub(crate) fn finish(self, rest: Parts) -> Result<Script, ParseError>
-        ensures ok { IfOk result (IsWhole self rest.entry) }
+        ensures ok { IfOk result (IsWholeScript self rest.entry) }
         ensures bad { IfErr result (ReportsNext self (error_at_end (forms_read self) rest.entry)) }
     {
         if !is_end(self.last_sort()) || !rest.is_nothing() {

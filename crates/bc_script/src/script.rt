@@ -8,8 +8,9 @@ use bc_base::Items;
 use bc_stack::Target;
 use std::marker::Model;
 
-/// A script: a disk, its devices, its keys, the faults that are planned, and for each thread the section of its operations. It keeps
-/// the rules of the script language by its type, so each script has a text.
+/// A script: a disk, its devices, its keys, the faults that are planned, and for each thread the
+/// section of its operations. It keeps the rules of the script language by its type, so each script
+/// has a text.
 #[derive(Drop)]
 pub struct Script {
     blocks: u32,
@@ -91,8 +92,8 @@ impl Script {
         self.blocks
     }
 
-    /// Whether software enciphers what no device can. Where it doesn't, a bio whose key isn't supported by each device is
-    /// refused.
+    /// Whether software enciphers what no device can. Where it doesn't, a bio whose key isn't
+    /// supported by each device is refused.
     pub fn fallback(&self) -> bool
         ensures value { result ≡ self.now.fallback }
         ensures rules { specs.IsScript self.now }
@@ -100,8 +101,9 @@ impl Script {
         self.fallback
     }
 
-    /// The devices, in the order of their blocks, at most 8: each with its first block and its number of blocks (of 4096
-    /// bytes), its 1 to 32 keyslots, and what it supports. Where there are some, they cover the disk.
+    /// The devices, in the order of their blocks, at most 8: each with its first block and its
+    /// number of blocks (of 4096 bytes), its 1 to 32 keyslots, and what it supports. Where there
+    /// are some, they cover the disk.
     pub fn targets(&self) -> &[Target]
         ensures value { result.now ≡ self.now.targets }
         ensures rules { specs.IsScript self.now }
@@ -117,8 +119,9 @@ impl Script {
         self.keys.as_slice()
     }
 
-    /// The faults that are planned, in ascending order: each by its shard, 0 to 63, and its place in the shard's order,
-    /// 0 to 65535. One on a shard that the disk doesn't have, or at a place that isn't reached, is without effect.
+    /// The faults that are planned, in ascending order: each by its shard, 0 to 63, and its place
+    /// in the shard's order, 0 to 65535. One on a shard that the disk doesn't have, or at a place
+    /// that isn't reached, is without effect.
     pub fn faults(&self) -> &[(u16, u32)]
         ensures value { result.now ≡ self.now.faults }
         ensures rules { specs.IsScript self.now }

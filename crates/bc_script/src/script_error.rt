@@ -11,17 +11,20 @@ pub struct ScriptError {
     pub why: ScriptWhy,
 }
 
-/// What is wrong with a line. The tests of a line go in this order, but those of its fields, which go from left to right.
+/// What is wrong with a line. The tests of a line go in this order, but those of its fields, which
+/// go from left to right.
 #[derive(Clone, Copy, Debug, PartialEq, Eq, Error)]
 pub enum ScriptWhy {
-    /// The text ends before its `end` line, or in a line without a line feed; or the line stands after the `end` line.
+    /// The text ends before its `end` line, or in a line without a line feed; or the line stands
+    /// after the `end` line.
     #[error("end")]
     End,
-    /// The line is of a form that isn't built yet, and stands where it may. No call of this crate answers it now, since
-    /// each form is built.
+    /// The line is of a form that isn't built yet, and stands where it may. No call of this crate
+    /// answers it now, since each form is built.
     #[error("not built")]
     NotBuilt,
-    /// The line has none of the forms that may stand there, by its first word, its number of fields and its fixed words.
+    /// The line has none of the forms that may stand there, by its first word, its number of fields
+    /// and its fixed words.
     #[error("word")]
     Word,
     /// A number is malformed, or out of its range.
@@ -36,12 +39,12 @@ pub enum ScriptWhy {
     /// No key is like this.
     #[error("key")]
     Key(KeyError),
-    /// A fault doesn't come after the one before it; or a plug is opened twice, or closed without being open, or still
-    /// open where its section ends.
+    /// A fault doesn't come after the one before it; or a plug is opened twice, or closed without
+    /// being open, or still open where its section ends.
     #[error("order")]
     Order,
-    /// A device doesn't begin at the end of the one before it; or the devices don't have the disk's blocks together,
-    /// which the first line after them reports.
+    /// A device doesn't begin at the end of the one before it; or the devices don't have the disk's
+    /// blocks together, which the first line after them reports.
     #[error("device")]
     Device,
     /// The line is one too many of its sort, or asks for too many data units.

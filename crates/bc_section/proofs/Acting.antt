@@ -17,12 +17,12 @@ use Rattle.bc_medium.specs.declared.via.Via.{Via}
 use Rattle.bc_medium.specs.declared.via.Via.TheVariants as vias
 use Rattle.bc_medium.specs.KeyedDisk.{Sectors}
 use Rattle.bc_medium.specs.Entries.{caller_of, name_of_entry}
-use Rattle.bc_medium.specs.LawfulOrders.{name_of, is_attempted, is_earlier}
+use Rattle.bc_medium.specs.LawfulOrders.{unit_name_of, is_attempted, is_earlier}
 use Rattle.bc_medium.specs.Growth.{lies_in, Grows, IsEntryOf, failed_names, attempted_by, Attempts}
 use Rattle.bc_profile.specs.declared.event.Event.{Event}
 use Rattle.bc_profile.specs.declared.noted.Noted.{Noted}
 use Rattle.bc_profile.specs.Story.{author_of, event_in}
-use Rattle.bc_profile.specs.Laws.{ProgrammingsStay, LaterHoldsNameLater, HoldsBehindEvictions}
+use Rattle.bc_profile.specs.Laws.{ProgrammingsStay, LaterHoldsNameLater, HoldsAfterEvictions}
 use Rattle.bc_script.specs.declared.op.Op.{Op}
 use Rattle.bc_script.specs.declared.op.Op.TheVariants as ops
 use Rattle.bc_script.specs.Script.{Script, keys_of}
@@ -34,12 +34,13 @@ use Rattle.bc_report.specs.Evictions.{Eviction, evictions_in, is_evict, is_busy,
 use Rattle.bc_report.specs.Programmings.{InlineEntry, entry_by, passes, InOrder}
 use Rattle.bc_report.specs.Counts.{is_reset_of, touches_under, touches_any, is_reset, is_programming_of, is_idle}
 use Rattle.bc_compose.specs.SectionDone.{key_of_entry, inline_of, SaysItsWay, NamesOwn, own_events, Bounds, IsReply, SectionDone}
-use Rattle.bc_compose.specs.Ordered.{Pairs, Notes, GoesInline, Rises, HasHold, IsTakenOut, Held}
-use Rattle.bc_compose.specs.Acted.{is_act, Acted}
-use Rattle.bc_section.proofs.Lists.{In, all_at, all_from_in, all_append, in_of_filter, in_of_map, in_of_filter_map, beside}
-use Rattle.bc_section.proofs.Growing.{begins_itself, grows_none, grows_append, After, attempts_append, attempts_fresh, named}
+use Rattle.bc_compose.specs.OrderedHolds.{Pairs, Notes, GoesInline, Rises, HasHold, IsTakenOut, Held}
+use Rattle.bc_compose.specs.ThreadWork.{is_act, Acted}
+use Rattle.bc_section.proofs.Lists.{in_of_filter_map}
 use Rattle.bc_section.proofs.Carrying.{op_of_unit}
 use Rattle.bc_section.proofs.Ordering.{submitted, evicted, goes_on, all_pairs}
+use Rattle.bc_base.proofs.Members.{In, in_of_map, in_of_filter, beside, all_at, all_from_in, all_append}
+use Rattle.bc_medium.proofs.Growing.{begins_itself, grows_none, grows_append, After, attempts_append, attempts_fresh, named}
 
 -- ---- bounds add up
 
@@ -101,7 +102,7 @@ other_op caller f u ne = first (f.thread == u.thread) (f.op == u.op) (nat_lt f.u
     first true b c e = ap (λ (t : Bool). t && c) e
     first false b c e = refl
 
-module _ (stays : ProgrammingsStay) (later_holds : LaterHoldsNameLater) (behind_evictions : HoldsBehindEvictions) (script : Script) (shards : ℕ) (base : ℕ → Sectors) (thread : ℕ) (opening : List (List Entry)) where
+module _ (stays : ProgrammingsStay) (later_holds : LaterHoldsNameLater) (behind_evictions : HoldsAfterEvictions) (script : Script) (shards : ℕ) (base : ℕ → Sectors) (thread : ℕ) (opening : List (List Entry)) where
   abbrev Now : List (ℕ × Op) → ℕ → List (List Entry) → List (List Noted) → List Entry → List Eviction → Type 0
   Now acts next seen noted made evictions = Acted script shards thread opening acts next seen noted made evictions
 
@@ -124,19 +125,19 @@ module _ (stays : ProgrammingsStay) (later_holds : LaterHoldsNameLater) (behind_
       λ u v a b.
       let lt = all_at (λ (x : PlannedUnit). x.tag < next) (flat_map (units_of script) acts) u early a in
       let ge = (all_at (λ (x : PlannedUnit). (next ≤ x.tag) × (x.tag < later)) (flat_map (units_of script) window) v late b).0 in
-      other_op thread (name_of thread v) (name_of thread u) (λ e. omega arith) in
+      other_op thread (unit_name_of thread v) (unit_name_of thread u) (λ e. omega arith) in
       let old_op : (f : UnitName) → In f (failed_names made) → f.op < next =
       λ f a.
       let r = in_of_map name_of_entry (filter (λ x. x.failed) made) f a in
       let b = in_of_filter (λ x. x.failed) made r.0 r.1 in
       let w = beside (IsEntryOf thread) (attempted_by thread ([] ++ failed_names made) (flat_map (units_of script) acts)) made r.0 now.attempts b.0 in
-      let lt = all_at (λ (x : PlannedUnit). x.tag < next) (flat_map (units_of script) acts) w.0 early (in_of_filter (λ u. is_attempted ([] ++ failed_names made) (name_of thread u)) (flat_map (units_of script) acts) w.0 w.1).0 in
+      let lt = all_at (λ (x : PlannedUnit). x.tag < next) (flat_map (units_of script) acts) w.0 early (in_of_filter (λ u. is_attempted ([] ++ failed_names made) (unit_name_of thread u)) (flat_map (units_of script) acts) w.0 w.1).0 in
       subst (λ (n : UnitName). n.op < next) (sym (named thread w.0 r.0 w.2) ∙ r.2) lt in
       let fresh = attempts_fresh thread (failed_names made) (flat_map (units_of script) window) es
       (λ f u a b.
       let lt = old_op f a in
       let ge = (all_at (λ (x : PlannedUnit). (next ≤ x.tag) × (x.tag < later)) (flat_map (units_of script) window) u late b).0 in
-      other_op thread f (name_of thread u) (λ e. omega arith)) attempts in
+      other_op thread f (unit_name_of thread u) (λ e. omega arith)) attempts in
       record {
         before =
             all_append (λ (act : ℕ × Op). act.0 < later) acts window
@@ -243,7 +244,7 @@ no_reset script d (op, ops.Reset device) is = absurd (true≢false is)
 no_reset script d (op, ops.Plug) is = refl
 no_reset script d (op, ops.Unplug) is = refl
 
-module _ (stays : ProgrammingsStay) (later_holds : LaterHoldsNameLater) (behind_evictions : HoldsBehindEvictions) (script : Script) (shards : ℕ) (base : ℕ → Sectors) (thread : ℕ) (opening : List (List Entry)) where
+module _ (stays : ProgrammingsStay) (later_holds : LaterHoldsNameLater) (behind_evictions : HoldsAfterEvictions) (script : Script) (shards : ℕ) (base : ℕ → Sectors) (thread : ℕ) (opening : List (List Entry)) where
   pub acted_done : (section : List Op) (replies : List Answer) (next : ℕ) (seen : List (List Entry)) (noted : List (List Noted)) (made : List Entry) → ((shard : ℕ) → own caller_of thread (list_at opening shard) ≡ [])
       → Acted script shards thread opening (filter (is_act script) (enumerate_from 0 section)) next seen noted made (evictions_in (thread, (section, replies)))
       → AllZip (IsReply script shards base thread seen) (enumerate_from 0 section) replies
@@ -290,7 +291,7 @@ module _ (stays : ProgrammingsStay) (later_holds : LaterHoldsNameLater) (behind_
       (λ i a.
       let e = in_of_filter_map inline_of es i a in
       let w = beside (IsEntryOf thread) (attempted_by thread ([] ++ failed_names es) (flat_map (units_of script) window)) es e.0 attempts e.1 in
-      let range = all_at (λ (x : PlannedUnit). (next ≤ x.tag) × (x.tag < later)) (flat_map (units_of script) window) w.0 late (in_of_filter (λ u. is_attempted ([] ++ failed_names es) (name_of thread u)) (flat_map (units_of script) window) w.0 w.1).0 in
+      let range = all_at (λ (x : PlannedUnit). (next ≤ x.tag) × (x.tag < later)) (flat_map (units_of script) window) w.0 late (in_of_filter (λ u. is_attempted ([] ++ failed_names es) (unit_name_of thread u)) (flat_map (units_of script) window) w.0 w.1).0 in
       let op : i.op ≡ w.0.tag = op_of e.0 i e.2 ∙ ap (λ x. x.tag) w.2.unit in
       let low = range.0 in
       let high = range.1 in

@@ -17,8 +17,8 @@ use Rattle.bc_stack.specs.declared.target.Target.{Target}
 use Rattle.bc_stack.specs.Devices.{has_sector, end_of_target}
 use Rattle.bc_stack.specs.Pieces.{device_of}
 use Rattle.bc_stack.specs.Targets.{LieBetween, CoverAll, IsStack}
-use Rattle.bc_compose.specs.Ordered.{Pairs}
-use Rattle.bc_section.proofs.Lists.{all_of, all_append}
+use Rattle.bc_compose.specs.OrderedHolds.{Pairs}
+use Rattle.bc_base.proofs.Members.{all_append, all_of}
 
 -- ---- pairs
 

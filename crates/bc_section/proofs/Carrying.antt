@@ -17,7 +17,7 @@ use Rattle.bc_bio.specs.PlannedUnit.{PlannedUnit}
 use Rattle.bc_medium.specs.declared.entry.Entry.{Entry}
 use Rattle.bc_medium.specs.declared.unit_name.UnitName.{UnitName}
 use Rattle.bc_medium.specs.KeyedDisk.{Sectors, Faulted, Written, Text}
-use Rattle.bc_medium.specs.LawfulOrders.{name_of, is_earlier}
+use Rattle.bc_medium.specs.LawfulOrders.{unit_name_of, is_earlier}
 use Rattle.bc_medium.specs.Laws.{KnownStays}
 use Rattle.bc_medium.specs.Growth.{Attempts, Knows, failed_names}
 use Rattle.bc_medium.specs.Outcome.{BioAnswer, Wrote, Bytes, Fault}
@@ -32,8 +32,10 @@ use Rattle.bc_report.specs.Answers.{answer_of_outcome, IsOwnWord}
 use Rattle.bc_report.specs.Report.{IsAnswer}
 use Rattle.bc_compose.specs.SectionDone.{SaysItsWay, IsBioAnswer, IsReply}
 use Rattle.bc_section.specs.Sections.{DeviceData, Carries, CarriesOne, cost, cost_in, cost_of_section}
-use Rattle.bc_section.proofs.Lists.{In, in_of_flat_map, in_of_map, all_of, all_append, zip_append, zip_more, take_next, enumerate_push}
-use Rattle.bc_section.proofs.Growing.{grows_none, grows_append, goes_none, goes_append, attempts_append, attempts_fresh, failed_are}
+use Rattle.bc_section.proofs.Lists.{zip_more, take_next, enumerate_push}
+use Rattle.bc_section.proofs.Growing.{goes_none, goes_append}
+use Rattle.bc_base.proofs.Members.{In, in_of_map, in_of_flat_map, all_append, all_of, zip_append}
+use Rattle.bc_medium.proofs.Growing.{grows_none, grows_append, attempts_append, attempts_fresh, failed_are}
 
 -- ---- the units of an operation have its number
 
@@ -71,7 +73,7 @@ apart script thread xs ys other u v at at' same =
     let s = in_of_flat_map (units_of script) ys v at' in
     other r.0 s.0 r.1 s.1 (sym (op_of_unit script r.0 u r.2) ∙ same ∙ op_of_unit script s.0 v s.2)
 
-pub not_earlier : (thread : ℕ) (u v : PlannedUnit) → (u.tag ≡ v.tag → ⊥) → is_earlier (name_of thread u) (name_of thread v) ≡ false
+pub not_earlier : (thread : ℕ) (u v : PlannedUnit) → (u.tag ≡ v.tag → ⊥) → is_earlier (unit_name_of thread u) (unit_name_of thread v) ≡ false
 not_earlier thread u v other =
     and_left ((thread == thread) && (u.tag == v.tag)) (nat_lt u.unit v.unit) (and_right (thread == thread) (u.tag == v.tag) (ne_eqb u.tag v.tag other))
 
@@ -153,7 +155,7 @@ module _ (stays : KnownStays) (a : DeviceData) (seen seen' : List (List Entry)) 
             (attempts_append a.thread [] us vs p.made q.made (λ u v at at'. not_earlier a.thread v u (λ same. parted u v at at' (sym same))) p.attempts
             (attempts_fresh a.thread (failed_names p.made) vs q.made
             (λ f v at at'. let r = failed_are a.thread [] us p.made p.attempts f at in
-            ap (λ (n : UnitName). is_earlier n (name_of a.thread v)) r.2 ∙ not_earlier a.thread r.0 v (parted r.0 v r.1 at')) q.attempts));
+            ap (λ (n : UnitName). is_earlier n (unit_name_of a.thread v)) r.2 ∙ not_earlier a.thread r.0 v (parted r.0 v r.1 at')) q.attempts));
         ways = all_append (SaysItsWay a.script) p.made q.made p.ways q.ways;
         replies = zip_append (IsReply a.script a.shards a.base a.thread seen') xs ys told told'
             (zip_more (IsReply a.script a.shards a.base a.thread seen) (IsReply a.script a.shards a.base a.thread seen') xs told

@@ -1,25 +1,11 @@
 -- Chunks of a list: what they are put together from, and how many there are of one number in an ascending list.
-use Rattle.std.proofs.Common.{◌≡◌, ◌≢◌, ℕ, ◌<◌, ◌≤◌, Bool, true, false, cond, List, [], ◌∷◌, ◌++◌, length, refl, sym, ap, subst, ◌∙◌, arith}
-use Rattle.std.specs.Prelude.{◌==◌, ◌||◌, filter, flat_map}
+use Rattle.std.proofs.Common.{◌≡◌, ◌≢◌, ℕ, ◌<◌, ◌≤◌, Bool, true, false, cond, List, [], ◌∷◌, length, refl, sym, ap, subst, ◌∙◌, arith}
+use Rattle.std.specs.Prelude.{◌==◌, ◌||◌, filter}
 use Rattle.std.specs.List.{AllByRecursion, list_any}
 use Rattle.std.proofs.Math.Logic.{⊎_elim}
 use Rattle.std.proofs.lemmas.Bool.{true≢false, eq-eqb, ne_eqb, cases_eq}
 use Rattle.bc_bio.specs.Chunks.{chunks_with, chunk_by, Linked}
-use Rattle.bc_compose.specs.Ordered.{Pairs}
-
--- the chunks joined again are the list
-pub chunks_join : {X : Type 0} (together : X → X → Bool) (xs : List X) → flat_map (λ chunk. chunk) (chunk_by together xs) ≡ xs
-chunks_join together [] = refl
-chunks_join together (x ∷ xs) = first_of together x (chunk_by together xs) ∙ ap (λ (l : List _). x ∷ l) (chunks_join together xs)
-  where
-    first_of : {X : Type 0} (together : X → X → Bool) (x : X) (chunks : List (List X)) → flat_map (λ chunk. chunk) (chunks_with together x chunks) ≡ x ∷ flat_map (λ chunk. chunk) chunks
-    first_of together x [] = refl
-    first_of together x ([] ∷ chunks) = refl
-    first_of together x ((y ∷ ys) ∷ chunks) =
-        elim (together x y) as (λ (b : Bool). flat_map (λ chunk. chunk) (cond b ((x ∷ y ∷ ys) ∷ chunks) ((x ∷ []) ∷ (y ∷ ys) ∷ chunks)) ≡ x ∷ ((y ∷ ys) ++ flat_map (λ chunk. chunk) chunks)) [
-          | true ↦ refl
-          | false ↦ refl
-        ]
+use Rattle.bc_compose.specs.OrderedHolds.{Pairs}
 
 -- the neighbours in a chunk go together
 pub chunks_linked : {X : Type 0} (together : X → X → Bool) (xs : List X) → AllByRecursion (Linked together) (chunk_by together xs)

@@ -34,11 +34,12 @@ use Rattle.bc_script.specs.Windows as turns
 use Rattle.bc_report.specs.Counts.{is_reset_of, is_programming_of, is_idle}
 use Rattle.bc_report.specs.Holders.{is_way_on}
 use Rattle.bc_report.specs.SerialRun.{DeviceUse, inline_key, is_on, name_at, pieces_of_request, holds_for, uses_of_turn}
-use Rattle.bc_section.specs.Reached.{IsAcceptedBio}
-use Rattle.bc_section.specs.Uses.{bios_of}
+use Rattle.bc_section.specs.SectionProgress.{IsAcceptedBio}
+use Rattle.bc_section.specs.Uses.{op_bios}
 use Rattle.bc_section.proofs.Ascending.{HasKeyOf, one_key, request_devices}
-use Rattle.bc_section.proofs.Chunks.{chunks_join, chunks_linked, few_chunks}
-use Rattle.bc_section.proofs.Lists.{In, any_from, any_in, in_of_map}
+use Rattle.bc_section.proofs.Chunks.{chunks_linked, few_chunks}
+use Rattle.bc_base.proofs.Members.{In, in_of_map, any_in, any_from}
+use Rattle.bc_bio.proofs.ChunkLaws.{chunks_join}
 
 pub count_cons : {X : Type 0} (test : X → Bool) (x : X) (xs : List X) → count_by test (x ∷ xs) ≡ cond {A = ℕ} (test x) 1 0 + count_by test xs
 count_cons test x xs = sum_by-cons (λ (y : _). cond {A = ℕ} (test y) 1 0) x xs
@@ -310,19 +311,19 @@ module _ (script : Script) (device : ℕ) (within : device < length script.targe
 
     -- no more bios go inline on the device than operations touch it
     pub touched_by : (acts : List (ℕ × Op)) → AllByRecursion (λ act. IsAcceptedBio script act.1) acts
-        → count_by (holds_by script device 0 of_key) (bios_of acts) ≤ count_by (λ act. list_any test (units_of script act)) acts
+        → count_by (holds_by script device 0 of_key) (op_bios acts) ≤ count_by (λ act. list_any test (units_of script act)) acts
     touched_by [] all = omega arith
     touched_by (act ∷ acts) all = by_bio (bio_of act.1) refl all.0 (touched_by acts all.1)
       where
         by_bio : (o : Option Extent) → bio_of act.1 ≡ o → IsSomeAnd (bio_of act.1) (λ bio. refusal_of script bio ≡ None)
-            → count_by (holds_by script device 0 of_key) (bios_of acts) ≤ count_by (λ act. list_any test (units_of script act)) acts
-            → count_by (holds_by script device 0 of_key) (bios_of (act ∷ acts)) ≤ count_by (λ act. list_any test (units_of script act)) (act ∷ acts)
+            → count_by (holds_by script device 0 of_key) (op_bios acts) ≤ count_by (λ act. list_any test (units_of script act)) acts
+            → count_by (holds_by script device 0 of_key) (op_bios (act ∷ acts)) ≤ count_by (λ act. list_any test (units_of script act)) (act ∷ acts)
         by_bio None is accepted rest = absurd (subst (λ (o : Option Extent). IsSomeAnd o (λ bio. refusal_of script bio ≡ None)) is accepted)
         by_bio (Some bio) is accepted rest =
             let tagged : TaggedBio = record { tag = act.0; bio = bio } in
-            let bios : bios_of (act ∷ acts) ≡ tagged ∷ bios_of acts =
-            ap (λ (o : Option Extent). cons_option (option_map (λ bio. record { tag = act.0; bio = bio }) o) (bios_of acts)) is in
-            let one = count_cons (holds_by script device 0 of_key) tagged (bios_of acts) in
+            let bios : op_bios (act ∷ acts) ≡ tagged ∷ op_bios acts =
+            ap (λ (o : Option Extent). cons_option (option_map (λ bio. record { tag = act.0; bio = bio }) o) (op_bios acts)) is in
+            let one = count_cons (holds_by script device 0 of_key) tagged (op_bios acts) in
             let other = count_cons (λ act. list_any test (units_of script act)) act acts in
             let here = if_then (holds_by script device 0 of_key tagged) (list_any test (units_of script act))
             (touched act.0 act.1 bio is (subst (λ (o : Option Extent). IsSomeAnd o (λ bio. refusal_of script bio ≡ None)) is accepted)) in

@@ -14,7 +14,7 @@ use Rattle.bc_medium.specs.declared.entry.Entry.{Entry}
 use Rattle.bc_medium.specs.declared.unit_name.UnitName.{UnitName}
 use Rattle.bc_medium.specs.Entries.{name_of_entry}
 use Rattle.bc_medium.specs.Growth.{attempted_by, IsEntryOf, Attempts, failed_names}
-use Rattle.bc_medium.specs.LawfulOrders.{name_of, is_attempted}
+use Rattle.bc_medium.specs.LawfulOrders.{unit_name_of, is_attempted}
 use Rattle.bc_script.specs.declared.limits.TheConstants.{MAX_PLUGGED}
 use Rattle.bc_script.specs.declared.op.Op.{Op}
 use Rattle.bc_script.specs.declared.op.Op.TheVariants as ops
@@ -25,11 +25,11 @@ use Rattle.bc_script.specs.Windows.{Step, Turn, accepted, step_of, turns_from}
 use Rattle.bc_script.specs.Windows as turns
 use Rattle.bc_report.specs.SerialRun.{DeviceUse, uses_of_turn, uses_of_section}
 use Rattle.bc_section.specs.Sections.{DeviceData, journal_seen}
-use Rattle.bc_section.specs.Uses.{tagged_bio, bios_of, is_for, MakesUses}
-use Rattle.bc_section.specs.Reached.{numbered, IsAcceptedBio, MayBePlugged, steps_from, uses_left, WindowEnds, HasUsed, HoldsNone}
-use Rattle.bc_section.proofs.Lists.{In, in_of_filter, in_of_flat_map, beside, all_at, all_from_in, all_of, all_append}
+use Rattle.bc_section.specs.Uses.{tagged_bio, op_bios, is_for, MakesUses}
+use Rattle.bc_section.specs.SectionProgress.{numbered, IsAcceptedBio, MayBePlugged, steps_from, uses_left, WindowEnds, HasUsed, HoldsNone}
 use Rattle.bc_section.proofs.Carrying.{op_of_unit}
 use Rattle.bc_section.proofs.Using.{none_for, other_op, uses_none, uses_same, uses_append, units_of_window}
+use Rattle.bc_base.proofs.Members.{In, in_of_filter, in_of_flat_map, beside, all_at, all_from_in, all_append, all_of}
 
 -- ---- the step of an operation
 
@@ -76,32 +76,32 @@ step_refused script op operation bio refusal is some =
 -- ---- the bios that are held back
 
 pub bios_count : (script : Script) (section : List Op) (pending : List ℕ) → AllByRecursion (MayBePlugged script section) pending
-    → length (bios_of (numbered section pending)) ≡ length pending
+    → length (op_bios (numbered section pending)) ≡ length pending
 bios_count script section [] all = refl
 bios_count script section (o ∷ os) all = by_operation (bios_count script section os all.1) (slice_get section o) all.0
   where
-    by_bio : length (bios_of (numbered section os)) ≡ length os → (p : Option Extent) → IsSomeAnd p (λ bio. refusal_of script bio ≡ None)
-        → length (cons_option (option_map (λ (bio : Extent). record { tag = o; bio = bio }) p) (bios_of (numbered section os))) ≡ suc (length os)
+    by_bio : length (op_bios (numbered section os)) ≡ length os → (p : Option Extent) → IsSomeAnd p (λ bio. refusal_of script bio ≡ None)
+        → length (cons_option (option_map (λ (bio : Extent). record { tag = o; bio = bio }) p) (op_bios (numbered section os))) ≡ suc (length os)
     by_bio rest None is = absurd is
     by_bio rest (Some bio) is = ap suc rest
 
-    by_operation : length (bios_of (numbered section os)) ≡ length os → (p : Option Op) → IsSomeAnd p (IsAcceptedBio script)
-        → length (bios_of (option_map_or (λ operation. (o, operation) ∷ numbered section os) p (numbered section os))) ≡ suc (length os)
+    by_operation : length (op_bios (numbered section os)) ≡ length os → (p : Option Op) → IsSomeAnd p (IsAcceptedBio script)
+        → length (op_bios (option_map_or (λ operation. (o, operation) ∷ numbered section os) p (numbered section os))) ≡ suc (length os)
     by_operation rest None is = absurd is
     by_operation rest (Some operation) is = by_bio rest (bio_of operation) is
 
-pub tags_of_bios : (P : ℕ → Type 0) (xs : List (ℕ × Op)) → AllByRecursion (λ x. P x.0) xs → AllByRecursion (λ (tagged : TaggedBio). P tagged.tag) (bios_of xs)
+pub tags_of_bios : (P : ℕ → Type 0) (xs : List (ℕ × Op)) → AllByRecursion (λ x. P x.0) xs → AllByRecursion (λ (tagged : TaggedBio). P tagged.tag) (op_bios xs)
 tags_of_bios P [] all = tt
 tags_of_bios P ((o, operation) ∷ xs) all =
-    elim (bio_of operation) as (λ (p : Option Extent). AllByRecursion (λ (tagged : TaggedBio). P tagged.tag) (cons_option (option_map (λ (bio : Extent). record { tag = o; bio = bio }) p) (bios_of xs))) [
+    elim (bio_of operation) as (λ (p : Option Extent). AllByRecursion (λ (tagged : TaggedBio). P tagged.tag) (cons_option (option_map (λ (bio : Extent). record { tag = o; bio = bio }) p) (op_bios xs))) [
       | None ↦ tags_of_bios P xs all.1
       | Some bio ↦ (all.0, tags_of_bios P xs all.1)
     ]
 
-pub bio_more : (xs : List (ℕ × Op)) (op : ℕ) (operation : Op) (bio : Extent) → bio_of operation ≡ Some bio → bios_of (xs ++ (op, operation) ∷ []) ≡ bios_of xs ++ record { tag = op; bio = bio } ∷ []
+pub bio_more : (xs : List (ℕ × Op)) (op : ℕ) (operation : Op) (bio : Extent) → bio_of operation ≡ Some bio → op_bios (xs ++ (op, operation) ∷ []) ≡ op_bios xs ++ record { tag = op; bio = bio } ∷ []
 bio_more xs op operation bio is =
     filter_map-append tagged_bio xs ((op, operation) ∷ [])
-    ∙ ap (λ (p : Option Extent). bios_of xs ++ cons_option (option_map (λ (b : Extent). record { tag = op; bio = b }) p) []) is
+    ∙ ap (λ (p : Option Extent). op_bios xs ++ cons_option (option_map (λ (b : Extent). record { tag = op; bio = b }) p) []) is
 
 -- ---- what is left
 
@@ -183,7 +183,7 @@ module _ (start : DeviceData) (section : List Op) where
   thread = start.thread
 
   abbrev pub left : ℕ → ℕ → Bool → List ℕ → List DeviceUse
-  left device op plugged pending = uses_left script device thread plugged (bios_of (numbered section pending)) (steps_from script section op)
+  left device op plugged pending = uses_left script device thread plugged (op_bios (numbered section pending)) (steps_from script section op)
 
   -- at the beginning
   pub used_none : HasUsed start start section 0 0 false [] []
@@ -207,10 +207,10 @@ module _ (start : DeviceData) (section : List Op) where
 
     -- what is held back is submitted
     pub used_window : (new : DeviceData) (es : List Entry) → next ≤ op
-        → WindowEnds script thread plugged (bios_of (numbered section pending)) (steps_from script section op)
+        → WindowEnds script thread plugged (op_bios (numbered section pending)) (steps_from script section op)
         → AllByRecursion (λ (x : ℕ × Op). (next ≤ x.0) × (x.0 < op)) (numbered section pending)
         → Attempts thread [] (flat_map (units_of script) (numbered section pending)) es
-        → MakesUses script (journal_seen now) (journal_seen new) (λ device. uses_of_turn script device thread (turns.Window (bios_of (numbered section pending)))) es
+        → MakesUses script (journal_seen now) (journal_seen new) (λ device. uses_of_turn script device thread (turns.Window (op_bios (numbered section pending)))) es
         → HasUsed start new section op op plugged [] (made ++ es)
     used_window new es le ends numbers attempts makes = record {
       done = λ device. used.done device ++ window device;
@@ -230,15 +230,15 @@ module _ (start : DeviceData) (section : List Op) where
     }
       where
         bios : List TaggedBio
-        bios = bios_of (numbered section pending)
+        bios = op_bios (numbered section pending)
 
         window : ℕ → List DeviceUse
-        window device = uses_of_turn script device thread (turns.Window (bios_of (numbered section pending)))
+        window device = uses_of_turn script device thread (turns.Window (op_bios (numbered section pending)))
 
         late : (e : Entry) → In e es → next ≤ e.at.tag
         late e at =
             let w = beside (IsEntryOf thread) (attempted_by thread ([] ++ failed_names es) (flat_map (units_of script) (numbered section pending))) es e attempts at in
-            let f = in_of_filter (λ u. is_attempted ([] ++ failed_names es) (name_of thread u)) (flat_map (units_of script) (numbered section pending)) w.0 w.1 in
+            let f = in_of_filter (λ u. is_attempted ([] ++ failed_names es) (unit_name_of thread u)) (flat_map (units_of script) (numbered section pending)) w.0 w.1 in
             let x = in_of_flat_map (units_of script) (numbered section pending) w.0 f.0 in
             let tag : e.at.tag ≡ x.0.0 = ap (λ a. a.tag) w.2.unit ∙ op_of_unit script x.0 w.0 x.2 in
             let range = (all_at (λ (y : ℕ × Op). (next ≤ y.0) × (y.0 < op)) (numbered section pending) x.0 numbers x.1).0 in
@@ -249,7 +249,7 @@ module _ (start : DeviceData) (section : List Op) where
     used_all here none =
         uses_same script (journal_seen start) (journal_seen now) used.done (λ device. uses_of_section script device (thread, section)) made
         (λ device. sym (used.whole device
-        ∙ ap (λ l. used.done device ++ uses_left script device thread plugged (bios_of (numbered section l)) (steps_from script section op)) none
+        ∙ ap (λ l. used.done device ++ uses_left script device thread plugged (op_bios (numbered section l)) (steps_from script section op)) none
         ∙ ap (λ (n : ℕ). used.done device ++ uses_left script device thread plugged [] (steps_from script section n)) here
         ∙ ap (λ (steps : List Step). used.done device ++ uses_left script device thread plugged [] steps) (steps_last script section)
         ∙ ap (λ l. used.done device ++ l) (left_none script thread device plugged) ∙ append-nil (used.done device)))
@@ -275,32 +275,32 @@ module _ (start : DeviceData) (section : List Op) where
     -- an operation that means nothing for windows
     pub left_quiet : (plugged : Bool) (pending : List ℕ) → step_of script (op, operation) ≡ None → (device : ℕ) → left device op plugged pending ≡ left device (op + 1) plugged pending
     left_quiet plugged pending none device =
-        ap (uses_left script device thread plugged (bios_of (numbered section pending))) (steps_next script section op operation is ∙ ap (λ o. cons_option o rest) none)
+        ap (uses_left script device thread plugged (op_bios (numbered section pending))) (steps_next script section op operation is ∙ ap (λ o. cons_option o rest) none)
 
     module _ (bio : Extent) (is_bio : bio_of operation ≡ Some bio) (unrefused : refusal_of script bio ≡ None) where
       abbrev tagged : TaggedBio
       tagged = record { tag = op; bio = bio }
 
       pub ends_if_full : (plugged : Bool) (pending : List ℕ) → AllByRecursion (MayBePlugged script section) pending → length pending ≡ MAX_PLUGGED
-          → WindowEnds script thread plugged (bios_of (numbered section pending)) (steps_from script section op)
+          → WindowEnds script thread plugged (op_bios (numbered section pending)) (steps_from script section op)
       ends_if_full plugged pending all full =
-          ends_before (turns.Accepted tagged) plugged (bios_of (numbered section pending)) (step_accepted script op operation bio is_bio unrefused)
-          (ends_full script thread plugged (bios_of (numbered section pending)) tagged rest (bios_count script section pending all ∙ full))
+          ends_before (turns.Accepted tagged) plugged (op_bios (numbered section pending)) (step_accepted script op operation bio is_bio unrefused)
+          (ends_full script thread plugged (op_bios (numbered section pending)) tagged rest (bios_count script section pending all ∙ full))
 
       -- an accepted bio is held back
       pub left_held : (plugged : Bool) (pending : List ℕ) → AllByRecursion (MayBePlugged script section) pending → length pending < MAX_PLUGGED → HoldsNone plugged pending
           → numbered section (pending ++ op ∷ []) ≡ numbered section pending ++ (op, operation) ∷ []
           → (device : ℕ) → left device op plugged pending ≡ left device (op + 1) plugged (pending ++ op ∷ [])
       left_held plugged pending all room none more device =
-          left_before (turns.Accepted tagged) device plugged (bios_of (numbered section pending)) (step_accepted script op operation bio is_bio unrefused)
+          left_before (turns.Accepted tagged) device plugged (op_bios (numbered section pending)) (step_accepted script op operation bio is_bio unrefused)
           ∙ by_plug plugged none
-          ∙ ap (λ bs. uses_left script device thread plugged bs rest) (sym (ap bios_of more ∙ bio_more (numbered section pending) op operation bio is_bio))
+          ∙ ap (λ bs. uses_left script device thread plugged bs rest) (sym (ap op_bios more ∙ bio_more (numbered section pending) op operation bio is_bio))
         where
           by_plug : (b : Bool) → HoldsNone b pending
-              → uses_left script device thread b (bios_of (numbered section pending)) (turns.Accepted tagged ∷ rest) ≡ uses_left script device thread b (bios_of (numbered section pending) ++ tagged ∷ []) rest
-          by_plug true none' = next_held script thread device (bios_of (numbered section pending)) tagged rest (let n = bios_count script section pending all in omega arith)
+              → uses_left script device thread b (op_bios (numbered section pending)) (turns.Accepted tagged ∷ rest) ≡ uses_left script device thread b (op_bios (numbered section pending) ++ tagged ∷ []) rest
+          by_plug true none' = next_held script thread device (op_bios (numbered section pending)) tagged rest (let n = bios_count script section pending all in omega arith)
           by_plug false none' =
-              let e : bios_of (numbered section pending) ≡ [] = ap (λ l. bios_of (numbered section l)) (none' refl) in
+              let e : op_bios (numbered section pending) ≡ [] = ap (λ l. op_bios (numbered section l)) (none' refl) in
               ap (λ bs. uses_left script device thread false bs (turns.Accepted tagged ∷ rest)) e
               ∙ next_alone script thread device tagged rest
               ∙ ap (λ bs. uses_left script device thread false (bs ++ tagged ∷ []) rest) (sym e)
@@ -326,15 +326,15 @@ module _ (start : DeviceData) (section : List Op) where
 -- a bio that the plug has no room for
 pub ends_where_full : (start : DeviceData) (section : List Op) (op : ℕ) (plugged : Bool) (pending : List ℕ) → MayBePlugged start.script section op
     → AllByRecursion (MayBePlugged start.script section) pending → length pending ≡ MAX_PLUGGED
-    → WindowEnds start.script start.thread plugged (bios_of (numbered section pending)) (steps_from start.script section op)
+    → WindowEnds start.script start.thread plugged (op_bios (numbered section pending)) (steps_from start.script section op)
 ends_where_full start section op plugged pending bio all full = by_operation (slice_get section op) refl bio
   where
     by_bio : (operation : Op) (p : Option Extent) → slice_get section op ≡ Some operation → bio_of operation ≡ p → IsSomeAnd p (λ b. refusal_of start.script b ≡ None)
-        → WindowEnds start.script start.thread plugged (bios_of (numbered section pending)) (steps_from start.script section op)
+        → WindowEnds start.script start.thread plugged (op_bios (numbered section pending)) (steps_from start.script section op)
     by_bio operation None is is_bio none = absurd none
     by_bio operation (Some b) is is_bio none = ends_if_full start section op operation is b is_bio none plugged pending all full
 
     by_operation : (p : Option Op) → slice_get section op ≡ p → IsSomeAnd p (IsAcceptedBio start.script)
-        → WindowEnds start.script start.thread plugged (bios_of (numbered section pending)) (steps_from start.script section op)
+        → WindowEnds start.script start.thread plugged (op_bios (numbered section pending)) (steps_from start.script section op)
     by_operation None is none = absurd none
     by_operation (Some operation) is accepted' = by_bio operation (bio_of operation) is refl accepted'

@@ -14,3 +14,5 @@ pub mod Chunks
 pub mod Ascending
 pub mod Holding
 pub mod Located
+pub mod Numbered
+pub mod Faults

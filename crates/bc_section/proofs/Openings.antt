@@ -5,7 +5,8 @@ use Rattle.std.proofs.Math.Logic.{⊎_elim}
 use Rattle.std.proofs.lemmas.Option.{none-some, same_Some}
 use Rattle.std.proofs.lemmas.List.{map_push}
 use Rattle.bc_base.specs.Lists.{At, AllAt}
-use Rattle.bc_section.proofs.Lists.{take_next, all_append}
+use Rattle.bc_section.proofs.Lists.{take_next}
+use Rattle.bc_base.proofs.Members.{all_append}
 
 -- what stands in a list with one element more
 pub at_push : {A : Type 0} (xs : List A) (y : A) (k : ℕ) (z : A) → At (xs ++ y ∷ []) k z → ((k ≡ length xs) × (y ≡ z)) ⊎ At xs k z

@@ -18,14 +18,15 @@ use Rattle.bc_profile.specs.declared.event.Event.TheVariants as events
 use Rattle.bc_profile.specs.declared.noted.Noted.{Noted}
 use Rattle.bc_profile.specs.Story.{events_of, Holds, IsGone}
 use Rattle.bc_profile.specs.Story as story
-use Rattle.bc_profile.specs.Laws.{ProgrammingsStay, LaterHoldsNameLater, HoldsBehindEvictions}
+use Rattle.bc_profile.specs.Laws.{ProgrammingsStay, LaterHoldsNameLater, HoldsAfterEvictions}
 use Rattle.bc_script.specs.Script.{Script}
 use Rattle.bc_report.specs.Evictions.{Eviction}
-use Rattle.bc_report.specs.Programmings.{Programs, InlineEntry, entry_by, passes, is_evicted_between, InOrder}
+use Rattle.bc_report.specs.Programmings.{IsProgramming, InlineEntry, entry_by, passes, is_evicted_between, InOrder}
 use Rattle.bc_compose.specs.SectionDone.{key_of_entry, inline_of, NamesOwn}
-use Rattle.bc_compose.specs.Ordered.{Pairs, slots_of, GoesInline, Rises, HasHold, IsTakenOut, Passed, IsPassed, Ordered}
-use Rattle.bc_section.proofs.Lists.{In, all_at, all_from_in, all_of, all_append, any_in, any_from, in_append_cases, in_of_filter_map}
-use Rattle.bc_section.proofs.Growing.{begins_trans, begins_itself}
+use Rattle.bc_compose.specs.OrderedHolds.{Pairs, slot_count_of, GoesInline, Rises, HasHold, IsTakenOut, Passed, IsPassed, Ordered}
+use Rattle.bc_section.proofs.Lists.{in_of_filter_map}
+use Rattle.bc_base.proofs.Members.{In, in_append_cases, any_in, any_from, all_at, all_from_in, all_append, all_of}
+use Rattle.bc_medium.proofs.Growing.{begins_itself, begins_trans}
 
 pub pairs_append : {X : Type 0} (R : X → X → Type 0) (xs ys : List X) → Pairs R xs → Pairs R ys → ((x y : X) → In x xs → In y ys → R x y) → Pairs R (xs ++ ys)
 pairs_append R [] ys ps qs cross = qs
@@ -55,7 +56,7 @@ between_from evictions thread key device from to is =
     let d = and_parts (v.thread == thread) (v.key == key) c.0 in
     (v, r.1, eqb-true v.key key d.1, ltb-true from v.op c.1, ltb-true v.op to b.1, a.1)
 
--- one more, behind both entries, lies between none
+-- one more, after both entries, lies between none
 between_fewer : (evictions : List Eviction) (v : Eviction) (thread key device from to : ℕ) → to ≤ v.op → IsTrue (is_evicted_between (evictions ++ v ∷ []) thread key device from to)
     → IsTrue (is_evicted_between evictions thread key device from to)
 between_fewer evictions v thread key device from to late is =
@@ -74,10 +75,10 @@ between_fewer evictions v thread key device from to late is =
 
 -- ---- what an entry names stays there
 
-to_story : (front : List Noted) (slot key event : ℕ) → IsSomeAnd (slice_get (events_of front) event) (Programs slot key) → story.Programs front event slot key
+to_story : (front : List Noted) (slot key event : ℕ) → IsSomeAnd (slice_get (events_of front) event) (IsProgramming slot key) → story.Programs front event slot key
 to_story front slot key event is = of_event (slice_get (events_of front) event) refl is
   where
-    of_event : (o : Option Event) → slice_get (events_of front) event ≡ o → IsSomeAnd o (Programs slot key) → story.Programs front event slot key
+    of_event : (o : Option Event) → slice_get (events_of front) event ≡ o → IsSomeAnd o (IsProgramming slot key) → story.Programs front event slot key
     of_event None at' h = absurd h
     of_event (Some (events.Program s k skipped)) at' h = (skipped, at' ∙ ap (λ (n : ℕ). Some (events.Program n k skipped)) h.0 ∙ ap (λ (n : ℕ). Some (events.Program slot n skipped)) h.1)
     of_event (Some (events.Idle s)) at' h = absurd h
@@ -85,8 +86,8 @@ to_story front slot key event is = of_event (slice_get (events_of front) event) 
     of_event (Some (events.Busy s k n)) at' h = absurd h
     of_event (Some events.Reset) at' h = absurd h
 
-from_story : (front : List Noted) (slot key event : ℕ) → story.Programs front event slot key → IsSomeAnd (slice_get (events_of front) event) (Programs slot key)
-from_story front slot key event is = subst (λ (o : Option Event). IsSomeAnd o (Programs slot key)) (sym is.1) (refl, refl)
+from_story : (front : List Noted) (slot key event : ℕ) → story.Programs front event slot key → IsSomeAnd (slice_get (events_of front) event) (IsProgramming slot key)
+from_story front slot key event is = subst (λ (o : Option Event). IsSomeAnd o (IsProgramming slot key)) (sym is.1) (refl, refl)
 
 pub stays_named : ProgrammingsStay → (before after : List (List Noted)) (key : Option ℕ) (via : Via) → ((d : ℕ) → StartsWith (list_at after d) (list_at before d)) → NamesOwn before key via → NamesOwn after key via
 stays_named stays before after key (vias.Inline d s ev) grows is = go key is
@@ -115,7 +116,7 @@ stands_named noted e i is named' = by_context e.at.context is named'
     by_context None is' h = absurd (none-some i is')
     by_context (Some c) is' h = by_via c e.via is' h
 
-module _ (stays : ProgrammingsStay) (later_holds : LaterHoldsNameLater) (behind_evictions : HoldsBehindEvictions) (script : Script) where
+module _ (stays : ProgrammingsStay) (later_holds : LaterHoldsNameLater) (behind_evictions : HoldsAfterEvictions) (script : Script) where
   abbrev Done : ℕ → ℕ → List Entry → List Eviction → List (List Noted) → Type 0
   Done thread next made evictions noted = Ordered script thread next made evictions noted
 
@@ -197,7 +198,7 @@ module _ (stays : ProgrammingsStay) (later_holds : LaterHoldsNameLater) (behind_
           let stood = stands_named before from.0 i from.2 (all_at (λ e. NamesOwn before (key_of_entry e) e.via) made from.0 o.own_key from.1) in
           record {
             never_earlier = λ keys devices.
-                later_holds (slots_of script j.device) (list_at before j.device) hold.front j.key hold.slot j.event stood.slot i.event hold.begins
+                later_holds (slot_count_of script j.device) (list_at before j.device) hold.front j.key hold.slot j.event stood.slot i.event hold.begins
                 (subst (λ k. story.Programs (list_at before j.device) i.event stood.slot k) keys (subst (λ d. story.Programs (list_at before d) i.event stood.slot i.key) devices stood.programs)) hold.holds;
             later_after_eviction = λ keys devices between.
                 let v = between_from evictions thread i.key i.device i.op j.op between in
@@ -206,12 +207,12 @@ module _ (stays : ProgrammingsStay) (later_holds : LaterHoldsNameLater) (behind_
                 let lt : i.event < length p.front =
                 all_at (λ (x : InlineEntry). x.op < v.0.op → x.key ≡ v.0.key → x.device ≡ i.device → x.event < length p.front) (filter_map inline_of made) i p.behind a v.3 (sym v.2) refl in
                 let begins : StartsWith hold.front p.front = begins_trans p.front (list_at before i.device) hold.front p.seen (subst (λ d. StartsWith hold.front (list_at before d)) (sym devices) hold.begins) in
-                let le = behind_evictions (slots_of script j.device) p.front hold.front j.key hold.slot j.event begins
-                (subst (λ k. IsGone (slots_of script j.device) p.front k) (v.2 ∙ keys) (subst (λ d. IsGone (slots_of script d) p.front v.0.key) devices p.gone)) hold.holds in
+                let le = behind_evictions (slot_count_of script j.device) p.front hold.front j.key hold.slot j.event begins
+                (subst (λ k. IsGone (slot_count_of script j.device) p.front k) (v.2 ∙ keys) (subst (λ d. IsGone (slot_count_of script d) p.front v.0.key) devices p.gone)) hold.holds in
                 omega arith;
           }
 
-  -- an eviction: on each device that it passed there is a front, seen in this call, with its key in no slot
+  -- an eviction: on each device that it passed there is a prefix, seen in this call, with its key in no slot
   pub evicted : (thread next : ℕ) (made : List Entry) (evictions : List Eviction) (v : Eviction) (before after : List (List Noted)) → v.op ≡ next → ((d : ℕ) → StartsWith (list_at after d) (list_at before d))
       → ((d : ℕ) → IsTrue (passes d v.answer) → GoesInline script v.key → IsTakenOut script before after d v.key)
       → Done thread next made evictions before → Done thread (next + 1) made (evictions ++ v ∷ []) after

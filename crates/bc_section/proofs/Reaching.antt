@@ -19,7 +19,7 @@ use Rattle.bc_medium.specs.Entries.{caller_of}
 use Rattle.bc_medium.specs.Laws.{KnownStays}
 use Rattle.bc_profile.specs.declared.noted.Noted.{Noted}
 use Rattle.bc_profile.specs.Story.{author_of}
-use Rattle.bc_profile.specs.Laws.{ProgrammingsStay, LaterHoldsNameLater, HoldsBehindEvictions}
+use Rattle.bc_profile.specs.Laws.{ProgrammingsStay, LaterHoldsNameLater, HoldsAfterEvictions}
 use Rattle.bc_script.specs.declared.op.Op.{Op}
 use Rattle.bc_script.specs.declared.op.Op.TheVariants as ops
 use Rattle.bc_script.specs.declared.limits.TheConstants.{MAX_PLUGGED}
@@ -31,17 +31,19 @@ use Rattle.bc_report.specs.declared.answer.Answer.TheVariants as report_answers
 use Rattle.bc_report.specs.Evictions.{Eviction, eviction_in, evictions_in, IsEvictionAnswer}
 use Rattle.bc_report.specs.Report.{IsAnswer}
 use Rattle.bc_compose.specs.SectionDone.{IsReply}
-use Rattle.bc_compose.specs.Acted.{is_act, Acted}
+use Rattle.bc_compose.specs.ThreadWork.{is_act, Acted}
 use Rattle.bc_section.specs.Sections.{DeviceData, GoOnBy, cost, cost_in, cost_of_section}
-use Rattle.bc_section.specs.Uses.{bios_of}
-use Rattle.bc_section.specs.Reached.{numbered, IsAcceptedBio, MayBePlugged, eviction_by, eviction_of, evictions_before, Submitted, Settled, Evicted, HasReset, SeesMore, Reached, CarriesSection, WindowEnds, HoldsNone, steps_from}
-use Rattle.bc_section.proofs.Lists.{In, all_at, all_from_in, all_append, in_append_left, in_append_right, is_in, in_is, not_in_is, enumerate_push}
-use Rattle.bc_section.proofs.Growing.{begins_itself, goes_none, goes_append}
+use Rattle.bc_section.specs.Uses.{op_bios}
+use Rattle.bc_section.specs.SectionProgress.{numbered, IsAcceptedBio, MayBePlugged, eviction_by, eviction_of, evictions_before, Submitted, Settled, Evicted, HasReset, SeesMore, Reached, CarriesSection, WindowEnds, HoldsNone, steps_from}
+use Rattle.bc_section.proofs.Lists.{is_in, in_is, not_in_is, enumerate_push}
+use Rattle.bc_section.proofs.Growing.{goes_none, goes_append}
 use Rattle.bc_section.proofs.Carrying.{reply_more}
 use Rattle.bc_section.proofs.Ordering.{pairs_append}
 use Rattle.bc_section.proofs.Left.{used_none, used_more, used_window, used_turn, used_all, left, left_held, left_before, next_evict, next_reset}
 use Rattle.bc_section.proofs.Using.{units_of_evict, units_of_reset}
 use Rattle.bc_section.proofs.Acting.{acted_window, acted_evict, acted_reset, acted_none, acted_later, acted_done}
+use Rattle.bc_base.proofs.Members.{In, in_append_left, in_append_right, all_at, all_from_in, all_append}
+use Rattle.bc_medium.proofs.Growing.{begins_itself}
 
 -- ---- lists
 
@@ -120,7 +122,7 @@ no_eviction thread answers o (ops.Reset d) ne = refl
 no_eviction thread answers o ops.Plug ne = refl
 no_eviction thread answers o ops.Unplug ne = refl
 
-module _ (known_stays : KnownStays) (stays : ProgrammingsStay) (later_holds : LaterHoldsNameLater) (behind_evictions : HoldsBehindEvictions) (start : DeviceData) (section : List Op) where
+module _ (known_stays : KnownStays) (stays : ProgrammingsStay) (later_holds : LaterHoldsNameLater) (behind_evictions : HoldsAfterEvictions) (start : DeviceData) (section : List Op) where
   abbrev script : Script
   script = start.script
 
@@ -263,7 +265,7 @@ module _ (known_stays : KnownStays) (stays : ProgrammingsStay) (later_holds : La
 
     -- what is held back is submitted
     pub reached_flush : (new : DeviceData) (answers' : List (Option Answer))
-        → WindowEnds script thread plugged (bios_of (numbered section pending)) (steps_from script section op)
+        → WindowEnds script thread plugged (op_bios (numbered section pending)) (steps_from script section op)
         → Submitted now new (numbered section pending)
         → length answers' ≡ length answers
         → AllByRecursion (Settled new section answers') pending

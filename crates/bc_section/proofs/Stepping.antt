@@ -18,10 +18,10 @@ use Rattle.bc_script.specs.Plan.{units_of}
 use Rattle.bc_report.specs.declared.answer.Answer.TheVariants as answers
 use Rattle.bc_report.specs.Answers.{answer_of_outcome, IsOwnWord}
 use Rattle.bc_compose.specs.SectionDone.{IsReply, IsBioAnswer}
-use Rattle.bc_compose.specs.Acted.{is_act}
+use Rattle.bc_compose.specs.ThreadWork.{is_act}
 use Rattle.bc_bio.specs.Conditions.{HasKey}
 use Rattle.bc_section.specs.Sections.{DeviceData}
-use Rattle.bc_section.specs.Reached.{IsAcceptedBio, SeesMore}
+use Rattle.bc_section.specs.SectionProgress.{IsAcceptedBio, SeesMore}
 
 pub within : {X : Type 0} (xs : List X) (i : ℕ) (x : X) → slice_get xs i ≡ Some x → i < length xs
 within [] i x e = absurd (none-some x e)

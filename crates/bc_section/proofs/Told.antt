@@ -8,7 +8,7 @@ use Rattle.std.proofs.lemmas.List.{length-map}
 use Rattle.bc_script.specs.declared.op.Op.{Op}
 use Rattle.bc_report.specs.declared.answer.Answer.{Answer}
 use Rattle.bc_section.specs.Sections.{DeviceData}
-use Rattle.bc_section.specs.Reached.{numbered, left_of, answers_by, Reached, CarriesSection}
+use Rattle.bc_section.specs.SectionProgress.{numbered, left_of, answers_by, Reached, CarriesSection}
 use Rattle.bc_section.proofs.Left.{drop_next}
 use Rattle.bc_section.proofs.Reaching.{numbered_push}
 
@@ -27,11 +27,11 @@ get_map g [] i = refl
 get_map g (x ∷ xs) zero = refl
 get_map g (x ∷ xs) (suc i) = get_map g xs i
 
--- what stays the same is told the same
+-- what stays the same is reported the same
 pub get_told : {A : Type 0} (f : A → Answer) (xs ys : List (Option A)) (i : ℕ) → slice_get xs i ≡ slice_get ys i → slice_get (answers_by f xs) i ≡ slice_get (answers_by f ys) i
 get_told f xs ys i same = get_map (option_map f) xs i ∙ ap (λ (o : Option (Option _)). option_map (option_map f) o) same ∙ sym (get_map (option_map f) ys i)
 
--- where each is told, each is there
+-- where each is reported, each is there
 pub all_told : {A : Type 0} (f : A → Answer) (xs : List (Option A)) (told : List Answer) → answers_by f xs ≡ map (λ a. Some a) told
     → (replies : List A) × (xs ≡ map (λ a. Some a) replies) × (map f replies ≡ told)
 all_told f [] [] is = ([], refl, refl)
@@ -45,7 +45,7 @@ all_told f (Some x ∷ xs) (t ∷ ts) is =
       ap (λ a. a ∷ map f rest.0) (same_Some (f x) t (same_Some (Some (f x)) (Some t) (ap (λ (l : List (Option Answer)). slice_get l 0) is))) ∙ ap (λ l. t ∷ l) rest.2,
     )
 
--- one answer more is one that is told
+-- one answer more is one that is reported
 pub reached_told : {A : Type 0} (f : A → Answer) (start now new : DeviceData) (section : List Op) (op : ℕ) (plugged : Bool) (pending : List ℕ) (answers answers' : List (Option A)) (place : ℕ) (a : A) (answer : Answer)
     → new ≡ now → f a ≡ answer → answers' ≡ slice_set answers place (Some a)
     → Reached start now section op plugged pending (slice_set (answers_by f answers) place (Some answer))
@@ -69,7 +69,7 @@ module _ (section : List Op) (op : ℕ) (operation : Op) (is : slice_get section
   abbrev pub later : List (ℕ × Op)
   later = enumerate_from (op + 1) (drop (op + 1) section)
 
-  -- the next operation comes behind what is held back
+  -- the next operation comes after what is held back
   pub left_next : (pending : List ℕ) → left_of section op pending ≡ numbered section pending ++ (op, operation) ∷ later
   left_next pending = ap (λ l. numbered section pending ++ enumerate_from op l) (drop_next section op operation is)
 

@@ -10,7 +10,7 @@ use Rattle.std.proofs.lemmas.List.{map-append}
 use Rattle.std.proofs.lemmas.List.Folds.{list_any-append}
 use Rattle.std.proofs.lemmas.List.Sums.{fold-append}
 use Rattle.bc_key.specs.declared.keys.KeyNo.{KeyNo}
-use Rattle.bc_bio.specs.Chunks.{chunks_with, chunk_by}
+use Rattle.bc_bio.specs.Chunks.{chunk_by}
 use Rattle.bc_bio.specs.Windows.{TaggedBio, NamedUnit, named_unit, named_units, requests_of, units_of_request, joins}
 use Rattle.bc_stack.specs.declared.target.Target.{Target}
 use Rattle.bc_stack.specs.Pieces.{same_device}
@@ -31,9 +31,10 @@ use Rattle.bc_script.specs.Script.{Script, keys_of}
 use Rattle.bc_script.specs.Bios.{is_inline}
 use Rattle.bc_script.specs.Windows as turns
 use Rattle.bc_report.specs.SerialRun.{DeviceUse, inline_key, is_on, name_at, pieces_of_request, holds_for, uses_of_turn}
-use Rattle.bc_compose.specs.Ordered.{slots_of}
+use Rattle.bc_compose.specs.OrderedHolds.{slot_count_of}
 use Rattle.bc_section.specs.Uses.{after_uses, is_for, NamesOwnUse, NamesUse, MakesUses}
-use Rattle.bc_section.proofs.Lists.{In, in_append_left, in_append_right, in_of_flat_map, in_of_map, in_of_filter, any_in, all_at, all_from_in, all_of, all_append}
+use Rattle.bc_base.proofs.Members.{In, in_append_left, in_append_right, in_of_map, in_of_filter, in_of_flat_map, any_in, all_at, all_from_in, all_append, all_of}
+use Rattle.bc_bio.proofs.ChunkLaws.{chunks_join}
 
 -- ---- journals
 
@@ -50,12 +51,12 @@ journal_of-append slots (x ∷ xs) ys =
 pub after_uses-append : (script : Script) (device : ℕ) (journal : List Event) (xs ys : List DeviceUse)
     → after_uses script device journal (xs ++ ys) ≡ after_uses script device (after_uses script device journal xs) ys
 after_uses-append script device journal xs ys =
-    let slots = slots_after (slots_of script device) journal in
+    let slots = slots_after (slot_count_of script device) journal in
     let done = journal_of slots (map (λ u. u.use') xs) in
     ap (λ l. journal ++ journal_of slots l) (map-append (λ (u : DeviceUse). u.use') xs ys)
     ∙ ap (λ l. journal ++ l) (journal_of-append slots (map (λ u. u.use') xs) (map (λ u. u.use') ys))
     ∙ sym (append_assoc journal done (journal_of (after_events slots done) (map (λ u. u.use') ys)))
-    ∙ ap (λ s. (journal ++ done) ++ journal_of s (map (λ u. u.use') ys)) (sym (fold-append after_event (opening (slots_of script device)) journal done))
+    ∙ ap (λ s. (journal ++ done) ++ journal_of s (map (λ u. u.use') ys)) (sym (fold-append after_event (opening (slot_count_of script device)) journal done))
 
 -- ---- a slot that has a key is on a device of the script
 
@@ -75,12 +76,12 @@ none_past [] i le = refl
 none_past (x ∷ xs) zero le = absurd (omega arith)
 none_past (x ∷ xs) (suc i) le = none_past xs i (omega arith)
 
-pub holds_within : (script : Script) (device : ℕ) (journal : List Event) (key slot event : ℕ) → Holds (slots_of script device) journal key slot event → device < length script.targets
+pub holds_within : (script : Script) (device : ℕ) (journal : List Event) (key slot event : ℕ) → Holds (slot_count_of script device) journal key slot event → device < length script.targets
 holds_within script device journal key slot event holds =
     ⊎_elim (λ (lt : device < length script.targets). lt)
     (λ (ge : length script.targets ≤ device).
-    let none : slots_of script device ≡ 0 = ap (λ (o : Option Target). option_map_or (λ target. target.slots) o 0) (none_past script.targets device ge) in
-    let empty : (slots_after (slots_of script device) journal).keys ≡ [] =
+    let none : slot_count_of script device ≡ 0 = ap (λ (o : Option Target). option_map_or (λ target. target.slots) o 0) (none_past script.targets device ge) in
+    let empty : (slots_after (slot_count_of script device) journal).keys ≡ [] =
     subst (λ n. (slots_after n journal).keys ≡ []) (sym none) (never_keys (opening 0) journal refl) in
     absurd (none-some key (sym (ap (λ (ks : List (Option ℕ)). slice_index_or ks slot None) empty) ∙ holds.has_key)))
     (cases_lt device (length script.targets))
@@ -118,7 +119,7 @@ module _ (script : Script) where
             ∙ ap (λ b. b || list_any (is_for (name_of_entry e)) n.before) others ∙ n.for_others;
         for_it = n.for_it;
         holds =
-            subst (λ j. Holds (slots_of script device) j n.under.key.0 slot event)
+            subst (λ j. Holds (slot_count_of script device) j n.under.key.0 slot event)
             (ap (λ j. after_uses script device j (n.before ++ hold ∷ [])) is
             ∙ sym (after_uses-append script device journal done (n.before ++ hold ∷ []))
             ∙ ap (after_uses script device journal) (sym (append_assoc done n.before (hold ∷ [])))) n.holds;
@@ -205,19 +206,6 @@ in_flat [] xs x at at' = absurd at
 in_flat (ys ∷ xss) xs x at at' =
     ⊎_elim (λ (e : ys ≡ xs). in_append_left ys (flat_map (λ zs. zs) xss) x (subst (In x) (sym e) at'))
     (λ (more : In xs xss). in_append_right ys (flat_map (λ zs. zs) xss) x (in_flat xss xs x more at')) at
-
-chunks_join : {X : Type 0} (together : X → X → Bool) (xs : List X) → flat_map (λ chunk. chunk) (chunk_by together xs) ≡ xs
-chunks_join together [] = refl
-chunks_join together (x ∷ xs) = first_of together x (chunk_by together xs) ∙ ap (λ (l : List _). x ∷ l) (chunks_join together xs)
-  where
-    first_of : {X : Type 0} (together : X → X → Bool) (x : X) (chunks : List (List X)) → flat_map (λ chunk. chunk) (chunks_with together x chunks) ≡ x ∷ flat_map (λ chunk. chunk) chunks
-    first_of together x [] = refl
-    first_of together x ([] ∷ chunks) = refl
-    first_of together x ((y ∷ ys) ∷ chunks) =
-        elim (together x y) as (λ (b : Bool). flat_map (λ chunk. chunk) (cond b ((x ∷ y ∷ ys) ∷ chunks) ((x ∷ []) ∷ (y ∷ ys) ∷ chunks)) ≡ x ∷ ((y ∷ ys) ++ flat_map (λ chunk. chunk) chunks)) [
-          | true ↦ refl
-          | false ↦ refl
-        ]
 
 -- what stands in a chunk stands in the list
 in_chunk : {X : Type 0} (together : X → X → Bool) (xs chunk : List X) (x : X) → In chunk (chunk_by together xs) → In x chunk → In x xs

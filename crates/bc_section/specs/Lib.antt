@@ -1,4 +1,4 @@
 pub mod Uses
 pub mod Sections
-pub mod Reached
+pub mod SectionProgress
 pub mod Openings

@@ -1,5 +1,5 @@
--- What carrying out operations of a section does, as its thread's device shows it; and what sections do that follow one
--- another.
+-- What carrying out operations of a section does, as its thread's device shows it; and what
+-- sections do that follow one another.
 use Rattle.std.specs.Prelude.{◌≡◌, ℕ, ◌+◌, ◌<◌, ◌≤◌, Bool, IsTrue, List, [], ◌∷◌, ◌++◌}
 use Rattle.std.specs.Prelude.{length, map, filter, flat_map, sum_by}
 use Rattle.std.specs.List.{enumerate_from, AllZip}
@@ -22,9 +22,10 @@ use Rattle.bc_report.specs.SerialRun.{uses_of_section}
 use Rattle.bc_compose.specs.SectionDone.{SaysItsWay, IsReply, SectionDone}
 use Rattle.bc_section.specs.Uses.{MakesUses}
 
--- a thread's device: of which script, over how many shards, which sectors each of them had at the opening, whose it is,
--- what its thread has seen of the orders and of the journals, what the journals were when its section began, whether no
--- other thread comes between, and how many data units, evictions and resets more fit
+-- a thread's device: of which script, over how many shards, which sectors each of them had at the
+-- opening, whose it is, what its thread has seen of the orders and of the journals, what the
+-- journals were when its section began, whether no other thread comes between, and how many data
+-- units, evictions and resets more fit
 pub record DeviceData : Type 0 where
   pub script : Script
   pub shards : ℕ
@@ -41,7 +42,8 @@ abbrev pub GoOnBy : ℕ → List (List Entry) → List (List Entry) → List Ent
 GoOnBy shards old new made =
     (shard : ℕ) → list_at new shard ≡ list_at old shard ++ filter (lies_in shards shard) made
 
--- how much an operation takes of what fits: one for each data unit of its bio, one for an eviction or a reset
+-- how much an operation takes of what fits: one for each data unit of its bio, one for an eviction
+-- or a reset
 abbrev pub cost : Op → ℕ
 cost (ops.Evict key) = 1
 cost (ops.Reset device) = 1
@@ -59,8 +61,8 @@ cost_of_section section = sum_by cost section
 abbrev pub journal_seen : DeviceData → ℕ → List Event
 journal_seen d device = events_of (list_at d.noted device)
 
--- these operations were carried out with these answers: their attempted units, each once and in order, were added to
--- the orders, each by its way
+-- these operations were carried out with these answers: their attempted units, each once and in
+-- order, were added to the orders, each by its way
 pub record Carries (old new : DeviceData) (operations : List (ℕ × Op)) (answers : List Answer) : Type 0 where
   pub made : List Entry
   pub same : new ≡ record old { seen = new.seen; noted = new.noted; spare = new.spare }
@@ -76,8 +78,9 @@ pub record Carries (old new : DeviceData) (operations : List (ℕ × Op)) (answe
 abbrev pub CarriesOne : DeviceData → DeviceData → ℕ × Op → Answer → Type 0
 CarriesOne old new operation answer = Carries old new (operation ∷ []) (answer ∷ [])
 
--- sections were carried out, one after the other, from untouched orders and journals: for each what its thread knows
--- then, and what it added; and the stories of the devices, in which each event has the thread that made it
+-- sections were carried out, one after the other, from untouched orders and journals: for each what
+-- its thread knows then, and what it added; and the stories of the devices, in which each event has
+-- the thread that made it
 pub record SectionsDone (old now : DeviceData) (sections : List (List Op)) (answers : List (List Answer)) : Type 0 where
   pub made : List (List Entry)
   pub seen : List (List (List Entry))

@@ -1,5 +1,5 @@
--- What one caller makes of the devices of a script: the uses of each device, in order, what they record in its journal,
--- and which hold an inline entry names.
+-- What one caller makes of the devices of a script: the uses of each device, in order, what they
+-- record in its journal, and which hold an inline entry names.
 use Rattle.std.specs.Prelude.{◌≡◌, ℕ, ◌<◌, ⊤, Bool, true, false, List, [], ◌∷◌, ◌++◌, length, map, filter_map}
 use Rattle.std.specs.Prelude.{Option, Some, option_map}
 use Rattle.std.specs.List.{list_any}
@@ -21,27 +21,28 @@ use Rattle.bc_script.specs.declared.op.Op.{Op}
 use Rattle.bc_script.specs.Script.{Script}
 use Rattle.bc_script.specs.Bios.{bio_of}
 use Rattle.bc_report.specs.SerialRun.{DeviceUse}
-use Rattle.bc_compose.specs.Ordered.{slots_of}
+use Rattle.bc_compose.specs.OrderedHolds.{slot_count_of}
 
 -- the bio of an operation, with the operation's number
 abbrev pub tagged_bio : ℕ × Op → Option TaggedBio
 tagged_bio (op, operation) = option_map (λ bio. record { tag = op; bio = bio }) (bio_of operation)
 
 -- the bios of operations
-abbrev pub bios_of : List (ℕ × Op) → List TaggedBio
-bios_of operations = filter_map tagged_bio operations
+abbrev pub op_bios : List (ℕ × Op) → List TaggedBio
+op_bios operations = filter_map tagged_bio operations
 
 -- the events of a device with these events, after uses of it
 abbrev pub after_uses : Script → ℕ → List Event → List DeviceUse → List Event
 after_uses script device journal done =
-    journal ++ journal_of (slots_after (slots_of script device) journal) (map (λ u. u.use') done)
+    journal ++ journal_of (slots_after (slot_count_of script device) journal) (map (λ u. u.use') done)
 
 -- the use is a hold that is taken for this unit
 abbrev pub is_for : UnitName → DeviceUse → Bool
 is_for name u = list_any (is_same name) u.units
 
--- An inline entry names its own hold among the uses of its device: the hold is of the key of the entry's unit, it is
--- the first use that is for that unit, and as it is taken the slot has the key, which the event programmed there.
+-- An inline entry names its own hold among the uses of its device: the hold is of the key of the
+-- entry's unit, it is the first use that is for that unit, and as it is taken the slot has the key,
+-- which the event programmed there.
 pub record NamesOwnUse (script : Script) (journal : List Event) (done : List DeviceUse) (e : Entry)
     (device slot event : ℕ) : Type 0 where
   pub under : Context
@@ -52,7 +53,7 @@ pub record NamesOwnUse (script : Script) (journal : List Event) (done : List Dev
   pub among : done ≡ before ++ record { use' = uses.Hold under.key; units = units } ∷ after
   pub for_others : list_any (is_for (name_of_entry e)) before ≡ false
   pub for_it : list_any (is_same (name_of_entry e)) units ≡ true
-  pub holds : Holds (slots_of script device)
+  pub holds : Holds (slot_count_of script device)
       (after_uses script device journal (before ++ record { use' = uses.Hold under.key; units = units } ∷ []))
       under.key.0 slot event
 
@@ -62,8 +63,8 @@ NamesUse script journals done e (vias.Inline device slot event) =
     NamesOwnUse script (journals device) (done device) e device slot event
 NamesUse script journals done e via = ⊤
 
--- from journals `old` to journals `new` just these uses were made of each device, and each entry that was made names
--- its own hold among them
+-- from journals `old` to journals `new` just these uses were made of each device, and each entry
+-- that was made names its own hold among them
 pub record MakesUses (script : Script) (old new : ℕ → List Event) (done : ℕ → List DeviceUse) (made : List Entry)
     : Type 0 where
   pub journals : (device : ℕ) → device < length script.targets

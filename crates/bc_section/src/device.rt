@@ -1,4 +1,5 @@
-//! What carries a section's operations out, as the section sees it, and the loop over its operations.
+//! What carries a section's operations out, as the section sees it, and the loop over its
+//! operations.
 
 ghost use Rattle.std.specs.Prelude.{◌≡◌, ℕ, ◌+◌, ◌^◌, ◌<◌, ◌≤◌, ◌==◌, false, List, [], ◌∷◌, ◌++◌, length, map};
 ghost use Rattle.std.specs.Prelude.{Option, None, Some, IfOk, OnOk, IsSome, IsSomeAnd, slice_get, slice_set};
@@ -16,11 +17,11 @@ ghost use Rattle.bc_script.specs.Bios.{bio_of, refusal_of};
 ghost use Rattle.bc_report.specs.declared.answer.Answer.{Answer};
 ghost use Rattle.bc_report.specs.declared.answer.Answer.TheVariants as answers;
 ghost use Rattle.bc_report.specs.Report.{IsAnswer};
-ghost use Rattle.bc_compose.specs.Ordered.{Pairs};
+ghost use Rattle.bc_compose.specs.OrderedHolds.{Pairs};
 ghost use Rattle.bc_section.specs.Sections.{DeviceData};
-ghost use Rattle.bc_section.specs.Uses.{bios_of};
-ghost use Rattle.bc_section.specs.Reached.{numbered, left_of, answers_by, MayBePlugged, Settled, Submitted, Evicted};
-ghost use Rattle.bc_section.specs.Reached.{HasReset, Reached, CarriesSection, WindowEnds, HoldsNone, steps_from};
+ghost use Rattle.bc_section.specs.Uses.{op_bios};
+ghost use Rattle.bc_section.specs.SectionProgress.{numbered, left_of, answers_by, MayBePlugged, Settled, Submitted, Evicted};
+ghost use Rattle.bc_section.specs.SectionProgress.{HasReset, Reached, CarriesSection, WindowEnds, HoldsNone, steps_from};
 
 use crate::pending::Pending;
 use bc_bio::{Extent, Refusal};
@@ -31,8 +32,8 @@ use bc_script::Op;
 use bc_script::limits::MAX_PLUGGED;
 use std::snapshot::Snapshot;
 
-/// Carries the operations of a thread's section out, and answers each. `R` is what it waits with, `A` an answer, and
-/// `E` what it can fail with; after an error the run is over.
+/// Carries the operations of a thread's section out, and answers each. `R` is what it waits with,
+/// `A` an answer, and `E` what it can fail with; after an error the run is over.
 pub trait Device<R, A, E> {
     /// Its script, its thread, and what the thread has seen.
     ghost facts: { Self → DeviceData };
@@ -84,8 +85,8 @@ pub trait Device<R, A, E> {
         ensures answer { answer result ≡ answers.Unplug }
         ensures room { (after : List (ℕ × Op)) → affords self.old ((op, ops.Unplug) ∷ after) → affords self.new after };
 
-    /// Submits the bios of these operations of a section as a window, and notes the answer of each. None of them is
-    /// refused.
+    /// Submits the bios of these operations of a section as a window, and notes the answer of each.
+    /// None of them is refused.
     fn window(
         &mut self,
         rt: &R,
@@ -130,9 +131,9 @@ pub trait Device<R, A, E> {
             → affords self.new after) };
 }
 
-/// Carries the operations of a section out, one after the other, and notes the answer of each. Bios between a plug and
-/// its end are held back, and submitted as a window at that end or the section's, before another plug, an eviction or a
-/// reset, and where the plug is full.
+/// Carries the operations of a section out, one after the other, and notes the answer of each. Bios
+/// between a plug and its end are held back, and submitted as a window at that end or the
+/// section's, before another plug, an eviction or a reset, and where the plug is full.
 ///
 /// # Errors
 ///
@@ -250,7 +251,8 @@ fn step<R, A: Drop, E, D: Device<R, A, E>>(
     }
 }
 
-/// Answers an operation's bio where it is refused, and else submits it, or holds it back where a plug is open.
+/// Answers an operation's bio where it is refused, and else submits it, or holds it back where a
+/// plug is open.
 fn bio<R, A: Drop, E, D: Device<R, A, E>>(
     rt: &R,
     device: &mut D,
@@ -355,7 +357,7 @@ fn flush<R, A: Drop, E, D: Device<R, A, E>>(
     requires reached { Reached (D.facts _start.now.value) (D.facts device.old) section.now _op _plugged pending.old
         (answers_by D.answer answers.old) }
     requires ends { WindowEnds (D.facts _start.now.value).script (D.facts _start.now.value).thread _plugged
-        (bios_of (numbered section.now pending.old)) (steps_from (D.facts _start.now.value).script section.now _op) }
+        (op_bios (numbered section.now pending.old)) (steps_from (D.facts _start.now.value).script section.now _op) }
     ensures lent { D.lent device.new ≡ D.lent device.old }
     ensures empty { OnOk result (pending.new ≡ []) }
     ensures afforded { OnOk result (D.affords device.new (left_of section.now _op [])) }

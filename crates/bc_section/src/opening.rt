@@ -9,8 +9,39 @@ use bc_script::Script;
 use std::alloc::{AllocError, Global};
 
 /// A store for each shard of the image, which fails where the script plans it. A fault that is planned on a shard that
-/// isn't there is without effect.
+/// isn't there is without effect. The only store of one shard keeps the image itself; else each store has a copy of its
+/// part, and the image is dropped.
+///
+/// # Errors
+/// Out of memory.
 pub fn stores_of(
+    alloc: Global,
+    script: &Script,
+    image: Vec<u8>,
+    shards: u16,
+) -> Result<Vec<RamStore>, AllocError>
+    requires length { length image.items ≡ 4096 * script.now.blocks }
+    ensures { IfOk result (λ stores. AreOpenings script.now image.items shards stores.items) }
+{
+    if shards == 1 {
+        return only_store(alloc, script, image);
+    }
+    stores_of_parts(alloc, script, image.as_slice(), shards)
+}
+
+/// The store of the only shard of an image.
+fn only_store(alloc: Global, script: &Script, image: Vec<u8>) -> Result<Vec<RamStore>, AllocError>
+    requires length { length image.items ≡ 4096 * script.now.blocks }
+    ensures { IfOk result (λ stores. AreOpenings script.now image.items 1 stores.items) }
+{
+    let plan = planned_on(alloc, script.faults(), 0)?;
+    let mut stores = Vec::with_capacity(alloc, 1)?;
+    stores.push(RamStore::of_whole(image, plan))?;
+    Ok(stores)
+}
+
+/// A store for each of so many shards, with a copy of its part of the image.
+fn stores_of_parts(
     alloc: Global,
     script: &Script,
     image: &[u8],

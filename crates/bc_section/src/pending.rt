@@ -6,7 +6,8 @@ ghost use Rattle.bc_script.specs.declared.limits.TheConstants.{MAX_PLUGGED};
 use bc_script::limits::MAX_PLUGGED;
 use std::marker::Model;
 
-/// The numbers of the operations whose bios are held back, in order; at most as many as a plug holds.
+/// The numbers of the operations whose bios are held back, in order; at most as many as a plug
+/// holds.
 #[derive(Drop)]
 pub(crate) struct Pending {
     numbers: [u32; MAX_PLUGGED],

@@ -8,7 +8,7 @@ use Rattle.std.proofs.lemmas.List.Sums.{sum_by-append, sum_by-cons}
 use Rattle.bc_script.specs.declared.op.Op.{Op}
 use Rattle.bc_report.specs.declared.answer.Answer.{Answer}
 use Rattle.bc_section.specs.Sections.{cost, cost_in}
-use Rattle.bc_section.specs.Reached.{answers_by}
+use Rattle.bc_section.specs.SectionProgress.{answers_by}
 
 abbrev cost_of : ℕ × Op → ℕ
 cost_of operation = cost operation.1

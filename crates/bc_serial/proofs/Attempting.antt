@@ -18,7 +18,7 @@ use Rattle.bc_bio.specs.PlannedUnit.{PlannedUnit}
 use Rattle.bc_medium.specs.declared.entry.Entry.{Entry}
 use Rattle.bc_medium.specs.KeyedDisk.{UnitAnswer, Faulted, Written, Text}
 use Rattle.bc_medium.specs.Entries.{name_of_entry}
-use Rattle.bc_medium.specs.LawfulOrders.{name_of, is_attempted}
+use Rattle.bc_medium.specs.LawfulOrders.{unit_name_of, is_attempted}
 use Rattle.bc_medium.specs.Laws.{KnownStays}
 use Rattle.bc_medium.specs.Growth.{lies_in, Knows, IsEntryOf, Attempts, failed_names, attempted_by}
 use Rattle.bc_medium.specs.Outcome.{BioAnswer, Wrote, Bytes, Fault}
@@ -34,9 +34,11 @@ use Rattle.bc_report.specs.Report.{IsAnswer}
 use Rattle.bc_compose.specs.SectionDone.{SaysItsWay, IsBioAnswer, IsReply}
 use Rattle.bc_section.specs.Sections.{DeviceData, CarriesOne, GoOnBy, cost}
 use Rattle.bc_serial.specs.Standing.{first_units, AttemptsUnit}
-use Rattle.bc_section.proofs.Lists.{In, in_of_map, all_append, all_at, zip_append, filter_all, filter_none, range_push}
-use Rattle.bc_section.proofs.Growing.{goes_none, goes_append, grows_alone, made_by, named, failed_append}
+use Rattle.bc_section.proofs.Lists.{filter_all, filter_none}
+use Rattle.bc_section.proofs.Growing.{goes_none, goes_append, grows_alone}
 use Rattle.bc_section.proofs.Carrying.{bio_answer_more}
+use Rattle.bc_base.proofs.Members.{In, in_of_map, all_at, all_append, range_push, zip_append}
+use Rattle.bc_medium.proofs.Growing.{made_by, named, failed_append}
 
 -- ---- numbers in a row
 
@@ -80,7 +82,7 @@ module _ (keys : List KeyData) (op : ℕ) (operation : Op) (bio : Extent) where
       zero_first : (n : ℕ) → 0 + n ≡ n
       zero_first n = omega arith
 
-  -- the units before one, it, and those behind it
+  -- the units before one, it, and those after it
   abbrev behind : ℕ → ℕ → List PlannedUnit
   behind i n = map (unit_at keys op operation bio) (range_with_len (i + 1) n)
 
@@ -115,7 +117,7 @@ pub record NoneMet (old now : DeviceData) (access : Access) (units : List Planne
   pub went : AllByRecursion (λ e. e.failed ≡ false) made
   pub answer : IsBioAnswer old.script old.shards old.base old.thread now.seen access units outcome
 
--- unit number k met one, and those behind it were passed over
+-- unit number k met one, and those after it were passed over
 pub record OneMet (old now : DeviceData) (op : ℕ) (operation : Op) (bio : Extent) (k : ℕ) (made : List Entry) : Type 0 where
   pub within : k < bio.units
   pub attempts : Attempts old.thread [] (first_units (keys_of old.script) op operation bio bio.units) made
@@ -207,7 +209,7 @@ module _ (a b m : DeviceData) (made : List Entry) (p : Made a b made) (reached :
 none_failed : (es : List Entry) → AllByRecursion (λ e. e.failed ≡ false) es → failed_names es ≡ []
 none_failed es went = ap (map name_of_entry) (filter_none (λ e. e.failed) es (λ e at. all_at (λ (x : Entry). x.failed ≡ false) es e went at))
 
--- a unit met a fault: those behind it are passed over
+-- a unit met a fault: those after it are passed over
 module _ (thread : ℕ) (keys : List KeyData) (op : ℕ) (operation : Op) (bio : Extent) (i : ℕ) where
   lt_no : (m n : ℕ) → n ≤ m → nat_lt m n ≡ false
   lt_no m n le = false_from_ne_true (nat_lt m n) (λ t. let lt = ltb-true m n t in absurd (omega arith))
@@ -215,21 +217,21 @@ module _ (thread : ℕ) (keys : List KeyData) (op : ℕ) (operation : Op) (bio :
   lt_yes : (m n : ℕ) → m < n → nat_lt m n ≡ true
   lt_yes m n lt = lt-ltb m n lt
 
-  not_before : (v : PlannedUnit) → v.unit < i → is_attempted (name_of thread (unit_at keys op operation bio i) ∷ []) (name_of thread v) ≡ true
+  not_before : (v : PlannedUnit) → v.unit < i → is_attempted (unit_name_of thread (unit_at keys op operation bio i) ∷ []) (unit_name_of thread v) ≡ true
   not_before v lt = rw (lt_no i v.unit (omega arith)) (ends ((thread == thread) && (op == v.tag)))
     where
       ends : (t : Bool) → not ((t && false) || false) ≡ true
       ends true = refl
       ends false = refl
 
-  itself : (u : PlannedUnit) → is_attempted (name_of thread u ∷ []) (name_of thread u) ≡ true
+  itself : (u : PlannedUnit) → is_attempted (unit_name_of thread u ∷ []) (unit_name_of thread u) ≡ true
   itself u = rw (lt_no u.unit u.unit (omega arith)) (ends ((thread == thread) && (u.tag == u.tag)))
     where
       ends : (t : Bool) → not ((t && false) || false) ≡ true
       ends true = refl
       ends false = refl
 
-  passed : (v : PlannedUnit) → i < v.unit → v.tag ≡ op → is_attempted (name_of thread (unit_at keys op operation bio i) ∷ []) (name_of thread v) ≡ false
+  passed : (v : PlannedUnit) → i < v.unit → v.tag ≡ op → is_attempted (unit_name_of thread (unit_at keys op operation bio i) ∷ []) (unit_name_of thread v) ≡ false
   passed v lt same = rw (eq-eqb thread thread refl, eq-eqb op v.tag (sym same), lt_yes i v.unit lt) refl
 
   pub attempts_fault : (n : ℕ) (made : List Entry) (e : Entry) → AllZip (IsEntryOf thread) (first_units keys op operation bio i) made → AllByRecursion (λ x. x.failed ≡ false) made
@@ -238,15 +240,15 @@ module _ (thread : ℕ) (keys : List KeyData) (op : ℕ) (operation : Op) (bio :
       let u = unit_at keys op operation bio i in
       let us = first_units keys op operation bio i in
       let vs = behind keys op operation bio i n in
-      let name = name_of thread u in
+      let name = unit_name_of thread u in
       let met : [] ++ failed_names (made ++ e ∷ []) ≡ name ∷ [] =
       failed_append made (e ∷ []) ∙ ap (λ l. l ++ failed_names (e ∷ [])) (none_failed made went)
       ∙ ap (λ (t : Bool). map name_of_entry (cond t (e ∷ []) [])) failed ∙ ap (λ m. m ∷ []) (named thread u e its) in
       let tried : attempted_by thread (name ∷ []) (us ++ u ∷ vs) ≡ us ++ u ∷ [] =
-      filter-append (λ v. is_attempted (name ∷ []) (name_of thread v)) us (u ∷ vs)
-      ∙ ap (λ l. l ++ attempted_by thread (name ∷ []) (u ∷ vs)) (filter_all (λ v. is_attempted (name ∷ []) (name_of thread v)) us (λ v at. not_before v (before_it keys op operation bio i v at)))
+      filter-append (λ v. is_attempted (name ∷ []) (unit_name_of thread v)) us (u ∷ vs)
+      ∙ ap (λ l. l ++ attempted_by thread (name ∷ []) (u ∷ vs)) (filter_all (λ v. is_attempted (name ∷ []) (unit_name_of thread v)) us (λ v at. not_before v (before_it keys op operation bio i v at)))
       ∙ ap (λ (t : Bool). us ++ cond t (u ∷ attempted_by thread (name ∷ []) vs) (attempted_by thread (name ∷ []) vs)) (itself u)
-      ∙ ap (λ l. us ++ u ∷ l) (filter_none (λ v. is_attempted (name ∷ []) (name_of thread v)) vs (λ v at. let r = behind_it keys op operation bio i n v at in passed v r.0 r.1)) in
+      ∙ ap (λ l. us ++ u ∷ l) (filter_none (λ v. is_attempted (name ∷ []) (unit_name_of thread v)) vs (λ v at. let r = behind_it keys op operation bio i n v at in passed v r.0 r.1)) in
       subst (λ l. Attempts thread [] l (made ++ e ∷ [])) (sym (units_round keys op operation bio i n))
       (subst (λ m. AllZip (IsEntryOf thread) (attempted_by thread m (us ++ u ∷ vs)) (made ++ e ∷ [])) (sym met)
       (subst (λ l. AllZip (IsEntryOf thread) l (made ++ e ∷ [])) (sym tried)
@@ -321,7 +323,7 @@ carries_bio a b op operation bio outcome answer made is accepted spare p n same 
     let us = first_units (keys_of a.script) op operation bio bio.units in
     let attempts : Attempts a.thread [] us made =
     subst (λ m. AllZip (IsEntryOf a.thread) (attempted_by a.thread ([] ++ m) us) made) (sym (none_failed made n.went))
-    (subst (λ l. AllZip (IsEntryOf a.thread) l made) (sym (filter_all (λ v. is_attempted [] (name_of a.thread v)) us (λ v at. refl))) n.entries) in
+    (subst (λ l. AllZip (IsEntryOf a.thread) l made) (sym (filter_all (λ v. is_attempted [] (unit_name_of a.thread v)) us (λ v at. refl))) n.entries) in
     carries_made a b op operation bio answer made is accepted spare p attempts outcome n.answer same range
 
 -- a unit met a fault

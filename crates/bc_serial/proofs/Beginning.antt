@@ -1,29 +1,30 @@
 -- A run begins: each shard has its own sectors of the image, and nothing was attempted.
-use Rattle.std.proofs.Common.{◌≡◌, ℕ, zero, suc, ◌-◌, ◌+◌, ◌*◌, ◌/◌, ◌<◌, ◌≤◌, Bool, true, false, cond, List, [], ◌∷◌, Option, None, length, map, drop, refl, sym, ap, subst, ◌∙◌, arith, length-drop, length-take}
+use Rattle.std.proofs.Common.{◌≡◌, ℕ, zero, suc, ◌-◌, ◌+◌, ◌*◌, ◌/◌, ◌<◌, ◌≤◌, Bool, true, false, List, [], ◌∷◌, Option, None, length, map, refl, sym, ap, subst, ◌∙◌, arith}
 use Rattle.std.specs.Prelude.{◌==◌, ◌&&◌, nat_lt, replicate}
 use Rattle.std.proofs.Math.Logic.{⊎_elim}
-use Rattle.std.proofs.lemmas.Bool.{eq-eqb, lt-ltb, ltb-true, false_from_ne_true, cases_lt}
+use Rattle.std.proofs.lemmas.Bool.{eq-eqb, lt-ltb, cases_lt}
 use Rattle.std.proofs.lemmas.Option.{none-some, same_Some}
 use Rattle.bc_base.specs.Lists.{At, list_at}
-use Rattle.bc_base.specs.RamStores.{RamData, IsShardOf, owns, contents, sector_within}
+use Rattle.bc_base.specs.RamStores.{RamData, IsShardOf, owns, contents}
 use Rattle.bc_key.specs.KeyData.{KeyData}
 use Rattle.bc_profile.specs.declared.event.Event.{Event}
 use Rattle.bc_stack.specs.declared.target.Target.{Target}
-use Rattle.bc_medium.specs.Places.{shard_of}
+use Rattle.bc_medium.specs.Layout.{shard_of}
 use Rattle.bc_medium.specs.KeyedDisk.{image_sectors}
-use Rattle.bc_medium.specs.ShardOrder.{ShardData, opened}
+use Rattle.bc_medium.specs.ShardOrder.{ShardData, opened_shard}
 use Rattle.bc_medium.specs.Shards.{opened_with, orders_of}
 use Rattle.bc_script.specs.Script.{Script, IsScript, keys_of, sectors_in, max_ops, max_units}
 use Rattle.bc_serial.specs.Keyslots.{KeyslotsData}
 use Rattle.bc_serial.specs.declared.open_hold.OpenHold.{OpenHold}
 use Rattle.bc_section.specs.Openings.{AreOpenings}
-use Rattle.bc_serial.specs.Standing.{Stands, HaveRoom, IsCourse, sectors_at, IsBegun}
+use Rattle.bc_serial.specs.Standing.{ShardStands, HaveRoom, IsCourse, sectors_at, IsBegun}
 use Rattle.bc_section.proofs.Lists.{at_exists}
+use Rattle.bc_section.proofs.Faults.{not_behind, nothing_behind}
 
-pub opened_at : (stores : List RamData) (n q k : ℕ) (s : ShardData RamData) → length stores ≡ n → At (opened_with stores (replicate n q)) k s → (store : RamData) × At stores k store × (s ≡ opened store q)
+pub opened_at : (stores : List RamData) (n q k : ℕ) (s : ShardData RamData) → length stores ≡ n → At (opened_with stores (replicate n q)) k s → (store : RamData) × At stores k store × (s ≡ opened_shard store q)
 opened_at [] n q k s long at = absurd (none-some s at)
 opened_at (x ∷ xs) zero q k s long at = absurd (omega arith)
-opened_at (x ∷ xs) (suc n) q zero s long at = (x, refl, sym (same_Some (opened x q) s at))
+opened_at (x ∷ xs) (suc n) q zero s long at = (x, refl, sym (same_Some (opened_shard x q) s at))
 opened_at (x ∷ xs) (suc n) q (suc k) s long at = opened_at xs n q k s (omega arith) at
 
 pub length-opened : (stores : List RamData) (n q : ℕ) → length stores ≡ n → length (opened_with stores (replicate n q)) ≡ n
@@ -37,27 +38,6 @@ untouched [] n q shard = refl
 untouched (x ∷ xs) zero q shard = refl
 untouched (x ∷ xs) (suc n) q zero = refl
 untouched (x ∷ xs) (suc n) q (suc shard) = untouched xs n q shard
-
--- what lies behind the disk
-pub nothing_behind : (image : List ℕ) (blocks s : ℕ) → length image ≡ 4096 * blocks → 8 * blocks ≤ s → image_sectors image s ≡ []
-nothing_behind image blocks s whole behind =
-    let none : length (image_sectors image s) ≡ 0 =
-    omega (arith, length-take (512 * s + 512 - 512 * s) (drop (512 * s) image), length-drop (512 * s) image) in
-    empty (image_sectors image s) none
-  where
-    empty : {X : Type 0} (xs : List X) → length xs ≡ 0 → xs ≡ []
-    empty [] e = refl
-    empty (x ∷ xs) e = absurd (omega arith)
-
-pub not_behind : (store : RamData) (blocks s : ℕ) → store.blocks ≡ blocks → 8 * blocks ≤ s → contents store s ≡ []
-not_behind store blocks s is behind =
-    let no : nat_lt (s / 8) store.blocks ≡ false = false_from_ne_true (nat_lt (s / 8) store.blocks) (λ t. let lt = ltb-true (s / 8) store.blocks t in absurd (omega arith)) in
-    ap (λ (b : Bool). cond ((shard_of store.shards s == store.shard) && b) (image_sectors store.bytes (sector_within store.shards s)) []) no
-    ∙ ap (λ (b : Bool). cond b (image_sectors store.bytes (sector_within store.shards s)) []) (and_false (shard_of store.shards s == store.shard))
-  where
-    and_false : (b : Bool) → (b && false) ≡ false
-    and_false true = refl
-    and_false false = refl
 
 -- how many data units, evictions and resets fit
 abbrev pub most : ℕ
@@ -91,7 +71,7 @@ module _ (script : Script) (rules : IsScript script) (image : List ℕ) (n : ℕ
         let r = opened_at stores n most k s are.count at in
         let is = are.each k r.0 r.1 in
         let blocks : r.0.blocks ≡ length image / 4096 = is.holds.blocks_are in
-        subst (λ m. Stands script m most k s) (sym long) (subst (Stands script n most k) (sym r.2) (record {
+        subst (λ m. ShardStands script m most k s) (sym long) (subst (ShardStands script n most k) (sym r.2) (record {
           keys = tt;
           owned = is_owned k r.0 is.holds;
           blocks = omega arith;

@@ -1,6 +1,6 @@
 -- How many events a window, an eviction and a reset make on each device, as `Bounds` says it.
-use Rattle.std.proofs.Common.{◌≡◌, ◌≢◌, ℕ, ◌+◌, ◌<◌, ◌≤◌, ◌⊎◌, Bool, true, false, cond, List, [], ◌∷◌, length, map, refl, sym, ap, subst, ◌∙◌, arith, Option, Some, None}
-use Rattle.std.specs.Prelude.{◌==◌, ◌&&◌, ◌||◌, count_by, slice_get, IsSomeAnd}
+use Rattle.std.proofs.Common.{◌≡◌, ◌≢◌, ℕ, ◌+◌, ◌<◌, ◌≤◌, ◌⊎◌, Bool, true, false, cond, List, [], ◌∷◌, length, map, refl, sym, ap, subst, ◌∙◌, arith, Option}
+use Rattle.std.specs.Prelude.{◌==◌, ◌&&◌, ◌||◌, count_by}
 use Rattle.std.specs.List.{AllByRecursion}
 use Rattle.std.specs.Option.{option_map_or}
 use Rattle.std.proofs.Math.Logic.{⊎_elim}
@@ -23,23 +23,13 @@ use Rattle.bc_report.specs.Evictions.{Eviction, is_evict, is_busy, names_busy}
 use Rattle.bc_report.specs.Holders.{is_way_on, is_unit_under}
 use Rattle.bc_report.specs.SerialRun.{DeviceUse, uses_of_turn}
 use Rattle.bc_compose.specs.SectionDone.{Bounds}
-use Rattle.bc_section.specs.Reached.{numbered, IsAcceptedBio, MayBePlugged}
-use Rattle.bc_section.specs.Uses.{bios_of}
+use Rattle.bc_section.specs.SectionProgress.{IsAcceptedBio}
+use Rattle.bc_section.specs.Uses.{op_bios}
 use Rattle.bc_section.proofs.Holding.{count_cons, count_journal, count_eviction, hold_weight, other_weight, programs_at_most, idles_at_most, others_at_most, holds_by, window_holds, window_only_holds, touched_by, no_reset}
-
--- the operations of a window have accepted bios
-pub numbered_accepted : (script : Script) (section : List Op) (os : List ℕ) → AllByRecursion (MayBePlugged script section) os → AllByRecursion (λ act. IsAcceptedBio script act.1) (numbered section os)
-numbered_accepted script section [] all = tt
-numbered_accepted script section (o ∷ os) all = of_op (slice_get section o) all.0 (numbered_accepted script section os all.1)
-  where
-    of_op : (p : Option Op) → IsSomeAnd p (IsAcceptedBio script) → AllByRecursion (λ act. IsAcceptedBio script act.1) (numbered section os)
-        → AllByRecursion (λ act. IsAcceptedBio script act.1) (option_map_or (λ operation. (o, operation) ∷ numbered section os) p (numbered section os))
-    of_op None is rest = absurd is
-    of_op (Some x) is rest = (is, rest)
 
 -- what a window makes, where each device records its uses and nothing else
 pub window_bounds : (script : Script) (thread : ℕ) (acts : List (ℕ × Op)) → IsScript script → AllByRecursion (λ act. IsAcceptedBio script act.1) acts → (events : ℕ → List Event)
-    → ((device : ℕ) → device < length script.targets → (slots : Slots) × (events device ≡ journal_of slots (map (λ u. u.use') (uses_of_turn script device thread (turns.Window (bios_of acts))))))
+    → ((device : ℕ) → device < length script.targets → (slots : Slots) × (events device ≡ journal_of slots (map (λ u. u.use') (uses_of_turn script device thread (turns.Window (op_bios acts))))))
     → ((device : ℕ) → length script.targets ≤ device → events device ≡ [])
     → Bounds script acts [] events
 window_bounds script thread acts rules accepted made inside outside = record {
@@ -56,17 +46,17 @@ window_bounds script thread acts rules accepted made inside outside = record {
 }
   where
     used : ℕ → List DeviceUse
-    used device = uses_of_turn script device thread (turns.Window (bios_of acts))
+    used device = uses_of_turn script device thread (turns.Window (op_bios acts))
 
     -- each event of this kind is of a hold
     few : (device : ℕ) (test : Event → Bool) (of_key : KeyNo → Bool) → ((slots : Slots) (use' : Use) → count_by test (events_of_use slots use') ≤ hold_weight of_key use')
-        → (n : ℕ) → (device < length script.targets → count_by (holds_by script device 0 of_key) (bios_of acts) ≤ n) → count_by test (made device) ≤ n
+        → (n : ℕ) → (device < length script.targets → count_by (holds_by script device 0 of_key) (op_bios acts) ≤ n) → count_by test (made device) ≤ n
     few device test of_key at_most n touched = ⊎_elim
         (λ (within : device < length script.targets).
         let is = inside device within in
         subst (λ (l : List Event). count_by test l ≤ n) (sym is.1)
         (let one = count_journal test (hold_weight of_key) at_most is.0 (used device) in
-        let two = window_holds script device thread rules.devices.stack of_key (bios_of acts) in
+        let two = window_holds script device thread rules.devices.stack of_key (op_bios acts) in
         let three = touched within in omega (arith, one, two, three)))
         (λ (past : length script.targets ≤ device). subst (λ (l : List Event). count_by test l ≤ n) (sym (outside device past)) (omega arith))
         (cases_lt device (length script.targets))
@@ -78,7 +68,7 @@ window_bounds script thread acts rules accepted made inside outside = record {
         let is = inside device within in
         subst (λ (l : List Event). count_by test l ≤ 0) (sym is.1)
         (let one = count_journal test other_weight (others_at_most test no_program no_idle) is.0 (used device) in
-        let two = window_only_holds script device thread (bios_of acts) in omega (arith, one, two)))
+        let two = window_only_holds script device thread (op_bios acts) in omega (arith, one, two)))
         (λ (past : length script.targets ≤ device). subst (λ (l : List Event). count_by test l ≤ 0) (sym (outside device past)) (omega arith))
         (cases_lt device (length script.targets))
 

@@ -1,10 +1,10 @@
 -- A run ends: the shards are closed, and the sections make a lawful run.
-use Rattle.std.proofs.Common.{◌≡◌, ℕ, zero, suc, ◌+◌, ◌*◌, ◌/◌, ◌<◌, ◌≤◌, ◌^◌, ◌⊎◌, inl, inr, Bool, true, false, cond, List, [], ◌∷◌, ◌++◌, length, map, take, refl, sym, ap, subst, ◌∙◌, arith, not, Option, Some}
-use Rattle.std.specs.Prelude.{◌↔◌, ◌==◌, ◌&&◌, ◌||◌, filter, flat_map, Contains, slice_get, slice_index_or, nat_lt, option_map, IsSomeAnd}
+use Rattle.std.proofs.Common.{◌≡◌, ℕ, zero, suc, ◌+◌, ◌*◌, ◌/◌, ◌<◌, ◌≤◌, ◌^◌, ◌⊎◌, Bool, true, false, cond, List, [], ◌∷◌, ◌++◌, length, map, take, refl, sym, ap, subst, ◌∙◌, arith, not, Option, Some}
+use Rattle.std.specs.Prelude.{◌==◌, ◌||◌, filter, flat_map, Contains, slice_get, slice_index_or, nat_lt, option_map, IsSomeAnd}
 use Rattle.std.specs.Option.{option_map_or}
-use Rattle.std.specs.List.{AllByRecursion, AllZip, range_with_len, enumerate_from, list_any, position_or_len}
+use Rattle.std.specs.List.{AllByRecursion, range_with_len, enumerate_from, list_any, position_or_len}
 use Rattle.std.proofs.Math.Logic.{⊎_elim}
-use Rattle.std.proofs.lemmas.Bool.{eq-eqb, ne_eqb, eqb-true, true≢false, cases_lt, and_right, ltb-true, false_from_ne_true}
+use Rattle.std.proofs.lemmas.Bool.{eq-eqb, ne_eqb, true≢false, cases_lt, and_right, ltb-true, false_from_ne_true}
 use Rattle.std.proofs.lemmas.Option.{none-some, same_Some}
 use Rattle.std.proofs.lemmas.List.{length-map}
 use Rattle.std.proofs.lemmas.List.Elements.{filter-append}
@@ -13,7 +13,7 @@ use Rattle.bc_base.specs.Story.{own, StartsWith}
 use Rattle.bc_base.specs.RamStores.{RamData, HaveAllSectors, owns, contents, sector_within}
 use Rattle.bc_key.specs.KeyData.{KeyData}
 use Rattle.bc_medium.specs.declared.entry.Entry.{Entry}
-use Rattle.bc_medium.specs.Places.{shard_of}
+use Rattle.bc_medium.specs.Layout.{shard_of}
 use Rattle.bc_medium.specs.KeyedDisk.{Sectors, image_sectors, meets_fault}
 use Rattle.bc_medium.specs.Entries.{caller_of, left_by, name_of_entry}
 use Rattle.bc_medium.specs.declared.via.Via.{Via}
@@ -25,7 +25,7 @@ use Rattle.bc_profile.specs.OneCaller.{journal_of}
 use Rattle.bc_profile.specs.Programmings.{last_programming}
 use Rattle.bc_profile.specs.Story.{events_of}
 use Rattle.bc_medium.specs.Growth.{lies_in}
-use Rattle.bc_medium.specs.ShardOrder.{ShardData, HasKeys, IsOrder, FailAsPlanned, Leaves}
+use Rattle.bc_medium.specs.ShardOrder.{ShardData, HasKeys, IsOrder, Leaves}
 use Rattle.bc_medium.specs.Shards.{AllLeft, HaveKeys}
 use Rattle.bc_script.specs.Script.{Script, IsScript, keys_of, max_threads}
 use Rattle.bc_stack.specs.declared.target.Target.{Target}
@@ -35,77 +35,21 @@ use Rattle.bc_report.specs.declared.answer.Answer.{Answer}
 use Rattle.bc_report.specs.declared.line.Line.{Line}
 use Rattle.bc_report.specs.Report.{Report, IsReport, IsEntry, IsEvent, IsPart}
 use Rattle.bc_compose.specs.SectionDone.{SectionDone, key_of_entry}
-use Rattle.bc_compose.specs.Closed.{ShardsClosed, StoresClosed, DevicesClosed, line_of}
-use Rattle.bc_compose.specs.Composed.{AreSectionsOf, FollowOneAnother, AreUses, NamesItsHold}
+use Rattle.bc_compose.specs.ClosedOrders.{ShardsClosed, StoresClosed, DevicesClosed, report_line_of}
+use Rattle.bc_compose.specs.ComposedRun.{AreSectionsOf, FollowOneAnother, AreUses, NamesItsHold}
 use Rattle.bc_section.specs.Sections.{DeviceData, SectionsDone, journal_seen}
 use Rattle.bc_serial.specs.Keyslots.{KeyslotsData}
 use Rattle.bc_section.specs.Uses.{after_uses, is_for, NamesUse, MakesUses}
 use Rattle.bc_section.specs.Openings.{planned_on}
-use Rattle.bc_serial.specs.Standing.{Stands, IsCourse, CourseData, HasBegun, device_of, sectors_at, IsBegun}
-use Rattle.bc_section.proofs.Lists.{In, in_append_left, in_append_right, list_at_past, in_of_filter, in_of_flat_map, all_at, all_from_in, all_slice, all_by_place, filter_all, filter_none, at_exists, at_map, at_of_map, list_at_map, by_places, same_tests}
+use Rattle.bc_serial.specs.Standing.{ShardStands, IsCourse, CourseData, HasBegun, own_device, sectors_at, IsBegun}
+use Rattle.bc_section.proofs.Lists.{list_at_past, all_slice, all_by_place, filter_all, filter_none, at_exists, at_map, at_of_map, list_at_map, by_places}
 use Rattle.bc_serial.proofs.Sectioning.{events_at, events_are, same_by_places}
 use Rattle.bc_section.proofs.Using.{holds_within}
 use Rattle.bc_serial.proofs.Turns.{callers_below}
-use Rattle.bc_serial.proofs.Beginning.{nothing_behind}
+use Rattle.bc_base.proofs.Members.{In, in_append_left, in_append_right, in_of_filter, in_of_flat_map, same_tests, all_at, all_from_in, zip_length}
+use Rattle.bc_section.proofs.Faults.{nothing_behind, fail_at, met_planned, planned_met}
 
 -- ---- planned faults
-
-fail_at : (plan : List ℕ) (first : ℕ) (es : List Entry) (place : ℕ) (e : Entry) → FailAsPlanned plan first es → At es place e → (e.failed ≡ true) ↔ Contains plan (first + place)
-fail_at plan first [] place e all at = absurd (none-some e at)
-fail_at plan first (x ∷ es) zero e all at = subst (λ n. (e.failed ≡ true) ↔ Contains plan n) (none first) (subst (λ (z : Entry). (z.failed ≡ true) ↔ Contains plan first) (same_Some x e at) all.0)
-  where
-    none : (n : ℕ) → n ≡ n + 0
-    none n = omega arith
-fail_at plan first (x ∷ es) (suc place) e all at = subst (λ n. (e.failed ≡ true) ↔ Contains plan n) (over first place) (fail_at plan (first + 1) es place e all.1 at)
-  where
-    over : (n m : ℕ) → n + 1 + m ≡ n + suc m
-    over n m = omega arith
-
-contains_next : (x n : ℕ) (xs : List ℕ) → Contains xs n → Contains (x ∷ xs) n
-contains_next x n xs c = let lt = c.1 in (suc c.0, omega arith, c.2)
-
-contains_parts : (x n : ℕ) (xs : List ℕ) → Contains (x ∷ xs) n → (x ≡ n) ⊎ Contains xs n
-contains_parts x n xs (zero, lt, e) = inl e
-contains_parts x n xs (suc k, lt, e) = inr (k, omega arith, e)
-
-planned_met : (faults : List (ℕ × ℕ)) (shard place : ℕ) → Contains (planned_on faults shard) place → meets_fault faults shard place ≡ true
-planned_met [] shard place c = let lt = c.1 in absurd (omega arith)
-planned_met (f ∷ faults) shard place c =
-    (elim (f.0 == shard) as (λ (b : Bool). (f.0 == shard) ≡ b → meets_fault (f ∷ faults) shard place ≡ true) [
-      | true ↦ λ here. ⊎_elim
-          (λ (e : f.1 ≡ place). ap (λ (b : Bool). (b && (f.1 == place)) || meets_fault faults shard place) here ∙ ap (λ (b : Bool). b || meets_fault faults shard place) (eq-eqb f.1 place e))
-          (λ (more : Contains (planned_on faults shard) place). or_right ((f.0 == shard) && (f.1 == place)) (planned_met faults shard place more))
-          (contains_parts f.1 place (planned_on faults shard) (subst (λ l. Contains (map (λ fault. fault.1) l) place) (kept here) c))
-      | false ↦ λ other. or_right ((f.0 == shard) && (f.1 == place)) (planned_met faults shard place (subst (λ l. Contains (map (λ fault. fault.1) l) place) (passed other) c))
-    ]) refl
-  where
-    or_right : (a : Bool) {b : Bool} → b ≡ true → (a || b) ≡ true
-    or_right true e = refl
-    or_right false e = e
-
-    kept : (f.0 == shard) ≡ true → filter (λ fault. fault.0 == shard) (f ∷ faults) ≡ f ∷ filter (λ fault. fault.0 == shard) faults
-    kept e = ap (λ (b : Bool). cond b (f ∷ filter (λ fault. fault.0 == shard) faults) (filter (λ fault. fault.0 == shard) faults)) e
-
-    passed : (f.0 == shard) ≡ false → filter (λ fault. fault.0 == shard) (f ∷ faults) ≡ filter (λ fault. fault.0 == shard) faults
-    passed e = ap (λ (b : Bool). cond b (f ∷ filter (λ fault. fault.0 == shard) faults) (filter (λ fault. fault.0 == shard) faults)) e
-
-met_planned : (faults : List (ℕ × ℕ)) (shard place : ℕ) → meets_fault faults shard place ≡ true → Contains (planned_on faults shard) place
-met_planned [] shard place e = absurd (true≢false (sym e))
-met_planned (f ∷ faults) shard place e =
-    let rest : meets_fault faults shard place ≡ true → Contains (planned_on faults shard) place = met_planned faults shard place in
-    (elim (f.0 == shard) as (λ (b : Bool). (f.0 == shard) ≡ b → Contains (map (λ fault. fault.1) (filter (λ fault. fault.0 == shard) (f ∷ faults))) place) [
-      | true ↦ λ here. subst (λ l. Contains (map (λ fault. fault.1) l) place) (sym (kept here)) (first rest (f.1 == place) refl here)
-      | false ↦ λ other. subst (λ l. Contains (map (λ fault. fault.1) l) place) (sym (kept other)) (rest (sym (ap (λ (b : Bool). (b && (f.1 == place)) || meets_fault faults shard place) other) ∙ e))
-    ]) refl
-  where
-    kept : {b : Bool} → (f.0 == shard) ≡ b → filter (λ fault. fault.0 == shard) (f ∷ faults) ≡ cond b (f ∷ filter (λ fault. fault.0 == shard) faults) (filter (λ fault. fault.0 == shard) faults)
-    kept e = ap (λ (b : Bool). cond b (f ∷ filter (λ fault. fault.0 == shard) faults) (filter (λ fault. fault.0 == shard) faults)) e
-
-    first : (meets_fault faults shard place ≡ true → Contains (planned_on faults shard) place) → (b : Bool) → (f.1 == place) ≡ b → (f.0 == shard) ≡ true → Contains (f.1 ∷ planned_on faults shard) place
-    first rest true is here = (0, omega arith, eqb-true f.1 place is)
-    first rest false is here =
-        contains_next f.1 place (planned_on faults shard) (rest
-        (sym (ap (λ (b : Bool). (b && (f.1 == place)) || meets_fault faults shard place) here ∙ ap (λ (b : Bool). b || meets_fault faults shard place) is) ∙ e))
 
 -- ---- entries of one caller among those of all
 
@@ -179,12 +123,6 @@ names_its_hold script e (vias.Inline device slot event) is =
 
 -- ---- lists
 
-zip_length : {X Y : Type 0} (R : X → Y → Type 0) (xs : List X) (ys : List Y) → AllZip R xs ys → length ys ≡ length xs
-zip_length R [] [] all = refl
-zip_length R [] (y ∷ ys) all = absurd all
-zip_length R (x ∷ xs) [] all = absurd all
-zip_length R (x ∷ xs) (y ∷ ys) all = ap suc (zip_length R xs ys all.1)
-
 length_numbered : {X Y : Type 0} (f : ℕ × X → Y) (n : ℕ) (xs : List X) → length (map f (enumerate_from n xs)) ≡ length xs
 length_numbered f n [] = refl
 length_numbered f n (x ∷ xs) = ap suc (length_numbered f (n + 1) xs)
@@ -208,7 +146,7 @@ in_one (l ∷ lists) (suc t) x at = in_append_right l (flat_map (λ l. l) lists)
 -- ---- the whole run
 
 module _ (script : Script) (rules : IsScript script) (image : List ℕ) (n : ℕ) (some : 1 ≤ n) (few : n ≤ 64) (whole : length image ≡ 4096 * script.blocks)
-    (v0 v1 : CourseData) (begun : IsBegun script image n v0) (answers : List (List Answer)) (done : SectionsDone (device_of v0) (device_of v1) script.threads answers)
+    (v0 v1 : CourseData) (begun : IsBegun script image n v0) (answers : List (List Answer)) (done : SectionsDone (own_device v0) (own_device v1) script.threads answers)
     (has : HasBegun v1.begun v1.journals) (keys : List KeyData) (keyslots : KeyslotsData) (course : IsCourse v1.script keys v1.shards keyslots v1.left) (stores : List RamData) (orders : List (List Entry))
     (stores_are : stores ≡ map (λ s. s.store) v1.shards) (orders_are : orders ≡ map (λ s. s.entries) v1.shards)
     (closed : Each (λ s. IsOrder (λ (r : RamData) m. owns r m) (λ (r : RamData). Some (contents r)) (λ (r : RamData). Some (record { plan = r.calls.fails; calls = r.calls.calls })) (λ (r : RamData). r.calls.faults)
@@ -223,8 +161,8 @@ module _ (script : Script) (rules : IsScript script) (image : List ℕ) (n : ℕ
   base_is : sectors_at v1.shards ≡ sectors_at v0.shards
   base_is = ap (λ (d : DeviceData). d.base) done.same
 
-  stands : (k : ℕ) (s : ShardData RamData) → At v1.shards k s → Stands script n v1.left k s
-  stands k s at = subst (λ m. Stands script m v1.left k s) count (subst (λ (c : Script). Stands c (length v1.shards) v1.left k s) script_is (course.stand k s at))
+  stands : (k : ℕ) (s : ShardData RamData) → At v1.shards k s → ShardStands script n v1.left k s
+  stands k s at = subst (λ m. ShardStands script m v1.left k s) count (subst (λ (c : Script). ShardStands c (length v1.shards) v1.left k s) script_is (course.stand k s at))
 
   order_at : (k : ℕ) (s : ShardData RamData) → At v1.shards k s → IsOrder (λ (r : RamData) m. owns r m) (λ (r : RamData). Some (contents r)) (λ (r : RamData). Some (record { plan = r.calls.fails; calls = r.calls.calls })) (λ (r : RamData). r.calls.faults)
       s.start s.keys s.store s.entries
@@ -306,7 +244,7 @@ module _ (script : Script) (rules : IsScript script) (image : List ℕ) (n : ℕ
 
   module _ (left : List ℕ) (left_long : length left ≡ 4096 * script.blocks)
       (left_is : (s : ℕ) → s < 8 * script.blocks → AllAt stores (shard_of (length stores) s) (λ store. image_sectors left s ≡ contents store s))
-      (lines : List (List Line)) (lines_are : lines ≡ map (map line_of) orders) (lines_fit : Each (IsPart IsEntry) lines)
+      (lines : List (List Line)) (lines_are : lines ≡ map (map report_line_of) orders) (lines_fit : Each (IsPart IsEntry) lines)
       (have_lawful : HaveLawfulJournals keyslots.script.targets v1.journals) (events_fit : Each (IsPart IsEvent) v1.journals) where
     abbrev report : Report
     report = record { threads = answers; shards = lines; devices = v1.journals }
@@ -332,7 +270,7 @@ module _ (script : Script) (rules : IsScript script) (image : List ℕ) (n : ℕ
       size = left_long ∙ sym whole;
     }
       where
-        empty_behind : (z : ShardData RamData) (k s : ℕ) → Stands script n v1.left k z → owns z.store s ≡ owns z.start s → 8 * script.blocks ≤ s → contents z.store s ≡ []
+        empty_behind : (z : ShardData RamData) (k s : ℕ) → ShardStands script n v1.left k z → owns z.store s ≡ owns z.start s → 8 * script.blocks ≤ s → contents z.store s ≡ []
         empty_behind z k s is same behind =
             let start : owns z.start s ≡ false = none_behind z.start s (subst (λ b. 8 * b ≤ s) (sym is.blocks) behind) in
             ap (λ (b : Bool). cond b (image_sectors z.store.bytes (sector_within z.store.shards s)) []) (same ∙ start)
@@ -353,8 +291,8 @@ module _ (script : Script) (rules : IsScript script) (image : List ℕ) (n : ℕ
       lawful = subst (HaveLawfulJournals script.targets) (sym journals_are) lawful;
     }
 
-    made_uses : MakesUses script (λ device. []) (journal_seen (device_of v1)) (uses_of script) (flat_map (λ es. es) done.made)
-    made_uses = subst (λ (s : Script). MakesUses s (λ device. []) (journal_seen (device_of v1)) (λ device. flat_map (uses_of_section s device) (enumerate_from 0 script.threads)) (flat_map (λ es. es) done.made)) begun.script_is done.uses
+    made_uses : MakesUses script (λ device. []) (journal_seen (own_device v1)) (uses_of script) (flat_map (λ es. es) done.made)
+    made_uses = subst (λ (s : Script). MakesUses s (λ device. []) (journal_seen (own_device v1)) (λ device. flat_map (uses_of_section s device) (enumerate_from 0 script.threads)) (flat_map (λ es. es) done.made)) begun.script_is done.uses
 
     pub uses : AreUses script (length script.threads) made_of done.stories
     uses = record {
@@ -407,7 +345,7 @@ module _ (script : Script) (rules : IsScript script) (image : List ℕ) (n : ℕ
     pub is_report : IsReport report
     is_report = record {
       few_threads = let c : length script.threads ≤ max_threads = rules.threads.count in let a = done.each_answered in omega arith;
-      few_shards = omega (arith, ap length lines_are, length-map orders (map line_of), ap length orders_are, length-map v1.shards (λ (s : ShardData RamData). s.entries), count);
+      few_shards = omega (arith, ap length lines_are, length-map orders (map report_line_of), ap length orders_are, length-map v1.shards (λ (s : ShardData RamData). s.entries), count);
       few_devices = let c = rules.devices.stack.few in let z = zip_length (λ target events. IsLawful target.slots events) script.targets v1.journals lawful in omega arith;
       answers = done.ranges;
       entries = lines_fit;

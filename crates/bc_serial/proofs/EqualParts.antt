@@ -1,13 +1,7 @@
 -- Parts of one size of a list, and facts of numbered parts.
-use Rattle.std.proofs.Common.{◌≡◌, ℕ, zero, suc, ◌+◌, ◌*◌, ◌<◌, ◌≤◌, List, length, map, drop, ◌-◌, arith, length-take, length-drop, ap, ◌∙◌}
+use Rattle.std.proofs.Common.{◌≡◌, ℕ, ◌+◌, ◌*◌, ◌<◌, ◌≤◌, List, length, drop, ◌-◌, arith, length-take, length-drop, ap, ◌∙◌}
 use Rattle.std.specs.Prelude.{slice_range}
-use Rattle.std.specs.List.{range_with_len, AllByRecursion}
-
--- part i ends within as many parts as there are
-pub part_within : (size i n : ℕ) → i < n → size * i + size ≤ n * size
-part_within size i zero lt = absurd (omega arith)
-part_within size zero (suc n) lt = omega arith
-part_within size (suc i) (suc n) lt = let before = part_within size i n (omega arith) in omega arith
+use Rattle.bc_section.proofs.Numbered.{part_within}
 
 pub length-range : (bytes : List ℕ) (a size : ℕ) → a + size ≤ length bytes → length (slice_range bytes a (a + size)) ≡ size
 length-range bytes a size within = omega (arith, length-take (a + size - a) (drop a bytes), length-drop a bytes)
@@ -15,12 +9,7 @@ length-range bytes a size within = omega (arith, length-take (a + size - a) (dro
 pub length-part : (bytes : List ℕ) (size i : ℕ) → size * i + size ≤ length bytes → length (slice_range bytes (size * i) (size * i + size)) ≡ size
 length-part bytes size i within = length-range bytes (size * i) size within
 
--- what holds of each number below a bound holds of what is made of numbers in a row
-pub all_within : {A : Type 0} (P : A → Type 0) (f : ℕ → A) (first n bound : ℕ) → first + n ≤ bound → ((i : ℕ) → i < bound → P (f i)) → AllByRecursion P (map f (range_with_len first n))
-all_within P f first zero bound within each = tt
-all_within P f first (suc n) bound within each = (each first (omega arith), all_within P f (first + 1) n bound (omega arith) each)
-
--- the next part begins behind this one
+-- the next part begins after this one
 pub next_part : (size i : ℕ) → (i + 1) * size ≡ i * size + size
 next_part size i = omega arith
 

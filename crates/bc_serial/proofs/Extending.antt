@@ -26,7 +26,7 @@ use Rattle.bc_profile.specs.Programmings.{Holds, programming_at, last_programmin
 use Rattle.bc_profile.proofs.KeyLemmas.{last_append, enumerate-append}
 use Rattle.bc_script.specs.Script.{Script}
 use Rattle.bc_report.specs.SerialRun.{DeviceUse}
-use Rattle.bc_compose.specs.Ordered.{slots_of}
+use Rattle.bc_compose.specs.OrderedHolds.{slot_count_of}
 use Rattle.bc_section.specs.Uses.{after_uses, NamesOwnUse, NamesUse}
 use Rattle.bc_serial.specs.Keyslots.{used_at}
 use Rattle.bc_serial.specs.InTurn.{NoLater}
@@ -45,14 +45,14 @@ journal_append slots (use' ∷ done) more =
 -- what uses leave doesn't depend on the units that they are for
 pub same_events : (script : Script) (device : ℕ) (journal : List Event) (xs ys : List DeviceUse) → map (λ (u : DeviceUse). u.use') xs ≡ map (λ (u : DeviceUse). u.use') ys
     → after_uses script device journal xs ≡ after_uses script device journal ys
-same_events script device journal xs ys same = ap (λ (l : List Use). journal ++ journal_of (slots_after (slots_of script device) journal) l) same
+same_events script device journal xs ys same = ap (λ (l : List Use). journal ++ journal_of (slots_after (slot_count_of script device) journal) l) same
 
 -- uses after uses
 pub after_more : (script : Script) (device : ℕ) (journal : List Event) (xs ys : List DeviceUse)
     → after_uses script device journal (xs ++ ys) ≡ after_uses script device (after_uses script device journal xs) ys
 after_more script device journal xs ys =
     let f = λ (u : DeviceUse). u.use' in
-    let count = slots_of script device in
+    let count = slot_count_of script device in
     let now = slots_after count journal in
     let first = journal_of now (map f xs) in
     ap (λ (l : List Use). journal ++ journal_of now l) (map-append f xs ys)
@@ -178,7 +178,7 @@ own_extended script journal first use' names name e device slot event o = by o.a
               ∙ ap (λ (l : List UnitName). o.before ++ record { use' = uses.Hold o.under.key; units = l ++ name ∷ [] } ∷ []) is_names;
           for_others = o.for_others;
           for_it = list_any-append (is_same (name_of_entry e)) o.units (name ∷ []) ∙ or_left (list_any (is_same (name_of_entry e)) o.units) (list_any (is_same (name_of_entry e)) (name ∷ [])) o.for_it;
-          holds = subst (λ (l : List Event). Holds (slots_of script device) l o.under.key.0 slot event)
+          holds = subst (λ (l : List Event). Holds (slot_count_of script device) l o.under.key.0 slot event)
               (same_events script device journal (o.before ++ here ∷ []) (o.before ++ new' ∷ []) (map-append f o.before (here ∷ []) ∙ sym (map-append f o.before (new' ∷ [])))) o.holds;
         }
     by (u ∷ us) among =

@@ -22,7 +22,7 @@ use Rattle.bc_report.specs.SerialRun.{DeviceUse, holds_for, inline_key, is_on, n
 use Rattle.bc_serial.specs.declared.open_hold.OpenHold.{OpenHold}
 use Rattle.bc_serial.specs.Standing.{CourseData}
 use Rattle.bc_section.specs.Uses.{MakesUses, NamesOwnUse, NamesUse, after_uses}
-use Rattle.bc_serial.specs.InTurn.{InTurn, MayFollow, StillHolds, last_request, last_unit, part_of, under_hold}
+use Rattle.bc_serial.specs.InTurn.{InTurn, MayFollow, StillHolds, last_request, last_unit, first_units_of, under_hold}
 
 -- ---- chunks with one more element
 
@@ -84,10 +84,10 @@ module _ {X : Type 0} (together : X → X → Bool) where
 
 module _ (script : Script) (op : ℕ) (bio : Extent) where
   abbrev none_of : TaggedBio
-  none_of = part_of op bio 0
+  none_of = first_units_of op bio 0
 
   -- it joins where the whole bio does
-  joins_same : (xs : List TaggedBio) → joins_last (joins (keys_of script)) xs none_of ≡ joins_last (joins (keys_of script)) xs (part_of op bio bio.units)
+  joins_same : (xs : List TaggedBio) → joins_last (joins (keys_of script)) xs none_of ≡ joins_last (joins (keys_of script)) xs (first_units_of op bio bio.units)
   joins_same [] = refl
   joins_same (x ∷ []) = refl
   joins_same (x ∷ y ∷ ys) = joins_same (y ∷ ys)
@@ -152,11 +152,11 @@ uses_same script old new done other made same u = record {
     all (e ∷ es) ns = (names e e.via ns.0, all es ns.1)
 
 pub bio_begins : (start now : CourseData) (done : List TaggedBio) (op : ℕ) (bio : Extent) (was : Option OpenHold) (made : List Entry) → 1 ≤ bio.units
-    → MayFollow start.script done (part_of op bio bio.units) was now.opened
-    → InTurn start (record now { opened = was }) done made → InTurn start now (done ++ part_of op bio 0 ∷ []) made
+    → MayFollow start.script done (first_units_of op bio bio.units) was now.opened
+    → InTurn start (record now { opened = was }) done made → InTurn start now (done ++ first_units_of op bio 0 ∷ []) made
 bio_begins start now done op bio was made some follow p =
     let script = start.script in
-    let next = part_of op bio 0 in
+    let next = first_units_of op bio 0 in
     let keys = keys_of script in
     let requests = requests_of keys done in
     let last = last_request script done in

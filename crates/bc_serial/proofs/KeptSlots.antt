@@ -23,16 +23,17 @@ use Rattle.bc_profile.specs.declared.uses.Use.TheVariants as uses
 use Rattle.bc_profile.specs.SlotJournal.{Slots, opening, after_event, after_events, slots_after, key_of, idle_order, Allowed, EachEvent, IsLawful}
 use Rattle.bc_profile.specs.OneCaller.{events_of_use, events_of_hold, events_of_eviction, journal_of, slot_with, slot_for, first_idle}
 use Rattle.bc_profile.specs.Programmings.{Holds}
-use Rattle.bc_profile.specs.Solo.{SoloData, HasSpare, recorded, slots_of as slots_in}
+use Rattle.bc_profile.specs.Solo.{SoloData, HasSpare, solo_with_events, slots_of as slots_in}
 use Rattle.bc_profile.proofs.KeyLemmas.{last_push, slots_push, same_count, key_inside, slot_has, in_no_slot}
 use Rattle.bc_script.specs.Script.{Script, IsScript, IsDevice, IsNamedKey, keys_of}
 use Rattle.bc_script.specs.declared.named_key.NamedKey.{NamedKey}
 use Rattle.bc_report.specs.Report.{IsEvent}
-use Rattle.bc_compose.specs.Ordered.{slots_of}
+use Rattle.bc_compose.specs.OrderedHolds.{slot_count_of}
 use Rattle.bc_serial.specs.declared.open_hold.OpenHold.{OpenHold}
 use Rattle.bc_section.specs.Uses.{after_uses}
-use Rattle.bc_serial.specs.Keyslots.{SlotCipherData, KeepsTo, IsKeyslotsOf, IsOpenHold, IsKeyslots, held_on, giving_back, journal_in, used_at, used_each, evicted, max_events, MayEvict, row_of_key}
-use Rattle.bc_section.proofs.Lists.{at_set, at_changed, at_one, at_map, at_of_map, at_exists, list_at_map, length-set, all_append, all_slice, all_by_place}
+use Rattle.bc_serial.specs.Keyslots.{SlotCipherData, MeansItsWords, IsKeyslotsOf, IsOpenHold, IsKeyslots, held_on, giving_back, journal_in, used_at, used_each, evicted, max_events, MayEvict, row_of_key}
+use Rattle.bc_section.proofs.Lists.{at_changed, at_one, at_map, at_of_map, at_exists, list_at_map, all_slice, all_by_place}
+use Rattle.bc_base.proofs.Members.{all_append, at_set, length-set}
 
 -- ---- places
 
@@ -102,24 +103,24 @@ free_journal solo free = ap (λ h. solo.journal ++ giving_back h) free ∙ appen
 
 -- a journal that goes on has no more events than fit
 goes_on : (solo : SoloData) (more : List Event) (held : Option ℕ) (n : ℕ) → solo.held ≡ None → length (giving_back held) ≡ n → length (journal_in solo) + (length more + n) ≤ max_events
-    → length (journal_in (recorded solo more held)) ≤ max_events
+    → length (journal_in (solo_with_events solo more held)) ≤ max_events
 goes_on solo more held n free back few =
     omega (arith, few, back, ap length (free_journal solo free), length-append (solo.journal ++ more) (giving_back held), length-append solo.journal more)
 
 -- the journal of a device after a use, as it stands when its hold is given back
-pub one_use : (script : Script) (i : ℕ) (solo : SoloData) (use' : Use) (more : List Event) (held : Option ℕ) (journal : List Event) → journal ≡ solo.journal → solo.count ≡ slots_of script i
+pub one_use : (script : Script) (i : ℕ) (solo : SoloData) (use' : Use) (more : List Event) (held : Option ℕ) (journal : List Event) → journal ≡ solo.journal → solo.count ≡ slot_count_of script i
     → more ++ giving_back held ≡ events_of_use (slots_in solo) use'
-    → journal_in (recorded solo more held) ≡ after_uses script i journal (record { use' = use'; units = [] } ∷ [])
+    → journal_in (solo_with_events solo more held) ≡ after_uses script i journal (record { use' = use'; units = [] } ∷ [])
 one_use script i solo use' more held journal same count is =
     append_assoc solo.journal more (giving_back held)
-    ∙ ap (λ l. solo.journal ++ l) (is ∙ ap (λ n. events_of_use (slots_after n solo.journal) use') count ∙ sym (append-nil (events_of_use (slots_after (slots_of script i) solo.journal) use')))
-    ∙ ap (λ j. j ++ journal_of (slots_after (slots_of script i) j) (use' ∷ [])) (sym same)
+    ∙ ap (λ l. solo.journal ++ l) (is ∙ ap (λ n. events_of_use (slots_after n solo.journal) use') count ∙ sym (append-nil (events_of_use (slots_after (slot_count_of script i) solo.journal) use')))
+    ∙ ap (λ j. j ++ journal_of (slots_after (slot_count_of script i) j) (use' ∷ [])) (sym same)
 
-pub slots_are : (script : Script) (i : ℕ) (target : Target) → At script.targets i target → slots_of script i ≡ target.slots
+pub slots_are : (script : Script) (i : ℕ) (target : Target) → At script.targets i target → slot_count_of script i ≡ target.slots
 slots_are script i target at = ap (λ (o : Option Target). option_map_or (λ t. t.slots) o 0) at
 
 pub use_of_one : (script : Script) (devices : List SoloData) (i : ℕ) (target : Target) (solo new : SoloData) (use' : Use) (more : List Event) (held : Option ℕ) → At script.targets i target → At devices i solo
-    → solo.count ≡ target.slots → solo.held ≡ None → more ++ giving_back held ≡ events_of_use (slots_in solo) use' → new ≡ recorded solo more held
+    → solo.count ≡ target.slots → solo.held ≡ None → more ++ giving_back held ≡ events_of_use (slots_in solo) use' → new ≡ solo_with_events solo more held
     → map journal_in (slice_set devices i new) ≡ used_at script i use' (map journal_in devices)
 use_of_one script devices i target solo new use' more held target_at solo_at count free is next =
     let journal : list_at (map journal_in devices) i ≡ solo.journal = list_at_map journal_in devices i solo solo_at ∙ free_journal solo free in
@@ -129,7 +130,7 @@ use_of_one script devices i target solo new use' more held target_at solo_at cou
 
 -- a device that a key can be taken out of, with as many slots as the script says
 abbrev pub IsFree : Script → ℕ → SoloData → Type 0
-IsFree script device solo = (solo.count ≡ slots_of script device) × (solo.held ≡ None)
+IsFree script device solo = (solo.count ≡ slot_count_of script device) × (solo.held ≡ None)
 
 pub use_of_each : (script : Script) (key : ℕ) (n : ℕ) (devices : List SoloData) → ((k : ℕ) (solo : SoloData) → At devices k solo → IsFree script (n + k) solo)
     → map journal_in (map (evicted key) devices)
@@ -168,7 +169,7 @@ held_inside count journal key slot event holds =
 -- ---- the numbers of events
 
 events_on : (solo : SoloData) (more : List Event) (held : Option ℕ) → solo.held ≡ None → Each IsEvent (journal_in solo) → Each IsEvent more → Each IsEvent (giving_back held)
-    → Each IsEvent (journal_in (recorded solo more held))
+    → Each IsEvent (journal_in (solo_with_events solo more held))
 events_on solo more held free before new back =
     all_append IsEvent (solo.journal ++ more) (giving_back held) (all_append IsEvent solo.journal more (subst (Each IsEvent) (free_journal solo free) before) new) back
 
@@ -216,7 +217,7 @@ each_append s [] more before next = next
 each_append s (e ∷ es) more before next = (before.0, each_append (after_event s e) es more before.1 next)
 
 lawful_on : (solo : SoloData) (more : List Event) (held : Option ℕ) → solo.held ≡ None → IsLawful solo.count (journal_in solo) → EachEvent Allowed (slots_in solo) (more ++ giving_back held)
-    → IsLawful solo.count (journal_in (recorded solo more held))
+    → IsLawful solo.count (journal_in (solo_with_events solo more held))
 lawful_on solo more held free before next =
     subst (IsLawful solo.count) (sym (append_assoc solo.journal more (giving_back held)))
     (each_append (opening solo.count) solo.journal (more ++ giving_back held) (subst (IsLawful solo.count) (free_journal solo free) before) next)
@@ -283,19 +284,19 @@ module _ (script : Script) (stack : StackParts) (caps : List Capabilities) (devi
       let target = at_exists script.targets i (omega (arith, below, is.count)) in
       (target.0, target.1, is.each i target.0 target.1 solo at)
 
-  pub next_each : (opened opened' : Option OpenHold) (i : ℕ) (solo : SoloData) (more : List Event) (held : Option ℕ) → At devices i solo → held ≡ held_on opened' i → length (journal_in (recorded solo more held)) ≤ max_events → Each IsEvent (journal_in (recorded solo more held))
-      → IsLawful solo.count (journal_in (recorded solo more held)) → ((k : ℕ) → k ≢ i → held_on opened' k ≡ held_on opened k)
+  pub next_each : (opened opened' : Option OpenHold) (i : ℕ) (solo : SoloData) (more : List Event) (held : Option ℕ) → At devices i solo → held ≡ held_on opened' i → length (journal_in (solo_with_events solo more held)) ≤ max_events → Each IsEvent (journal_in (solo_with_events solo more held))
+      → IsLawful solo.count (journal_in (solo_with_events solo more held)) → ((k : ℕ) → k ≢ i → held_on opened' k ≡ held_on opened k)
       → ((k : ℕ) → AllAt script.targets k (λ t. AllAt devices k (IsKeyslotsOf script opened k t)))
-      → (k : ℕ) → AllAt script.targets k (λ t. AllAt (slice_set devices i (recorded solo more held)) k (IsKeyslotsOf script opened' k t))
+      → (k : ℕ) → AllAt script.targets k (λ t. AllAt (slice_set devices i (solo_with_events solo more held)) k (IsKeyslotsOf script opened' k t))
   next_each opened opened' i solo more held solo_at here within ranges lawful others each k target target_at s s_at =
       ⊎_elim
       (λ (same : k ≡ i).
       let old = each k target target_at solo (subst (λ j. At devices j solo) (sym same) solo_at) in
-      let new : recorded solo more held ≡ s =
-      at_one (slice_set devices i (recorded solo more held)) i (recorded solo more held) s (at_set devices i solo (recorded solo more held) solo_at) (subst (λ j. At (slice_set devices i (recorded solo more held)) j s) same s_at) in
+      let new : solo_with_events solo more held ≡ s =
+      at_one (slice_set devices i (solo_with_events solo more held)) i (solo_with_events solo more held) s (at_set devices i solo (solo_with_events solo more held) solo_at) (subst (λ j. At (slice_set devices i (solo_with_events solo more held)) j s) same s_at) in
       subst (IsKeyslotsOf script opened' k target) new (record { count = old.count; rows = old.rows; quota = old.quota; held = here ∙ ap (held_on opened') (sym same); within = within; ranges = ranges; lawful = lawful }))
       (λ (other : k ≢ i).
-      let old = each k target target_at s (at_other devices i k (recorded solo more held) s other s_at) in
+      let old = each k target target_at s (at_other devices i k (solo_with_events solo more held) s other s_at) in
       record { count = old.count; rows = old.rows; quota = old.quota; held = old.held ∙ sym (others k other); within = old.within; ranges = old.ranges; lawful = old.lawful })
       (cases_eq k i)
 
@@ -304,15 +305,15 @@ module _ (script : Script) (stack : StackParts) (caps : List Capabilities) (devi
     pub held_is : solo.held ≡ Some hold.slot
     held_is = (device_of (Some hold) hold.device solo is solo_at).2.held ∙ held_here hold
 
-    put_journal : journal_in (recorded solo (events.Idle hold.slot ∷ []) None) ≡ journal_in solo
+    put_journal : journal_in (solo_with_events solo (events.Idle hold.slot ∷ []) None) ≡ journal_in solo
     put_journal = append-nil (solo.journal ++ events.Idle hold.slot ∷ []) ∙ ap (λ h. solo.journal ++ giving_back h) (sym held_is)
 
-    pub put_journals : (new : SoloData) → new ≡ recorded solo (events.Idle hold.slot ∷ []) None → map journal_in (slice_set devices hold.device new) ≡ map journal_in devices
+    pub put_journals : (new : SoloData) → new ≡ solo_with_events solo (events.Idle hold.slot ∷ []) None → map journal_in (slice_set devices hold.device new) ≡ map journal_in devices
     put_journals new next =
         map_same journal_in devices hold.device solo new solo_at
         (ap journal_in next ∙ put_journal)
 
-    pub put_keeps : (new : SoloData) → new ≡ recorded solo (events.Idle hold.slot ∷ []) None → IsKeyslots script stack caps (slice_set devices hold.device new) ciphers begun None
+    pub put_keeps : (new : SoloData) → new ≡ solo_with_events solo (events.Idle hold.slot ∷ []) None → IsKeyslots script stack caps (slice_set devices hold.device new) ciphers begun None
     put_keeps new next = record {
       rules = is.rules;
       stack_is = is.stack_is;
@@ -400,7 +401,7 @@ module _ (script : Script) (stack : StackParts) (caps : List Capabilities) (devi
     }
 
     -- a device recorded events, and holds no slot
-    pub next_keeps : (i : ℕ) (solo new : SoloData) (more : List Event) → At devices i solo → new ≡ recorded solo more None → length (journal_in solo) + (length more + 0) ≤ max_events → Each IsEvent more
+    pub next_keeps : (i : ℕ) (solo new : SoloData) (more : List Event) → At devices i solo → new ≡ solo_with_events solo more None → length (journal_in solo) + (length more + 0) ≤ max_events → Each IsEvent more
         → EachEvent Allowed (slots_in solo) (more ++ []) → IsKeyslots script stack caps (slice_set devices i new) ciphers begun None
     next_keeps i solo new more at next few ranges allowed = record {
       rules = is.rules;
@@ -421,9 +422,9 @@ module _ (script : Script) (stack : StackParts) (caps : List Capabilities) (devi
 
     -- a hold is taken: the slot's cipher is the key's
     pub hold_keeps : (i key slot event : ℕ) (target : Target) (solo new : SoloData) (more : List Event) (kept : List (Option SlotCipherData)) (cipher : Option SlotCipherData) (k : KeyData)
-        → At script.targets i target → At devices i solo → At ciphers i kept → slot < length kept → new ≡ recorded solo more (Some slot) → length (journal_in solo) + (length more + 1) ≤ max_events → Each IsEvent more → slot < 2 ^ 16
+        → At script.targets i target → At devices i solo → At ciphers i kept → slot < length kept → new ≡ solo_with_events solo more (Some slot) → length (journal_in solo) + (length more + 1) ≤ max_events → Each IsEvent more → slot < 2 ^ 16
         → EachEvent Allowed (slots_in solo) (more ++ events.Idle slot ∷ [])
-        → KeepsTo (capabilities_of target.caps) cipher → slice_get (keys_of script) key ≡ Some k → Holds new.count new.journal key slot event
+        → MeansItsWords (capabilities_of target.caps) cipher → slice_get (keys_of script) key ≡ Some k → Holds new.count new.journal key slot event
         → IsSomeAnd cipher (λ c. c.parts ≡ parts_of k)
         → IsKeyslots script stack caps (slice_set devices i new) (slice_set ciphers i (slice_set kept slot cipher)) begun (Some (record { device = i; key = key; slot = slot; event = event }))
     hold_keeps i key slot event target solo new more kept cipher k target_at solo_at kept_at inside next few ranges small allowed keeps is_key holds parts = record {
@@ -446,7 +447,7 @@ module _ (script : Script) (stack : StackParts) (caps : List Capabilities) (devi
         hold : OpenHold
         hold = record { device = i; key = key; slot = slot; event = event }
 
-        next_ciphers : (j : ℕ) → AllAt script.targets j (λ t. AllAt (slice_set ciphers i (slice_set kept slot cipher)) j (λ l. (length l ≡ t.slots) × Each (KeepsTo (capabilities_of t.caps)) l))
+        next_ciphers : (j : ℕ) → AllAt script.targets j (λ t. AllAt (slice_set ciphers i (slice_set kept slot cipher)) j (λ l. (length l ≡ t.slots) × Each (MeansItsWords (capabilities_of t.caps)) l))
         next_ciphers j t t_at l l_at =
             ⊎_elim
             (λ (same : j ≡ i).
@@ -454,9 +455,9 @@ module _ (script : Script) (stack : StackParts) (caps : List Capabilities) (devi
             at_one (slice_set ciphers i (slice_set kept slot cipher)) i (slice_set kept slot cipher) l (at_set ciphers i kept (slice_set kept slot cipher) kept_at) (subst (λ n. At (slice_set ciphers i (slice_set kept slot cipher)) n l) same l_at) in
             let t_is : target ≡ t = at_one script.targets i target t target_at (subst (λ n. At script.targets n t) same t_at) in
             let old = is.each_ciphers i target target_at kept kept_at in
-            subst (λ z. (length z ≡ t.slots) × Each (KeepsTo (capabilities_of t.caps)) z) new
-            (subst (λ (z : Target). (length (slice_set kept slot cipher) ≡ z.slots) × Each (KeepsTo (capabilities_of z.caps)) (slice_set kept slot cipher)) t_is
-            (length-set kept slot cipher ∙ old.0, each_set (KeepsTo (capabilities_of target.caps)) kept slot cipher old.1 keeps)))
+            subst (λ z. (length z ≡ t.slots) × Each (MeansItsWords (capabilities_of t.caps)) z) new
+            (subst (λ (z : Target). (length (slice_set kept slot cipher) ≡ z.slots) × Each (MeansItsWords (capabilities_of z.caps)) (slice_set kept slot cipher)) t_is
+            (length-set kept slot cipher ∙ old.0, each_set (MeansItsWords (capabilities_of target.caps)) kept slot cipher old.1 keeps)))
             (λ (other : j ≢ i). is.each_ciphers j t t_at l (at_other ciphers i j (slice_set kept slot cipher) l other l_at))
             (cases_eq j i)
 

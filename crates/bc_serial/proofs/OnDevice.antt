@@ -16,8 +16,8 @@ use Rattle.bc_stack.specs.Devices.{has_sector, end_of_target, device_at, all_sup
 use Rattle.bc_stack.specs.Targets.{LieBetween, CoverAll}
 use Rattle.bc_script.specs.Script.{Script, IsScript, keys_of}
 use Rattle.bc_script.specs.Bios.{is_inline}
-use Rattle.bc_serial.specs.Standing.{IsPerformable}
-use Rattle.bc_serial.proofs.EqualParts.{part_within}
+use Rattle.bc_serial.specs.Standing.{IsPerformableBio}
+use Rattle.bc_section.proofs.Numbered.{part_within}
 
 -- targets that lie one after the other have the sectors between
 covered : (sector first end : ℕ) (targets : List Target) → LieBetween first end targets → 8 * first ≤ sector → sector < 8 * end → position_or_len (has_sector sector) targets < length targets
@@ -40,7 +40,7 @@ never : (o : Option KeyData) → option_map_or (λ key. false) o false ≡ true 
 never None is = true≢false (sym is)
 never (Some key) is = true≢false (sym is)
 
-pub lies_on : (script : Script) (bio : Extent) (n : ℕ) (under : Context) → IsScript script → IsPerformable script bio → n < bio.units → is_inline script under.key ≡ true
+pub lies_on : (script : Script) (bio : Extent) (n : ℕ) (under : Context) → IsScript script → IsPerformableBio script bio → n < bio.units → is_inline script under.key ≡ true
     → position_or_len (has_sector (sector_at (keys_of script) bio n)) script.targets < length script.targets
 lies_on script bio n under rules performable lt inline = by script.targets rules.devices.stack.cover inline
   where

@@ -23,7 +23,7 @@ use Rattle.bc_serial.specs.declared.open_hold.OpenHold.{OpenHold}
 use Rattle.bc_serial.specs.Keyslots.{is_open_for}
 use Rattle.bc_serial.specs.Standing.{CourseData}
 use Rattle.bc_section.specs.Uses.{NamesOwnUse}
-use Rattle.bc_serial.specs.InTurn.{last_unit, open_after, under_hold, InTurn, part_of, LeavesHolds, TakesHold}
+use Rattle.bc_serial.specs.InTurn.{last_unit, hold_open_after, under_hold, InTurn, first_units_of, LeavesHolds, RunOpensHold}
 use Rattle.bc_serial.proofs.Cutting.{last_push, joins_by_last}
 use Rattle.bc_serial.proofs.Extending.{own_extended, KeepNames, keep_same}
 use Rattle.bc_serial.proofs.Pieces.{holds_under, holds_none, holds_some, Extends, joined_here, joined_elsewhere, apart_here, apart_elsewhere}
@@ -77,10 +77,10 @@ module _ (start : CourseData) (done : List TaggedBio) (op : ℕ) (bio : Extent) 
   s = split_at start.script op bio done
 
   abbrev bios : List TaggedBio
-  bios = done ++ part_of op bio n ∷ []
+  bios = done ++ first_units_of op bio n ∷ []
 
   abbrev more : List TaggedBio
-  more = done ++ part_of op bio (n + 1) ∷ []
+  more = done ++ first_units_of op bio (n + 1) ∷ []
 
   abbrev unit : NamedUnit
   unit = unit_of_part start.script op bio n
@@ -89,14 +89,14 @@ module _ (start : CourseData) (done : List TaggedBio) (op : ℕ) (bio : Extent) 
   device = device_of start.script.targets unit
 
   abbrev units : List NamedUnit
-  units = units_of_request (keys_of start.script) (s.tail ++ part_of op bio n ∷ [])
+  units = units_of_request (keys_of start.script) (s.tail ++ first_units_of op bio n ∷ [])
 
   abbrev front : ℕ → List DeviceUse
   front d = flat_map (holds_for start.script d start.thread) s.front
 
   -- the key of the bio, if it goes inline
   abbrev key_of_part : Option KeyNo
-  key_of_part = inline_key start.script (part_of op bio 0 ∷ [])
+  key_of_part = inline_key start.script (first_units_of op bio 0 ∷ [])
 
   abbrev open_under : List NamedUnit → Option KeyNo → Option (ℕ × ℕ)
   open_under us o = option_and_then (λ key. option_map {U = ℕ × ℕ} (λ u. (device_of start.script.targets u, key.0)) (last_unit us)) o
@@ -107,13 +107,13 @@ module _ (start : CourseData) (done : List TaggedBio) (op : ℕ) (bio : Extent) 
     uses_none d =
         uses_window start.script op bio done s d start.thread (n + 1)
         ∙ ap (λ (l : List DeviceUse). front d ++ l)
-        (holds_none start.script d start.thread (s.tail ++ part_of op bio (n + 1) ∷ []) (s.key (n + 1) ∙ is) ∙ sym (holds_none start.script d start.thread (s.tail ++ part_of op bio n ∷ []) (s.key n ∙ is)))
+        (holds_none start.script d start.thread (s.tail ++ first_units_of op bio (n + 1) ∷ []) (s.key (n + 1) ∙ is) ∙ sym (holds_none start.script d start.thread (s.tail ++ first_units_of op bio n ∷ []) (s.key n ∙ is)))
         ∙ sym (uses_window start.script op bio done s d start.thread n)
 
-    open_none : open_after start.script more ≡ open_after start.script bios
+    open_none : hold_open_after start.script more ≡ hold_open_after start.script bios
     open_none =
         open_window start.script op bio done s (n + 1)
-        ∙ ap (open_under (units_of_request (keys_of start.script) (s.tail ++ part_of op bio (n + 1) ∷ []))) (s.key (n + 1) ∙ is)
+        ∙ ap (open_under (units_of_request (keys_of start.script) (s.tail ++ first_units_of op bio (n + 1) ∷ []))) (s.key (n + 1) ∙ is)
         ∙ sym (open_window start.script op bio done s n ∙ ap (open_under units) (s.key n ∙ is))
 
     pub aside : (old new : CourseData) (made : List Entry) → new ≡ record old { left = new.left; journals = new.journals; opened = new.opened } → LeavesHolds old new
@@ -130,22 +130,22 @@ module _ (start : CourseData) (done : List TaggedBio) (op : ℕ) (bio : Extent) 
     uses_now : (d : ℕ) → uses_of_window start bios d ≡ front d ++ holds_under start.script d start.thread key units
     uses_now d =
         uses_window start.script op bio done s d start.thread n
-        ∙ ap (λ (l : List DeviceUse). front d ++ l) (holds_some start.script d start.thread (s.tail ++ part_of op bio n ∷ []) key (s.key n ∙ is))
+        ∙ ap (λ (l : List DeviceUse). front d ++ l) (holds_some start.script d start.thread (s.tail ++ first_units_of op bio n ∷ []) key (s.key n ∙ is))
 
     uses_next : (d : ℕ) → uses_of_window start more d ≡ front d ++ holds_under start.script d start.thread key (units ++ unit ∷ [])
     uses_next d =
         uses_window start.script op bio done s d start.thread (n + 1)
         ∙ ap (λ (l : List DeviceUse). front d ++ l)
-        (holds_some start.script d start.thread (s.tail ++ part_of op bio (n + 1) ∷ []) key (s.key (n + 1) ∙ is)
+        (holds_some start.script d start.thread (s.tail ++ first_units_of op bio (n + 1) ∷ []) key (s.key (n + 1) ∙ is)
         ∙ ap (holds_under start.script d start.thread key) (units_next start.script op bio s.tail n))
 
-    open_now : open_after start.script bios ≡ option_map {U = ℕ × ℕ} (λ u. (device_of start.script.targets u, key.0)) (last_or None units)
+    open_now : hold_open_after start.script bios ≡ option_map {U = ℕ × ℕ} (λ u. (device_of start.script.targets u, key.0)) (last_or None units)
     open_now = open_window start.script op bio done s n ∙ ap (open_under units) (s.key n ∙ is)
 
-    pub open_next : open_after start.script more ≡ Some (device, key.0)
+    pub open_next : hold_open_after start.script more ≡ Some (device, key.0)
     open_next =
         open_window start.script op bio done s (n + 1)
-        ∙ ap (open_under (units_of_request (keys_of start.script) (s.tail ++ part_of op bio (n + 1) ∷ []))) (s.key (n + 1) ∙ is)
+        ∙ ap (open_under (units_of_request (keys_of start.script) (s.tail ++ first_units_of op bio (n + 1) ∷ []))) (s.key (n + 1) ∙ is)
         ∙ ap (λ (us : List NamedUnit). option_map {U = ℕ × ℕ} (λ u. (device_of start.script.targets u, key.0)) (last_or None us)) (units_next start.script op bio s.tail n)
         ∙ ap (option_map {U = ℕ × ℕ} (λ u. (device_of start.script.targets u, key.0))) (last_push None units unit)
 
@@ -206,7 +206,7 @@ module _ (start : CourseData) (done : List TaggedBio) (op : ℕ) (bio : Extent) 
           ∙ sym (append_assoc (front device) (holds_under start.script device start.thread key units) (record { use' = uses.Hold key; units = name ∷ [] } ∷ []))
           ∙ ap (λ (l : List DeviceUse). l ++ record { use' = uses.Hold key; units = name ∷ [] } ∷ []) (sym (uses_now device))
 
-      parted : (old new : CourseData) (made : List Entry) → new ≡ record old { left = new.left; journals = new.journals; opened = new.opened } → TakesHold old new device key
+      parted : (old new : CourseData) (made : List Entry) → new ≡ record old { left = new.left; journals = new.journals; opened = new.opened } → RunOpensHold old new device key
           → device < length start.script.targets → InTurn start old bios made → InTurn start new more made
       parted old new made same' takes within t =
           takes_step start old new bios more made device key (name ∷ []) same' takes within
@@ -227,7 +227,7 @@ module _ (start : CourseData) (done : List TaggedBio) (op : ℕ) (bio : Extent) 
 
     -- the unit was reached
     pub reached : (old new : CourseData) (made : List Entry) → new ≡ record old { left = new.left; journals = new.journals; opened = new.opened } → device < length start.script.targets
-        → (is_open_for old.opened device key.0 ≡ true → LeavesHolds old new) → (is_open_for old.opened device key.0 ≡ false → TakesHold old new device key)
+        → (is_open_for old.opened device key.0 ≡ true → LeavesHolds old new) → (is_open_for old.opened device key.0 ≡ false → RunOpensHold old new device key)
         → InTurn start old bios made → InTurn start new more made
     reached old new made same within keeps takes t = by (is_open_for old.opened device key.0) refl
       where

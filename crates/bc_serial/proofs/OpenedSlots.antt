@@ -8,20 +8,21 @@ use Rattle.bc_base.specs.Lists.{Each, At, AllAt, list_at}
 use Rattle.bc_modes.specs.Capabilities.{Capabilities, capabilities_of}
 use Rattle.bc_stack.specs.declared.target.Target.{Target}
 use Rattle.bc_profile.specs.SlotJournal.{IsLawful}
-use Rattle.bc_profile.specs.Solo.{SoloData, opened}
+use Rattle.bc_profile.specs.Solo.{SoloData, opened_solo}
 use Rattle.bc_report.specs.LawfulRun.{HaveLawfulJournals}
 use Rattle.bc_report.specs.Report.{IsEvent, IsPart}
 use Rattle.bc_script.specs.Script.{Script, IsScript}
 use Rattle.bc_stack.specs.Targets.{StackParts}
-use Rattle.bc_serial.specs.Keyslots.{SlotCipherData, KeepsTo, IsKeyslotsOf, IsKeyslots, journal_in, rows_of, max_events}
-use Rattle.bc_section.proofs.Lists.{at_of_map, map-map}
+use Rattle.bc_serial.specs.Keyslots.{SlotCipherData, MeansItsWords, IsKeyslotsOf, IsKeyslots, journal_in, rows_of, max_events}
+use Rattle.bc_section.proofs.Lists.{at_of_map}
 use Rattle.bc_serial.proofs.KeptSlots.{free_is, free_journal, device_of}
+use Rattle.bc_base.proofs.Members.{map-map}
 
 -- ---- opening
 
 -- a device as it is opened
 abbrev pub opened_device : Script → Target → SoloData
-opened_device script target = opened target.slots (rows_of script target) max_events
+opened_device script target = opened_solo target.slots (rows_of script target) max_events
 
 -- no cipher for each of its slots
 abbrev pub no_ciphers_of : Target → List (Option SlotCipherData)
@@ -48,8 +49,8 @@ opens script stack caps devices ciphers rules stack_is caps_are devices_are ciph
   each_ciphers = λ k target target_at kept kept_at.
       let made = at_of_map no_ciphers_of script.targets k kept (subst (λ l. At l k kept) ciphers_are kept_at) in
       let same : made.0 ≡ target = same_Some made.0 target (sym made.1 ∙ target_at) in
-      subst (λ l. (length l ≡ target.slots) × Each (KeepsTo (capabilities_of target.caps)) l) (ap no_ciphers_of (sym same) ∙ made.2)
-      (length-replicate {A = Option SlotCipherData} target.slots None, each_none (KeepsTo (capabilities_of target.caps)) target.slots tt);
+      subst (λ l. (length l ≡ target.slots) × Each (MeansItsWords (capabilities_of target.caps)) l) (ap no_ciphers_of (sym same) ∙ made.2)
+      (length-replicate {A = Option SlotCipherData} target.slots None, each_none (MeansItsWords (capabilities_of target.caps)) target.slots tt);
   begun_count = refl;
   begins = λ k. ([], sym (append-nil (list_at (map journal_in devices) k)));
   open_is = tt;

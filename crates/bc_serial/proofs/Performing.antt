@@ -12,7 +12,7 @@ use Rattle.bc_medium.specs.declared.unit_at.UnitAt.{UnitAt}
 use Rattle.bc_medium.specs.KeyedDisk.{UnitAnswer, Faulted}
 use Rattle.bc_medium.specs.Growth.{IsEntryOf}
 use Rattle.bc_medium.specs.Laws.{KnownStays}
-use Rattle.bc_medium.specs.LawfulOrders.{name_of}
+use Rattle.bc_medium.specs.LawfulOrders.{unit_name_of}
 use Rattle.bc_medium.specs.Outcome.{BioAnswer, is_fault}
 use Rattle.bc_script.specs.declared.op.Op.{Op}
 use Rattle.bc_script.specs.Script.{IsScript, Script, keys_of}
@@ -24,21 +24,21 @@ use Rattle.bc_report.specs.Answers.{answer_of_outcome}
 use Rattle.bc_report.specs.Report.{IsAnswer}
 use Rattle.bc_section.specs.Sections.{DeviceData, CarriesOne, cost}
 use Rattle.bc_serial.specs.declared.open_hold.OpenHold.{OpenHold}
-use Rattle.bc_serial.specs.Standing.{AttemptsUnit, CourseData, IsPerformable, device_of, first_units}
+use Rattle.bc_serial.specs.Standing.{AttemptsUnit, CourseData, IsPerformableBio, own_device, first_units}
 use Rattle.bc_serial.specs.Keyslots.{stories_of}
-use Rattle.bc_serial.specs.InTurn.{AttemptsOn, GoesOver, InTurn, MayFollow, PerformsBio, Reaches, part_of, via_in}
-use Rattle.bc_section.proofs.Growing.{named}
+use Rattle.bc_serial.specs.InTurn.{AttemptsOn, GoesOver, InTurn, MayFollow, PerformsBio, ReachesUnit, first_units_of, via_in}
 use Rattle.bc_serial.proofs.Attempting.{Made, NoneMet, OneMet, carries_bio, carries_fault, made_more, made_none, made_reached, met_fault, met_reached, units_more}
 use Rattle.bc_serial.proofs.Following.{bio_begins}
 use Rattle.bc_serial.proofs.Turning.{in_turn_same}
 use Rattle.bc_serial.proofs.TurningUnits.{unit_attempted, unit_reached}
+use Rattle.bc_medium.proofs.Growing.{named}
 
 -- in a window, the first n units of a bio come after what was gone over before it, and these entries after those before them
 abbrev pub TurnsTo : CourseData → CourseData → ℕ → Extent → ℕ → List Entry → Type 0
 TurnsTo old now op bio n made =
     (start : CourseData) (done : List TaggedBio) (was : Option OpenHold) (before : List Entry)
-    → AllByRecursion (λ (tagged : TaggedBio). tagged.tag < op) done → MayFollow start.script done (part_of op bio bio.units) was old.opened
-    → InTurn start (record old { opened = was }) done before → InTurn start now (done ++ part_of op bio n ∷ []) (before ++ made)
+    → AllByRecursion (λ (tagged : TaggedBio). tagged.tag < op) done → MayFollow start.script done (first_units_of op bio bio.units) was old.opened
+    → InTurn start (record old { opened = was }) done before → InTurn start now (done ++ first_units_of op bio n ∷ []) (before ++ made)
 
 -- the first n units of a bio were gone over
 pub record GoneOver (old now : CourseData) (access : Access) (op : ℕ) (operation : Op) (bio : Extent) (n : ℕ) (outcome : BioAnswer)
@@ -46,37 +46,37 @@ pub record GoneOver (old now : CourseData) (access : Access) (op : ℕ) (operati
   pub made : List Entry
   pub same : now ≡ record old { shards = now.shards; left = now.left; journals = now.journals; opened = now.opened }
   pub left : old.left ≡ now.left + n
-  pub so_far : Made (device_of old) (device_of now) made
-  pub tells : MatchOption fault (NoneMet (device_of old) (device_of now) access (first_units (keys_of old.script) op operation bio n) outcome made)
-      (λ k. OneMet (device_of old) (device_of now) op operation bio k made)
+  pub so_far : Made (own_device old) (own_device now) made
+  pub tells : MatchOption fault (NoneMet (own_device old) (own_device now) access (first_units (keys_of old.script) op operation bio n) outcome made)
+      (λ k. OneMet (own_device old) (own_device now) op operation bio k made)
   pub turn : TurnsTo old now op bio n made
 
 pub gone_over_none : (d : CourseData) (access : Access) (op : ℕ) (operation : Op) (bio : Extent) (outcome : BioAnswer) → 1 ≤ bio.units
-    → NoneMet (device_of d) (device_of d) access [] outcome [] → GoneOver d d access op operation bio 0 outcome None
+    → NoneMet (own_device d) (own_device d) access [] outcome [] → GoneOver d d access op operation bio 0 outcome None
 gone_over_none d access op operation bio outcome some none = record {
   made = [];
   same = refl;
   left = omega arith;
-  so_far = made_none (device_of d);
+  so_far = made_none (own_device d);
   tells = none;
   turn = λ start done was before below follows t.
-      subst (InTurn start d (done ++ part_of op bio 0 ∷ [])) (sym (append-nil before)) (bio_begins start d done op bio was before some follows t);
+      subst (InTurn start d (done ++ first_units_of op bio 0 ∷ [])) (sym (append-nil before)) (bio_begins start d done op bio was before some follows t);
 }
 
 -- ---- one unit more
 
-module _ (old b mid : CourseData) (op : ℕ) (operation : Op) (bio : Extent) (n : ℕ) (performable : IsPerformable old.script bio) (lt : n < bio.units)
+module _ (old b mid : CourseData) (op : ℕ) (operation : Op) (bio : Extent) (n : ℕ) (performable : IsPerformableBio old.script bio) (lt : n < bio.units)
     (made : List Entry) (same : b ≡ record old { shards = b.shards; left = b.left; journals = b.journals; opened = b.opened })
-    (rules : IsScript b.script) (reaches : Reaches b mid bio n) where
+    (rules : IsScript b.script) (reaches : ReachesUnit b mid bio n) where
   same_mid : mid ≡ record old { shards = mid.shards; left = mid.left; journals = mid.journals; opened = mid.opened }
   same_mid =
       reaches.same ∙ ap (λ (c : CourseData). record c { left = mid.left; journals = mid.journals; opened = mid.opened }) same
       ∙ ap (λ l. record old { shards = l; left = mid.left; journals = mid.journals; opened = mid.opened }) (sym (ap (λ (c : CourseData). c.shards) reaches.same))
 
-  reached : device_of mid ≡ record (device_of b) { noted = (device_of mid).noted; spare = (device_of mid).spare }
+  reached : own_device mid ≡ record (own_device b) { noted = (own_device mid).noted; spare = (own_device mid).spare }
   reached =
-      ap device_of reaches.same
-      ∙ ap (λ l. record (device_of b) { noted = l; spare = mid.left }) (sym (ap (λ (c : CourseData). stories_of c.thread c.begun c.journals) reaches.same))
+      ap own_device reaches.same
+      ∙ ap (λ l. record (own_device b) { noted = l; spare = mid.left }) (sym (ap (λ (c : CourseData). stories_of c.thread c.begun c.journals) reaches.same))
 
   script_of : b.script ≡ old.script
   script_of = ap (λ (c : CourseData). c.script) same
@@ -86,7 +86,7 @@ module _ (old b mid : CourseData) (op : ℕ) (operation : Op) (bio : Extent) (n 
       let here = turn start done was before below follows t in
       let script : b.script ≡ start.script = here.script_is in
       unit_reached start b mid done op n bio (before ++ made) (subst IsScript script rules)
-      (subst (λ (s : Script). IsPerformable s bio) (sym script_of ∙ script) performable) lt here reaches
+      (subst (λ (s : Script). IsPerformableBio s bio) (sym script_of ∙ script) performable) lt here reaches
 
   module _ (c : CourseData) (answer : UnitAnswer) (q : AttemptsOn mid c (unit_at (keys_of old.script) op operation bio n) answer) where
     same_end : c ≡ record old { shards = c.shards; left = c.left; journals = c.journals; opened = c.opened }
@@ -108,15 +108,15 @@ module _ (old b mid : CourseData) (op : ℕ) (operation : Op) (bio : Extent) (n 
         let context : e.at.context ≡ context_after n bio.context = ap (λ (a : UnitAt). a.context) its.unit in
         let there =
         unit_attempted start b mid done op n bio (before ++ made) e (subst IsScript script rules)
-        (subst (λ (s : Script). IsPerformable s bio) (sym script_of ∙ script) performable) lt below here reaches
-        (named mid.thread v e its ∙ ap (λ (t : ℕ). name_of t v) thread) context (ap (λ (a : UnitAt). a.tag) its.unit)
+        (subst (λ (s : Script). IsPerformableBio s bio) (sym script_of ∙ script) performable) lt below here reaches
+        (named mid.thread v e its ∙ ap (λ (t : ℕ). unit_name_of t v) thread) context (ap (λ (a : UnitAt). a.tag) its.unit)
         (q.via ∙ ap (via_in mid) (sym context)) in
-        subst (InTurn start c (done ++ part_of op bio (n + 1) ∷ [])) (append_assoc before made (e ∷ []))
-        (in_turn_same start mid c (done ++ part_of op bio (n + 1) ∷ []) ((before ++ made) ++ e ∷ []) there
+        subst (InTurn start c (done ++ first_units_of op bio (n + 1) ∷ [])) (append_assoc before made (e ∷ []))
+        (in_turn_same start mid c (done ++ first_units_of op bio (n + 1) ∷ []) ((before ++ made) ++ e ∷ []) there
         (q.same ∙ ap (λ l. record mid { shards = c.shards; left = l }) (sym (ap (λ (d : CourseData). d.left) q.same))))
 
 -- a unit was gone over
-module _ (old b c : CourseData) (op : ℕ) (operation : Op) (bio : Extent) (n : ℕ) (performable : IsPerformable old.script bio) (lt : n < bio.units)
+module _ (old b c : CourseData) (op : ℕ) (operation : Op) (bio : Extent) (n : ℕ) (performable : IsPerformableBio old.script bio) (lt : n < bio.units)
     (stays : KnownStays) (answer : Bool → UnitAnswer) (failed : answer false ≡ Faulted) (went : is_fault (answer true) ≡ false) (access : Access) (o o' : BioAnswer) where
   abbrev v : PlannedUnit
   v = unit_at (keys_of old.script) op operation bio n
@@ -127,15 +127,15 @@ module _ (old b c : CourseData) (op : ℕ) (operation : Op) (bio : Extent) (n : 
   -- what the next answer is, if it met no fault
   abbrev pub Continues : Type 0
   Continues =
-      (m d : DeviceData) (made : List Entry) (p : Made (device_of old) (device_of b) made) → m ≡ record (device_of b) { noted = m.noted; spare = m.spare }
+      (m d : DeviceData) (made : List Entry) (p : Made (own_device old) (own_device b) made) → m ≡ record (own_device b) { noted = m.noted; spare = m.spare }
       → (q : AttemptsUnit m d v (answer true)) → q.entry.failed ≡ false
-      → NoneMet (device_of old) (device_of b) access us o made → NoneMet (device_of old) d access (us ++ v ∷ []) o' (made ++ q.entry ∷ [])
+      → NoneMet (own_device old) (own_device b) access us o made → NoneMet (own_device old) d access (us ++ v ∷ []) o' (made ++ q.entry ∷ [])
 
-  module _ (gone : GoneOver old b access op operation bio n o None) (mid : CourseData) (rules : IsScript b.script) (reaches : Reaches b mid bio n) (more : Continues) where
+  module _ (gone : GoneOver old b access op operation bio n o None) (mid : CourseData) (rules : IsScript b.script) (reaches : ReachesUnit b mid bio n) (more : Continues) where
     abbrev m : DeviceData
-    m = device_of mid
+    m = own_device mid
 
-    is_reached : m ≡ record (device_of b) { noted = m.noted; spare = m.spare }
+    is_reached : m ≡ record (own_device b) { noted = m.noted; spare = m.spare }
     is_reached = reached old b mid op operation bio n performable lt gone.made gone.same rules reaches
 
     left_more : (answer : UnitAnswer) → AttemptsOn mid c v answer → old.left ≡ c.left + (n + 1)
@@ -147,9 +147,9 @@ module _ (old b c : CourseData) (op : ℕ) (operation : Op) (bio : Extent) (n : 
           made = gone.made ++ q.unit.entry ∷ [];
           same = same_end old b mid op operation bio n performable lt gone.made gone.same rules reaches c (answer true) q;
           left = left_more (answer true) q;
-          so_far = made_more (device_of old) (device_of b) m gone.made gone.so_far is_reached stays (device_of c) v (answer true) q.unit;
-          tells = subst (λ l. NoneMet (device_of old) (device_of c) access l o' (gone.made ++ q.unit.entry ∷ [])) (sym (units_more (keys_of old.script) op operation bio n))
-              (more m (device_of c) gone.made gone.so_far is_reached q.unit (q.unit.failed ∙ went) gone.tells);
+          so_far = made_more (own_device old) (own_device b) m gone.made gone.so_far is_reached stays (own_device c) v (answer true) q.unit;
+          tells = subst (λ l. NoneMet (own_device old) (own_device c) access l o' (gone.made ++ q.unit.entry ∷ [])) (sym (units_more (keys_of old.script) op operation bio n))
+              (more m (own_device c) gone.made gone.so_far is_reached q.unit (q.unit.failed ∙ went) gone.tells);
           turn = turn_attempted old b mid op operation bio n performable lt gone.made gone.same rules reaches c (answer true) q gone.turn;
         })
     attempted fault' false q' is =
@@ -158,20 +158,20 @@ module _ (old b c : CourseData) (op : ℕ) (operation : Op) (bio : Extent) (n : 
           made = gone.made ++ q.unit.entry ∷ [];
           same = same_end old b mid op operation bio n performable lt gone.made gone.same rules reaches c Faulted q;
           left = left_more Faulted q;
-          so_far = made_more (device_of old) (device_of b) m gone.made gone.so_far is_reached stays (device_of c) v Faulted q.unit;
-          tells = met_fault stays (device_of old) (device_of b) m (device_of c) gone.made gone.so_far is_reached op operation bio n access o lt gone.tells q.unit;
+          so_far = made_more (own_device old) (own_device b) m gone.made gone.so_far is_reached stays (own_device c) v Faulted q.unit;
+          tells = met_fault stays (own_device old) (own_device b) m (own_device c) gone.made gone.so_far is_reached op operation bio n access o lt gone.tells q.unit;
           turn = turn_attempted old b mid op operation bio n performable lt gone.made gone.same rules reaches c Faulted q gone.turn;
         })
 
-  -- behind a fault it was reached alone
-  passed : (k : ℕ) → GoneOver old b access op operation bio n o (Some k) → (mid : CourseData) → IsScript b.script → Reaches b mid bio n → GoneOver old mid access op operation bio (n + 1) o' (Some k)
+  -- after a fault it was reached alone
+  passed : (k : ℕ) → GoneOver old b access op operation bio n o (Some k) → (mid : CourseData) → IsScript b.script → ReachesUnit b mid bio n → GoneOver old mid access op operation bio (n + 1) o' (Some k)
   passed k gone mid rules reaches =
       let is_reached = reached old b mid op operation bio n performable lt gone.made gone.same rules reaches in record {
         made = gone.made;
         same = same_mid old b mid op operation bio n performable lt gone.made gone.same rules reaches;
         left = let a = gone.left in let d = reaches.left in omega arith;
-        so_far = made_reached (device_of old) (device_of b) (device_of mid) gone.made gone.so_far is_reached;
-        tells = met_reached (device_of old) (device_of b) (device_of mid) gone.made gone.so_far is_reached op operation bio k gone.tells;
+        so_far = made_reached (own_device old) (own_device b) (own_device mid) gone.made gone.so_far is_reached;
+        tells = met_reached (own_device old) (own_device b) (own_device mid) gone.made gone.so_far is_reached op operation bio k gone.tells;
         turn = turn_reached old b mid op operation bio n performable lt gone.made gone.same rules reaches gone.turn;
       }
 
@@ -186,16 +186,16 @@ module _ (old b c : CourseData) (op : ℕ) (operation : Op) (bio : Extent) (n : 
 
 -- ---- all units
 
-module _ (old new : CourseData) (op : ℕ) (operation : Op) (bio : Extent) (is : bio_of operation ≡ Some bio) (performable : IsPerformable old.script bio)
+module _ (old new : CourseData) (op : ℕ) (operation : Op) (bio : Extent) (is : bio_of operation ≡ Some bio) (performable : IsPerformableBio old.script bio)
     (units : bio.units ≡ cost operation) where
   performs_made : (made : List Entry) → new ≡ record old { shards = new.shards; left = new.left; journals = new.journals; opened = new.opened }
-      → TurnsTo old new op bio bio.units made → (answer : Answer) → (q : CarriesOne (device_of old) (device_of new) (op, operation) answer) × (q.made ≡ made)
+      → TurnsTo old new op bio bio.units made → (answer : Answer) → (q : CarriesOne (own_device old) (own_device new) (op, operation) answer) × (q.made ≡ made)
       → PerformsBio old new op operation bio answer
   performs_made made same turn answer q = record {
     carries = q.0;
     same = same;
     turn = λ start done was before below follows t.
-        subst (λ l. InTurn start new (done ++ part_of op bio bio.units ∷ []) (before ++ l)) (sym q.1) (turn start done was before below follows t);
+        subst (λ l. InTurn start new (done ++ first_units_of op bio bio.units ∷ []) (before ++ l)) (sym q.1) (turn start done was before below follows t);
   }
 
   -- none met a fault
@@ -203,10 +203,10 @@ module _ (old new : CourseData) (op : ℕ) (operation : Op) (bio : Extent) (is :
       → PerformsBio old new op operation bio answer
   performs_bio o answer gone told range =
       performs_made gone.made gone.same gone.turn answer
-      (carries_bio (device_of old) (device_of new) op operation bio o answer gone.made is performable.unrefused (let l = gone.left in omega (arith, units)) gone.so_far gone.tells told range)
+      (carries_bio (own_device old) (own_device new) op operation bio o answer gone.made is performable.unrefused (let l = gone.left in omega (arith, units)) gone.so_far gone.tells told range)
 
   -- one met a fault
   pub performs_fault : (o : BioAnswer) (k : ℕ) → GoneOver old new bio.access op operation bio bio.units o (Some k) → PerformsBio old new op operation bio (answers.Fault k)
   performs_fault o k gone =
       performs_made gone.made gone.same gone.turn (answers.Fault k)
-      (carries_fault (device_of old) (device_of new) op operation bio k gone.made is performable.unrefused performable.few_units (let l = gone.left in omega (arith, units)) gone.so_far gone.tells)
+      (carries_fault (own_device old) (own_device new) op operation bio k gone.made is performable.unrefused performable.few_units (let l = gone.left in omega (arith, units)) gone.so_far gone.tells)

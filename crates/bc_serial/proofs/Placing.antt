@@ -16,11 +16,11 @@ use Rattle.bc_medium.specs.declared.unit_at.UnitAt.{UnitAt}
 use Rattle.bc_medium.specs.declared.unit_name.UnitName.{UnitName}
 use Rattle.bc_medium.specs.declared.via.Via.{Via}
 use Rattle.bc_bio.specs.Extent.{unit_sectors}
-use Rattle.bc_medium.specs.Places.{shard_of}
+use Rattle.bc_medium.specs.Layout.{shard_of}
 use Rattle.bc_medium.specs.KeyedDisk.{Sectors, UnitAnswer, Faulted, Written, Text as Answered, deciphered}
-use Rattle.bc_medium.specs.Entries.{name_of_entry, told_by, IsTold, unit_name, written_entry, read_entry, failed_entry}
+use Rattle.bc_medium.specs.Entries.{name_of_entry, told_by, HasAnswer, unit_name, written_entry, read_entry, failed_entry}
 use Rattle.bc_medium.specs.Growth.{lies_in, IsEntryOf}
-use Rattle.bc_medium.specs.LawfulOrders.{name_of}
+use Rattle.bc_medium.specs.LawfulOrders.{unit_name_of}
 use Rattle.bc_medium.specs.Outcome.{is_fault}
 use Rattle.bc_medium.specs.ShardOrder.{ShardData, Appends, AppendsNext, HasKeys, StandsNow}
 use Rattle.bc_medium.specs.Shards.{orders_of, HaveKeys, Adds, Answers, AppendsAt, ReadsAt, AnswersText}
@@ -29,8 +29,9 @@ use Rattle.bc_script.specs.Way.{way_of}
 use Rattle.bc_report.specs.Ways.{way_in}
 use Rattle.bc_compose.specs.SectionDone.{SaysItsWay}
 use Rattle.bc_section.specs.Sections.{GoOnBy}
-use Rattle.bc_serial.specs.Standing.{Stands, AllStand, sectors_at, CourseData, device_of, GoesOn, Attempted, AttemptsUnit, at_of, entry_of_write, entry_of_read, answer_of_write, answer_of_read}
-use Rattle.bc_section.proofs.Lists.{at_changed, at_set, length-set, list_at_map, all_slice}
+use Rattle.bc_serial.specs.Standing.{ShardStands, AllStand, sectors_at, CourseData, own_device, GoesOnByEntry, Attempted, AttemptsUnit, unit_place_of, entry_of_write, entry_of_read, answer_of_write, answer_of_read}
+use Rattle.bc_section.proofs.Lists.{at_changed, list_at_map, all_slice}
+use Rattle.bc_base.proofs.Members.{at_set, length-set}
 
 -- ---- what the calls of the shards say
 
@@ -39,44 +40,44 @@ changes_more R S xs ys k more p = (p.0, p.1, p.2, p.3, more p.0 p.1 p.2 p.4)
 
 -- an access under keys that its shard was given, or that it is given now
 pub goes_on_write : (keys : List KeyData) (old new : List (ShardData RamData)) (e : Entry) (k n : ℕ)
-    → ChangesAt old new k (λ s s'. AppendsNext (Some keys) s s' e n) → ChangesAt old new k (GoesOn keys e)
+    → ChangesAt old new k (λ s s'. AppendsNext (Some keys) s s' e n) → ChangesAt old new k (GoesOnByEntry keys e)
 goes_on_write keys old new e k n =
-    changes_more (λ s s'. AppendsNext (Some keys) s s' e n) (GoesOn keys e) old new k
+    changes_more (λ s s'. AppendsNext (Some keys) s s' e n) (GoesOnByEntry keys e) old new k
     (λ s s' at is. record { start = is.1.0; keys_are = subst (λ (o : Option (List KeyData)). IfSome o (λ given. given ≡ keys)) (sym is.1.1) refl; entries = is.1.2; spare = is.1.3 })
 
 pub goes_on_read : (keys : List KeyData) (old new : List (ShardData RamData)) (e : Entry) (k : ℕ) → HaveKeys keys old
-    → ChangesAt old new k (λ s s'. Appends s.keys s s' e) → ChangesAt old new k (GoesOn keys e)
+    → ChangesAt old new k (λ s s'. Appends s.keys s s' e) → ChangesAt old new k (GoesOnByEntry keys e)
 goes_on_read keys old new e k have =
-    changes_more (λ s s'. Appends s.keys s s' e) (GoesOn keys e) old new k
+    changes_more (λ s s'. Appends s.keys s s' e) (GoesOnByEntry keys e) old new k
     (λ s s' at is. record { start = is.0; keys_are = subst (λ (o : Option (List KeyData)). IfSome o (λ given. given ≡ keys)) (sym is.1) (all_slice (HasKeys keys) old k s have at); entries = is.2; spare = is.3 })
 
--- an answer at a place is told
+-- an answer at a place is reported
 pub told_at : (keys : List KeyData) (new : List (ShardData RamData)) (place : Place) (name : UnitName) (answer : UnitAnswer)
     → Answers (λ (s : RamData). Some (contents s)) keys new place name answer
-    → AllAt new place.shard (λ s. IsTold (told_by keys (contents s.start) s.entries) name answer)
+    → AllAt new place.shard (λ s. HasAnswer (told_by keys (contents s.start) s.entries) name answer)
 told_at keys new place name answer is s at = (place.index, is s at)
 
 -- ---- every shard still stands
 
 pub stand_more : (script : Script) (old new : List (ShardData RamData)) (e : Entry) (k n m : ℕ) → m ≤ n
-    → ChangesAt old new k (GoesOn (keys_of script) e) → (n ≡ m + 1) → AllStand script n old → AllStand script m new
+    → ChangesAt old new k (GoesOnByEntry (keys_of script) e) → (n ≡ m + 1) → AllStand script n old → AllStand script m new
 stand_more script old new e k n m le p less stand shard z at =
     let s = p.0 in
     let s' = p.1 in
     let g = p.4 in
     let long : length new ≡ length old = ap length p.3 ∙ length-set old k s' in
     let here = subst (λ (l : List (ShardData RamData)). At l shard z) p.3 at in
-    subst (λ (c : ℕ). Stands script c m shard z) (sym long)
+    subst (λ (c : ℕ). ShardStands script c m shard z) (sym long)
     (⊎_elim
     (λ (is : (shard ≡ k) × (z ≡ s')).
-    subst (λ (j : ℕ). Stands script (length old) m j z) (sym is.0) (subst (Stands script (length old) m k) (sym is.1) (changed s s' g (stand k s p.2))))
+    subst (λ (j : ℕ). ShardStands script (length old) m j z) (sym is.0) (subst (ShardStands script (length old) m k) (sym is.1) (changed s s' g (stand k s p.2))))
     (λ (other : At old shard z). lowered z (stand shard z other))
     (at_changed old k shard s' z here))
   where
-    lowered : (z : ShardData RamData) → Stands script (length old) n shard z → Stands script (length old) m shard z
+    lowered : (z : ShardData RamData) → ShardStands script (length old) n shard z → ShardStands script (length old) m shard z
     lowered z is = record { keys = is.keys; owned = is.owned; blocks = is.blocks; planned = is.planned; spare = let l = is.spare in omega arith; few = is.few }
 
-    changed : (s s' : ShardData RamData) → GoesOn (keys_of script) e s s' → Stands script (length old) n k s → Stands script (length old) m k s'
+    changed : (s s' : ShardData RamData) → GoesOnByEntry (keys_of script) e s s' → ShardStands script (length old) n k s → ShardStands script (length old) m k s'
     changed s s' g is = record {
       keys = g.keys_are;
       owned = λ sector inside lies. ap (λ (r : RamData). owns r sector) g.start ∙ is.owned sector inside lies;
@@ -88,7 +89,7 @@ stand_more script old new e k n m le p less stand shard z at =
 
 -- ---- what an access tells its thread
 
-starts_stay : (keys : List KeyData) (e : Entry) (old new : List (ShardData RamData)) (k : ℕ) → ChangesAt old new k (GoesOn keys e) → sectors_at new ≡ sectors_at old
+starts_stay : (keys : List KeyData) (e : Entry) (old new : List (ShardData RamData)) (k : ℕ) → ChangesAt old new k (GoesOnByEntry keys e) → sectors_at new ≡ sectors_at old
 starts_stay keys e old new k p =
     let each : (shard : ℕ) → sectors_at new shard ≡ sectors_at old shard =
     λ shard. ap (λ (l : List (ShardData RamData)). sectors_at l shard) p.3 ∙ go old k shard p.0 p.1 p.2 p.4.start in
@@ -121,7 +122,7 @@ module _ (here : CourseData) (new : List (ShardData RamData)) (u : PlannedUnit) 
   after = record here { shards = new }
 
   pub attempts_unit : Attempted (keys_of here.script) here.shards new e answer → IsEntryOf here.thread u e → SaysItsWay here.script e → e.failed ≡ is_fault answer
-      → (q : AttemptsUnit (device_of here) (device_of (record here { shards = new })) u answer) × (q.entry ≡ e)
+      → (q : AttemptsUnit (own_device here) (own_device (record here { shards = new })) u answer) × (q.entry ≡ e)
   attempts_unit p its way failed =
       let lies : p.place.shard ≡ shard_of (length old) e.at.sector = p.adds.shard in
       let base = starts_stay (keys_of here.script) e old new p.place.shard p.goes_on in
@@ -131,22 +132,22 @@ module _ (here : CourseData) (new : List (ShardData RamData)) (u : PlannedUnit) 
       let told = p.told s' at-new in
       let sector : e.at.sector ≡ u.sector = ap (λ (at : UnitAt). at.sector) its.unit in
       let k : p.place.shard ≡ shard_of (length old) u.sector = lies ∙ ap (shard_of (length old)) sector in
-      let name : name_of_entry e ≡ name_of here.thread u = ap unit_name its.unit in (
+      let name : name_of_entry e ≡ unit_name_of here.thread u = ap unit_name its.unit in (
         record {
           entry = e;
-          same = ap (λ (n : ℕ). record (device_of after) { shards = n }) long
-              ∙ ap (λ (b : ℕ → Sectors). record (device_of after) { shards = length old; base = b }) base;
+          same = ap (λ (n : ℕ). record (own_device after) { shards = n }) long
+              ∙ ap (λ (b : ℕ → Sectors). record (own_device after) { shards = length old; base = b }) base;
           spare = omega arith;
           grows = goes_on_by (length old) (orders_of old) (orders_of new) p.place.shard e lies p.adds.appended.ends p.adds.appended.elsewhere;
           is_its = its;
           way = way;
           failed = failed;
           known =
-              subst (λ (n : UnitName). IsTold (told_by (keys_of here.script) (sectors_at old (shard_of (length old) u.sector)) (list_at (orders_of new) (shard_of (length old) u.sector))) n answer) name
-              (subst (λ (j : ℕ). IsTold (told_by (keys_of here.script) (sectors_at old j) (list_at (orders_of new) j)) (name_of_entry e) answer) k
-              (subst (λ (b : ℕ → Sectors). IsTold (told_by (keys_of here.script) (b p.place.shard) (list_at (orders_of new) p.place.shard)) (name_of_entry e) answer) base
-              (subst (λ (d : Sectors). IsTold (told_by (keys_of here.script) d (list_at (orders_of new) p.place.shard)) (name_of_entry e) answer) (sym (sectors_of new p.place.shard s' at-new))
-              (subst (λ (l : List Entry). IsTold (told_by (keys_of here.script) (contents s'.start) l) (name_of_entry e) answer) (sym (list_at_map (λ (s : ShardData RamData). s.entries) new p.place.shard s' at-new))
+              subst (λ (n : UnitName). HasAnswer (told_by (keys_of here.script) (sectors_at old (shard_of (length old) u.sector)) (list_at (orders_of new) (shard_of (length old) u.sector))) n answer) name
+              (subst (λ (j : ℕ). HasAnswer (told_by (keys_of here.script) (sectors_at old j) (list_at (orders_of new) j)) (name_of_entry e) answer) k
+              (subst (λ (b : ℕ → Sectors). HasAnswer (told_by (keys_of here.script) (b p.place.shard) (list_at (orders_of new) p.place.shard)) (name_of_entry e) answer) base
+              (subst (λ (d : Sectors). HasAnswer (told_by (keys_of here.script) d (list_at (orders_of new) p.place.shard)) (name_of_entry e) answer) (sym (sectors_of new p.place.shard s' at-new))
+              (subst (λ (l : List Entry). HasAnswer (told_by (keys_of here.script) (contents s'.start) l) (name_of_entry e) answer) (sym (list_at_map (λ (s : ShardData RamData). s.entries) new p.place.shard s' at-new))
               told))));
         },
         refl,
@@ -183,11 +184,11 @@ pub read_failed : (at : UnitAt) (via : Via) (text : List ℕ) (went : Bool) → 
 read_failed at via text true = refl
 read_failed at via text false = refl
 
-pub write_is_its : (thread : ℕ) (u : PlannedUnit) (via : Via) (plain : List ℕ) (went : Bool) → u.access ≡ Write → plain ≡ u.bytes → IsEntryOf thread u (entry_of_write (at_of thread u) via plain went)
+pub write_is_its : (thread : ℕ) (u : PlannedUnit) (via : Via) (plain : List ℕ) (went : Bool) → u.access ≡ Write → plain ≡ u.bytes → IsEntryOf thread u (entry_of_write (unit_place_of thread u) via plain went)
 write_is_its thread u via plain true writes same = record { unit = refl; access = sym writes; written = λ _ _. ap (λ (l : List ℕ). Some l) same }
 write_is_its thread u via plain false writes same = record { unit = refl; access = sym writes; written = λ went _. absurd (true≢false went) }
 
-pub read_is_its : (thread : ℕ) (u : PlannedUnit) (via : Via) (went : Bool) → u.access ≡ Read → IsEntryOf thread u (entry_of_read (at_of thread u) via went)
+pub read_is_its : (thread : ℕ) (u : PlannedUnit) (via : Via) (went : Bool) → u.access ≡ Read → IsEntryOf thread u (entry_of_read (unit_place_of thread u) via went)
 read_is_its thread u via true reads = record { unit = refl; access = sym reads; written = λ _ writes. absurd (differ (sym reads ∙ writes)) }
   where
     differ : Read ≡ Write → ⊥

@@ -14,7 +14,7 @@ use Rattle.bc_bio.specs.PlannedUnit.{PlannedUnit}
 use Rattle.bc_medium.specs.declared.entry.Entry.{Entry}
 use Rattle.bc_medium.specs.declared.unit_at.UnitAt.{UnitAt}
 use Rattle.bc_medium.specs.declared.via.Via.TheVariants as vias
-use Rattle.bc_medium.specs.Places.{shard_of}
+use Rattle.bc_medium.specs.Layout.{shard_of}
 use Rattle.bc_medium.specs.KeyedDisk.{UnitAnswer}
 use Rattle.bc_medium.specs.Growth.{IsEntryOf}
 use Rattle.bc_medium.specs.Outcome.{is_fault}
@@ -23,8 +23,8 @@ use Rattle.bc_medium.specs.Shards.{HaveKeys, Own, HasSpare}
 use Rattle.bc_script.specs.declared.op.Op.{Op}
 use Rattle.bc_script.specs.declared.op.Text.{Text}
 use Rattle.bc_script.specs.declared.op.Text.TheVariants.{Fill, Bytes}
-use Rattle.bc_script.specs.Script.{Script, keys_of, sectors_in, IsText}
-use Rattle.bc_script.specs.Plan.{unit_at, text_at}
+use Rattle.bc_script.specs.Script.{Script, keys_of, sectors_in}
+use Rattle.bc_script.specs.Plan.{unit_at, text_at, HasUnit}
 use Rattle.bc_script.specs.Bios.{is_inline}
 use Rattle.bc_script.specs.Way.{inline, soft, way_of}
 use Rattle.bc_report.specs.Ways.{way_in}
@@ -32,12 +32,14 @@ use Rattle.bc_stack.specs.Devices.{device_at}
 use Rattle.bc_compose.specs.SectionDone.{SaysItsWay}
 use Rattle.bc_serial.specs.declared.open_hold.OpenHold.{OpenHold}
 use Rattle.bc_serial.specs.InTurn.{AttemptsOn, HasOpen, HasOpenAt, via_in}
-use Rattle.bc_serial.specs.Keyslots.{KeyslotsData, IsOpenFor, via_of}
-use Rattle.bc_serial.specs.Standing.{CourseData, AllStand, HaveRoom, IsCourse, IsPerformable, HasUnit, Attempted, at_of}
-use Rattle.bc_section.proofs.Lists.{all_by_place, length-set}
-use Rattle.bc_serial.proofs.EqualParts.{part_within, length-part}
+use Rattle.bc_serial.specs.Keyslots.{KeyslotsData, IsOpenFor, via_under}
+use Rattle.bc_serial.specs.Standing.{CourseData, AllStand, HaveRoom, IsCourse, IsPerformableBio, Attempted, unit_place_of}
+use Rattle.bc_section.proofs.Lists.{all_by_place}
+use Rattle.bc_serial.proofs.EqualParts.{length-part}
 use Rattle.bc_serial.proofs.Room.{have_less}
 use Rattle.bc_serial.proofs.Placing.{stand_more, attempts_unit}
+use Rattle.bc_base.proofs.Members.{length-set}
+use Rattle.bc_section.proofs.Numbered.{part_within}
 
 key_after : (keys : List KeyData) (context : Option Context) (i : ℕ) → HasKey keys context → HasKey keys (context_after i context)
 key_after keys None i has = tt
@@ -68,12 +70,12 @@ says_via here None sector is = refl
 says_via here (Some under) sector is = choice (is_inline here.script under.key) is
   where
     of_hold : (o : Option OpenHold) → IsSomeAnd o (λ hold. (hold.key ≡ under.key.0) × (device_at here.script.targets sector ≡ Some hold.device))
-        → way_in (via_of o) ≡ inline (unwrap_or (device_at here.script.targets sector) 0)
+        → way_in (via_under o) ≡ inline (unwrap_or (device_at here.script.targets sector) 0)
     of_hold None none = absurd none
     of_hold (Some hold) both = ap (λ (o : Option ℕ). inline (unwrap_or o 0)) (sym both.1)
 
     choice : (b : Bool) → (b ≡ true → IsSomeAnd here.opened (λ hold. (hold.key ≡ under.key.0) × (device_at here.script.targets sector ≡ Some hold.device)))
-        → way_in (cond b (via_of here.opened) vias.Soft) ≡ cond b (inline (unwrap_or (device_at here.script.targets sector) 0)) soft
+        → way_in (cond b (via_under here.opened) vias.Soft) ≡ cond b (inline (unwrap_or (device_at here.script.targets sector) 0)) soft
     choice true is = of_hold here.opened (is refl)
     choice false is = refl
 
@@ -108,26 +110,26 @@ shard_inside : (shards block : ℕ) → block % shards ≡ block % shards
 shard_inside shards block = refl
 
 module _ (sizes : UnitsHaveSizes) (blocks : UnitsLieInBlocks) (script : Script) (keys : List KeyData) (shards : List (ShardData RamData)) (keyslots : KeyslotsData) (left : ℕ) (course : IsCourse script keys shards keyslots left)
-    (thread op : ℕ) (operation : Op) (bio : Extent) (performable : IsPerformable script bio) (i : ℕ) (within : i < bio.units) where
+    (thread op : ℕ) (operation : Op) (bio : Extent) (performable : IsPerformableBio script bio) (i : ℕ) (within : i < bio.units) where
   abbrev accepted : IsAccepted keys (sectors_in script) bio
   accepted = subst (λ (k : List KeyData). IsAccepted k (sectors_in script) bio) (sym course.keys_are) performable.accepted
 
   abbrev u : PlannedUnit
   u = unit_at keys op operation bio i
 
-  pub has_key : (at : UnitAt) → at ≡ at_of thread u → HasKey keys at.context
+  pub has_key : (at : UnitAt) → at ≡ unit_place_of thread u → HasKey keys at.context
   has_key at is = subst (λ (a : UnitAt). HasKey keys a.context) (sym is) (key_after keys bio.context i accepted.placed.key)
 
   pub have_keys : HaveKeys keys shards
   have_keys = all_by_place (HasKeys keys) shards (λ k s at. subst (λ (ks : List KeyData). HasKeys ks s) (sym course.keys_are) (course.stand k s at).keys)
 
-  pub size : (at : UnitAt) → at ≡ at_of thread u → unit_sectors keys at.context ≡ unit_sectors keys bio.context
+  pub size : (at : UnitAt) → at ≡ unit_place_of thread u → unit_sectors keys at.context ≡ unit_sectors keys bio.context
   size at is = ap (λ (a : UnitAt). unit_sectors keys a.context) is ∙ sectors_after keys bio.context i
 
   end_within : (i n : ℕ) (size : ℕ) → i < n → i * size + size ≤ n * size
   end_within i n size lt = let p = part_within size i n lt in omega arith
 
-  pub own : (at : UnitAt) → at ≡ at_of thread u → Own owns shards at.sector (unit_sectors keys at.context)
+  pub own : (at : UnitAt) → at ≡ unit_place_of thread u → Own owns shards at.sector (unit_sectors keys at.context)
   own at is s here =
       let n = unit_sectors keys bio.context in
       let sector : at.sector ≡ bio.sector + i * n = ap (λ (a : UnitAt). a.sector) is in
@@ -175,7 +177,7 @@ module _ (sizes : UnitsHaveSizes) (blocks : UnitsLieInBlocks) (script : Script) 
         → AttemptsOn here (record here { shards = new }) (unit_at (keys_of script) op operation bio i) answer
     attempts its failed opened via =
         let u = unit_at (keys_of script) op operation bio i in
-        let ap_at : e.at ≡ at_of thread u = its.unit in
+        let ap_at : e.at ≡ unit_place_of thread u = its.unit in
         let way : SaysItsWay script e =
         ap way_in via
         ∙ says_via here (context_after i bio.context) (sector_at (keys_of script) bio i) (open_after here i bio.context (sector_at (keys_of script) bio i) opened)
@@ -223,11 +225,6 @@ course_unused script keys shards keyslots left course =
 length-replicate : (n x : ℕ) → length (replicate n x) ≡ n
 length-replicate zero x = refl
 length-replicate (suc n) x = ap suc (length-replicate n x)
-
-pub has_unit : (keys : List KeyData) (context : Option Context) (units : ℕ) (text : Text) (i : ℕ) → IsText keys context units text → i < units → HasUnit text (512 * unit_sectors keys context) i
-has_unit keys context units (Fill byte) i rules within = tt
-has_unit keys context units (Bytes bytes) i rules within =
-    subst (λ (n : ℕ). 512 * unit_sectors keys context * i + 512 * unit_sectors keys context ≤ n) (sym rules.2) (part_within (512 * unit_sectors keys context) i units within)
 
 pub text_length : (text : Text) (size i : ℕ) → HasUnit text size i → length (text_at text size i) ≡ size
 text_length (Fill byte) size i has = length-replicate size byte

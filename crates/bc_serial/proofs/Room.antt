@@ -11,11 +11,11 @@ use Rattle.bc_profile.specs.declared.uses.Use.TheVariants as uses
 use Rattle.bc_profile.specs.OneCaller.{events_of_use, first_idle, slot_for, slot_with}
 use Rattle.bc_profile.specs.SlotJournal.{Slots, slots_after}
 use Rattle.bc_script.specs.Script.{Script}
-use Rattle.bc_compose.specs.Ordered.{slots_of}
+use Rattle.bc_compose.specs.OrderedHolds.{slot_count_of}
 use Rattle.bc_serial.specs.Keyslots.{max_events, used_at, used_each}
 use Rattle.bc_serial.specs.Standing.{HaveRoom}
 use Rattle.bc_section.specs.Uses.{after_uses}
-use Rattle.bc_section.proofs.Lists.{all_of}
+use Rattle.bc_base.proofs.Members.{all_of}
 
 -- a use records two events at most
 few : (slots : Slots) (u : Use) → length (events_of_use slots u) ≤ 2
@@ -33,7 +33,7 @@ few slots uses.Reset = omega arith
 
 more : (script : Script) (device : ℕ) (journal : List Event) (u : Use) → length (after_uses script device journal (record { use' = u; units = [] } ∷ [])) ≤ length journal + 2
 more script device journal u =
-    let slots = slots_after (slots_of script device) journal in
+    let slots = slots_after (slot_count_of script device) journal in
     let at = few slots u in
     omega (arith, length-append journal (events_of_use slots u ++ []), ap length (append-nil (events_of_use slots u)))
 

@@ -26,16 +26,18 @@ use Rattle.bc_script.specs.Windows.{Turn, turns_of}
 use Rattle.bc_script.specs.Windows as turns
 use Rattle.bc_report.specs.declared.answer.Answer.{Answer}
 use Rattle.bc_report.specs.Evictions.{evictions_in}
-use Rattle.bc_report.specs.Programmings.{Programs}
+use Rattle.bc_report.specs.Programmings.{IsProgramming}
 use Rattle.bc_report.specs.SerialRun.{DeviceUse, uses_of_turn, uses_of_section}
 use Rattle.bc_compose.specs.SectionDone.{key_of_entry, NamesOwn, own_events, Bounds, SectionDone}
 use Rattle.bc_serial.specs.Keyslots.{story_of, stories_of}
 use Rattle.bc_serial.specs.Standing.{HasBegun}
 use Rattle.bc_section.specs.Uses.{is_for}
-use Rattle.bc_section.proofs.Lists.{all_of, all_append, all_at, filter_none}
-use Rattle.bc_section.proofs.Growing.{begins_itself, begins_trans}
+use Rattle.bc_section.proofs.Lists.{filter_none}
 use Rattle.bc_section.proofs.Using.{EachUnit, none_for, other_thread, units_of_window, units_of_evict, units_of_reset}
-use Rattle.bc_serial.proofs.Stories.{events_of_notes, own_notes, own_notes_other, own_since, seen_journals}
+use Rattle.bc_serial.proofs.Stories.{own_notes, own_notes_other, own_since, seen_journals}
+use Rattle.bc_base.proofs.Members.{all_at, all_append, all_of}
+use Rattle.bc_medium.proofs.Growing.{begins_itself, begins_trans}
+use Rattle.bc_section.proofs.Numbered.{events_of_notes}
 
 -- ---- what a section rests on in the journals
 
@@ -44,7 +46,7 @@ module _ (script : Script) (shards : ℕ) (base : ℕ → Sectors) (thread : ℕ
   names_own : (key : Option ℕ) (via : Via) → NamesOwn noted key via → NamesOwn noted' key via
   names_own key vias.Plain is = is
   names_own key vias.Soft is = is
-  names_own key (vias.Inline device slot event) is = subst (λ (l : List Event). IsSomeAnd key (λ k. IsSomeAnd (slice_get l event) (Programs slot k))) (same device) is
+  names_own key (vias.Inline device slot event) is = subst (λ (l : List Event). IsSomeAnd key (λ k. IsSomeAnd (slice_get l event) (IsProgramming slot k))) (same device) is
 
   -- a section that is done is so over other stories with the same events, and the same of its thread
   pub same_section : SectionDone script shards base thread section seen noted replies made → SectionDone script shards base thread section seen noted' replies made
@@ -96,7 +98,7 @@ own_below t story below = filter_none (λ n. author_of n == t) story (λ n at. n
 
 -- ---- stories
 
--- what a section recorded: what comes behind the events that it began with
+-- what a section recorded: what comes after the events that it began with
 abbrev pub since : List Event × List Event → List Event
 since (begun, journal) = drop (length begun) journal
 
@@ -165,7 +167,7 @@ module _ (thread : ℕ) (begun journals : List (List Event)) (has : HasBegun beg
     pub told_same : (device : ℕ) → events_of (list_at (stories_of thread begun journals) device) ≡ events_of (list_at told device)
     told_same device = events_at device ∙ sym (told_events device)
 
-    -- an earlier thread's front stays one
+    -- an earlier thread's seen front stays one
     pub told_front : (t device : ℕ) (front : List Noted) → t < thread → IsFront author_of t front (list_at stories device) → IsFront author_of t front (list_at told device)
     told_front t device front lt is = record {
       begins = begins_trans front (list_at stories device) (list_at told device) is.begins (notes thread (new_at device), told_at device);

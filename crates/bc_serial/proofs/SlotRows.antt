@@ -1,5 +1,5 @@
 -- The row of an inline key is its entry, which every device reads as the key's cipher. And the stack of a script's devices.
-use Rattle.std.proofs.Common.{◌≡◌, ℕ, zero, suc, ◌<◌, ◌≤◌, Bool, true, false, cond, List, [], ◌∷◌, ◌++◌, length, get_or, refl, sym, ap, subst, ◌∙◌, arith, Option, Some, None, Result, Ok}
+use Rattle.std.proofs.Common.{◌≡◌, ℕ, zero, suc, ◌<◌, ◌≤◌, Bool, true, false, cond, List, [], ◌∷◌, ◌++◌, length, get_or, refl, sym, ap, ◌∙◌, arith, Option, Some, None, Result, Ok}
 use Rattle.std.specs.Result.{result_ok}
 use Rattle.std.specs.Prelude.{◌==◌, nat_lt, nat_le, slice_get, position, IsSomeAnd, unwrap_or}
 use Rattle.std.specs.List.{list_all, position_or_len}
@@ -12,11 +12,9 @@ use Rattle.bc_base.specs.Lists.{At}
 use Rattle.bc_key.specs.declared.config.Mode.{Mode}
 use Rattle.bc_key.specs.declared.config.Mode.TheVariants.{Aes256Xts, Aes128CbcEssiv}
 use Rattle.bc_key.specs.declared.config.DataUnit.{DataUnit}
-use Rattle.bc_key.specs.declared.config.DataUnit.TheVariants.{Bytes512, Bytes1024, Bytes2048, Bytes4096}
 use Rattle.bc_key.specs.declared.config.Config.{Config}
 use Rattle.bc_key.specs.declared.caps.Caps.{Caps}
-use Rattle.bc_key.specs.DataUnits.{bit_of}
-use Rattle.bc_key.specs.Support.{supports, has_unit, has_bits}
+use Rattle.bc_key.specs.Support.{supports, has_unit}
 use Rattle.bc_key.specs.KeyData.{KeyData, IsValid}
 use Rattle.bc_modes.specs.declared.ufs_caps.Capability.{Capability}
 use Rattle.bc_modes.specs.Capabilities.{Capabilities, capabilities_of, present, serves, index_for}
@@ -28,14 +26,15 @@ use Rattle.bc_stack.specs.Devices.{all_support, end_of_target}
 use Rattle.bc_stack.specs.declared.stack.TheConstants.{MAX_DEVICES}
 use Rattle.bc_stack.specs.declared.stack_error.StackError.{StackError}
 use Rattle.bc_stack.specs.declared.stack_error.StackError.TheVariants.{Gap, Empty, TooMany, Memory}
-use Rattle.bc_stack.specs.Targets.{LieBetween, IsStack, IsRefusal, refusal_from, refusal_of}
+use Rattle.bc_stack.specs.Targets.{LieBetween, IsStack, IsRefusal, refusal_from, stack_error_of}
 use Rattle.bc_profile.specs.Rows.{cleared, row_of}
 use Rattle.bc_profile.specs.Programmings.{Holds}
 use Rattle.bc_profile.specs.Solo.{SoloData, row_in}
 use Rattle.bc_script.specs.Script.{Script, keys_of}
 use Rattle.bc_script.specs.Bios.{is_inline}
-use Rattle.bc_serial.specs.Keyslots.{SlotCipherData, KeepsTo, row_of_key, rows_of}
+use Rattle.bc_serial.specs.Keyslots.{SlotCipherData, MeansItsWords, row_of_key, rows_of}
 use Rattle.bc_section.proofs.Lists.{at_map}
+use Rattle.bc_modes.proofs.Masks.{place, some_bits}
 
 -- ---- which keys a device supports
 
@@ -52,20 +51,6 @@ found p xs k x at pass none =
     below [] k x at = absurd (none-some x at)
     below (y ∷ ys) zero x at = omega arith
     below (y ∷ ys) (suc k) x at = let lt = below ys k x at in omega (arith, lt)
-
-no_bits : (unit : DataUnit) → has_bits 0 (bit_of unit) ≡ true → ⊥
-no_bits Bytes512 e = absurd (true≢false (sym e))
-no_bits Bytes1024 e = absurd (true≢false (sym e))
-no_bits Bytes2048 e = absurd (true≢false (sym e))
-no_bits Bytes4096 e = absurd (true≢false (sym e))
-
--- a mask with a data unit's bit isn't empty
-some_bits : (mask : ℕ) (unit : DataUnit) → has_bits mask (bit_of unit) ≡ true → (mask == 0) ≡ false
-some_bits mask unit has = ne_eqb mask 0 (λ none. no_bits unit (subst (λ n. has_bits n (bit_of unit) ≡ true) none has))
-
-place : (first second : List Capability) (capability : Capability) → second ≡ capability ∷ [] → (k : ℕ) × At (first ++ second) k capability
-place [] second capability is = (0, ap (λ (l : List Capability). slice_get l 0) is)
-place (c ∷ cs) second capability is = let r = place cs second capability is in (suc r.0, r.1)
 
 pub served : (caps : Caps) (mode : Mode) (unit : DataUnit) → has_unit caps mode unit ≡ true → index_for (capabilities_of caps) mode unit ≡ None → ⊥
 served caps Aes256Xts unit has none =
@@ -143,7 +128,7 @@ lies first end (target ∷ targets) is =
     ∙ lies (end_of_target target) end targets is.2
 
 -- targets that make a stack fail no test
-pub passes : (targets : List Target) (blocks : ℕ) → IsStack targets blocks → refusal_of targets blocks ≡ None
+pub passes : (targets : List Target) (blocks : ℕ) → IsStack targets blocks → stack_error_of targets blocks ≡ None
 passes [] blocks is = refl
 passes (target ∷ targets) blocks is =
     let few : nat_lt MAX_DEVICES (length (target ∷ targets)) ≡ false =
@@ -152,7 +137,7 @@ passes (target ∷ targets) blocks is =
     ∙ ap (λ (b : Bool). cond b (Some TooMany) (refusal_from 0 (target ∷ targets) blocks)) few
     ∙ lies 0 blocks (target ∷ targets) is.cover
 
--- so they are refused for want of memory alone
+-- so they are refused only where the process is out of memory
 pub no_refusal : (targets : List Target) (blocks : ℕ) (error : StackError) → IsStack targets blocks → IsRefusal targets blocks error → (error ≡ Memory → ⊥) → ⊥
 no_refusal targets blocks Memory is refusal other = other refl
 no_refusal targets blocks Gap is refusal other = none-some Gap (sym (passes targets blocks is) ∙ refusal)
@@ -167,7 +152,7 @@ same_Ok {E} x y one first second = same_Some x y (ap (λ (r : Result CipherParts
 -- the cipher of words that are read as a key's cipher
 pub kept_means : (caps own : Capabilities) (words : List ℕ) (kept : Option SlotCipherData) (k : KeyData) → caps ≡ own
     → IsSomeAnd kept (λ c. (c.words ≡ words) × (read_words words caps ≡ Ok c.parts)) → read_words words caps ≡ Ok (parts_of k)
-    → KeepsTo own kept × IsSomeAnd kept (λ c. c.parts ≡ parts_of k)
+    → MeansItsWords own kept × IsSomeAnd kept (λ c. c.parts ≡ parts_of k)
 kept_means caps own words None k same has reads = absurd has
 kept_means caps own words (Some c) k same has reads =
     (ap (λ w. read_words w own) has.0 ∙ ap (read_words words) (sym same) ∙ has.1, same_Ok c.parts (parts_of k) (read_words words caps) has.1 reads)

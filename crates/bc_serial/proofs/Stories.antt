@@ -18,21 +18,15 @@ use Rattle.bc_profile.specs.OneCaller.{events_of_use}
 use Rattle.bc_profile.specs.Story.{author_of, events_of, note, notes}
 use Rattle.bc_script.specs.Script.{Script}
 use Rattle.bc_compose.specs.SectionDone.{own_events}
-use Rattle.bc_compose.specs.Ordered.{Notes, slots_of}
+use Rattle.bc_compose.specs.OrderedHolds.{Notes, slot_count_of}
 use Rattle.bc_serial.specs.Keyslots.{story_of, stories_of, used_at, used_each}
 use Rattle.bc_section.specs.Sections.{journal_seen}
-use Rattle.bc_serial.specs.Standing.{CourseData, HasBegun, device_of}
+use Rattle.bc_serial.specs.Standing.{CourseData, HasBegun, own_device}
 use Rattle.bc_section.specs.Uses.{after_uses}
-use Rattle.bc_section.proofs.Growing.{begins_trans}
+use Rattle.bc_medium.proofs.Growing.{begins_trans}
+use Rattle.bc_section.proofs.Numbered.{events_of_append, events_of_notes}
 
 -- ---- events and who made them
-
-pub events_of_notes : (caller : ℕ) (es : List Event) → events_of (notes caller es) ≡ es
-events_of_notes caller [] = refl
-events_of_notes caller (e ∷ es) = ap (λ l. e ∷ l) (events_of_notes caller es)
-
-pub events_of_append : (a b : List Noted) → events_of (a ++ b) ≡ events_of a ++ events_of b
-events_of_append a b = map-append (λ (n : Noted). n.event) a b
 
 pub own_notes : (caller : ℕ) (es : List Event) → own author_of caller (notes caller es) ≡ notes caller es
 own_notes caller [] = refl
@@ -90,7 +84,7 @@ pub seen_journals : (thread : ℕ) (begun journals : List (List Event)) → HasB
 seen_journals thread begun journals has device =
     ap events_of (story_at thread begun journals device has.count) ∙ story_events thread (list_at begun device) (list_at journals device) (has.each device)
 
-pub course_journals : (course : CourseData) → HasBegun course.begun course.journals → (device : ℕ) → journal_seen (device_of course) device ≡ list_at course.journals device
+pub course_journals : (course : CourseData) → HasBegun course.begun course.journals → (device : ℕ) → journal_seen (own_device course) device ≡ list_at course.journals device
 course_journals course has device = seen_journals course.thread course.begun course.journals has device
 
 -- its own events are those since its section began
@@ -135,7 +129,7 @@ stories_note thread begun old new events has goes = record {
       ∙ ap (λ l. own_events thread (stories_of thread begun old) device ++ l) (ap events_of (own_notes thread (events device)) ∙ events_of_notes thread (events device));
 }
 
--- between a story and one that goes on from it, every front of what was added is a front
+-- between a story and one that goes on from it, every prefix of what was added is a prefix
 pub front_between : (thread : ℕ) (begun old mid new : List (List Event)) (first second : ℕ → List Event) → HasBegun begun old → GoOn old mid first → GoOn mid new second → (device : ℕ)
     → StartsWith (list_at (stories_of thread begun mid) device) (list_at (stories_of thread begun old) device)
     × StartsWith (list_at (stories_of thread begun new) device) (list_at (stories_of thread begun mid) device)
@@ -148,7 +142,7 @@ front_between thread begun old mid new first second has one two device = (
 
 -- what one use records on a device with this journal
 abbrev pub by_use : Script → ℕ → List Event → Use → List Event
-by_use script device journal use' = events_of_use (slots_after (slots_of script device) journal) use'
+by_use script device journal use' = events_of_use (slots_after (slot_count_of script device) journal) use'
 
 pub after_one : (script : Script) (device : ℕ) (journal : List Event) (use' : Use)
     → after_uses script device journal (record { use' = use'; units = [] } ∷ []) ≡ journal ++ by_use script device journal use'

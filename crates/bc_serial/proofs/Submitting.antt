@@ -33,21 +33,23 @@ use Rattle.bc_script.specs.Bios.{is_inline}
 use Rattle.bc_script.specs.Way.{Way, plain, soft, inline, way_of}
 use Rattle.bc_script.specs.Windows as turns
 use Rattle.bc_report.specs.declared.answer.Answer.{Answer}
-use Rattle.bc_report.specs.Programmings.{Programs, entry_by}
+use Rattle.bc_report.specs.Programmings.{IsProgramming, entry_by}
 use Rattle.bc_report.specs.SerialRun.{DeviceUse, uses_of_turn}
 use Rattle.bc_report.specs.Ways.{way_in}
 use Rattle.bc_compose.specs.SectionDone.{NamesOwn, SaysItsWay, inline_of, key_of_entry}
-use Rattle.bc_compose.specs.Ordered.{HasHold, Held, Notes, slots_of}
+use Rattle.bc_compose.specs.OrderedHolds.{HasHold, Held, Notes, slot_count_of}
 use Rattle.bc_serial.specs.Keyslots.{stories_of}
 use Rattle.bc_section.specs.Sections.{Carries, journal_seen}
-use Rattle.bc_serial.specs.Standing.{CourseData, HasBegun, device_of}
-use Rattle.bc_section.specs.Uses.{MakesUses, NamesOwnUse, NamesUse, after_uses, bios_of}
-use Rattle.bc_section.specs.Reached.{IsAcceptedBio, Submitted}
+use Rattle.bc_serial.specs.Standing.{CourseData, HasBegun, own_device}
+use Rattle.bc_section.specs.Uses.{MakesUses, NamesOwnUse, NamesUse, after_uses, op_bios}
+use Rattle.bc_section.specs.SectionProgress.{IsAcceptedBio, Submitted}
 use Rattle.bc_serial.specs.InTurn.{InTurn}
-use Rattle.bc_section.proofs.Lists.{In, in_of_filter_map, list_at_past}
+use Rattle.bc_section.proofs.Lists.{in_of_filter_map, list_at_past}
 use Rattle.bc_serial.proofs.Counting.{window_bounds}
 use Rattle.bc_section.proofs.Reaching.{enumerated_at}
-use Rattle.bc_serial.proofs.Stories.{GoOn, begun_more, course_journals, events_of_append, events_of_notes, seen_journals, stories_more, stories_note}
+use Rattle.bc_serial.proofs.Stories.{GoOn, begun_more, course_journals, seen_journals, stories_more, stories_note}
+use Rattle.bc_base.proofs.Members.{In}
+use Rattle.bc_section.proofs.Numbered.{events_of_append, events_of_notes}
 
 -- ---- journals
 
@@ -65,9 +67,9 @@ last_in o (y ∷ ys) x e =
     ⊎_elim (λ (h : Some y ≡ Some x). inr (inl (same_Some y x h))) (λ (more : In x ys). inr (inr more)) (last_in (Some y) ys x e)
 
 -- an event that programs a key does so in its slot
-programs_at : (key place slot event : ℕ) (e : Event) → programming_at key (place, e) ≡ Some (slot, event) → (place ≡ event) × Programs slot key e
+programs_at : (key place slot event : ℕ) (e : Event) → programming_at key (place, e) ≡ Some (slot, event) → (place ≡ event) × IsProgramming slot key e
 programs_at key place slot event (events.Program s k skipped) is =
-    (elim (k == key) as (λ (b : Bool). (k == key) ≡ b → cond {A = Option (ℕ × ℕ)} b (Some (s, place)) None ≡ Some (slot, event) → (place ≡ event) × Programs slot key (events.Program s k skipped)) [
+    (elim (k == key) as (λ (b : Bool). (k == key) ≡ b → cond {A = Option (ℕ × ℕ)} b (Some (s, place)) None ≡ Some (slot, event) → (place ≡ event) × IsProgramming slot key (events.Program s k skipped)) [
       | true ↦ λ same e. let pair : (s, place) ≡ (slot, event) = same_Some (s, place) (slot, event) e in (ap (λ (x : ℕ × ℕ). x.1) pair, (ap (λ (x : ℕ × ℕ). x.0) pair, eqb-true k key same))
       | false ↦ λ same e. absurd (none-some (slot, event) e)
     ]) refl is
@@ -76,7 +78,7 @@ programs_at key place slot event (events.Evict s k) is = absurd (none-some (slot
 programs_at key place slot event (events.Busy s k refs) is = absurd (none-some (slot, event) is)
 programs_at key place slot event events.Reset is = absurd (none-some (slot, event) is)
 
-pub last_programs : (key slot event : ℕ) (journal : List Event) → last_programming key journal ≡ Some (slot, event) → IsSomeAnd (slice_get journal event) (Programs slot key)
+pub last_programs : (key slot event : ℕ) (journal : List Event) → last_programming key journal ≡ Some (slot, event) → IsSomeAnd (slice_get journal event) (IsProgramming slot key)
 last_programs key slot event journal is =
     ⊎_elim (λ (none : None ≡ Some (slot, event)). absurd (none-some (slot, event) none))
     (λ (among : In (slot, event) (programmings key journal)).
@@ -84,7 +86,7 @@ last_programs key slot event journal is =
     let place = enumerated_at 0 journal r.0 r.1 in
     let p = programs_at key r.0.0 slot event r.0.1 r.2 in
     let at : place.0 ≡ event = omega (arith, place.1, p.0) in
-    subst (λ (o : Option Event). IsSomeAnd o (Programs slot key)) (sym (ap (slice_get journal) (sym at) ∙ place.2)) p.1)
+    subst (λ (o : Option Event). IsSomeAnd o (IsProgramming slot key)) (sym (ap (slice_get journal) (sym at) ∙ place.2)) p.1)
     (last_in None (programmings key journal) (slot, event) is)
 
 get_more : {X : Type 0} (P : X → Type 0) (xs ys : List X) (i : ℕ) → IsSomeAnd (slice_get xs i) P → IsSomeAnd (slice_get (xs ++ ys) i) P
@@ -132,7 +134,7 @@ way_inline script (Some under) sector device e =
 
 -- operations were carried out, and their bios gone over in a window
 abbrev pub TurnedBy : CourseData → CourseData → List (ℕ × Op) → List Answer → Type 0
-TurnedBy start now acts told = (p : Carries (device_of start) (device_of now) acts told) × InTurn start now (bios_of acts) p.made
+TurnedBy start now acts told = (p : Carries (own_device start) (own_device now) acts told) × InTurn start now (op_bios acts) p.made
 
 each_filter_map : {X Y : Type 0} (f : X → Option Y) (P : Y → Type 0) (xs : List X) → AllByRecursion (λ x. IfSome (f x) P) xs → AllByRecursion P (filter_map f xs)
 each_filter_map f P [] all = tt
@@ -153,12 +155,12 @@ names_same script j k same done e vias.Soft n = tt
 names_same script j k same done e (vias.Inline device slot event) n = subst (λ l. NamesOwnUse script l (done device) e device slot event) (same device) n
 
 module _ (start now : CourseData) (acts : List (ℕ × Op)) (told : List Answer) (devices : length start.journals ≡ length start.script.targets)
-    (has : HasBegun start.begun start.journals) (p : Carries (device_of start) (device_of now) acts told) (turn : InTurn start now (bios_of acts) p.made) where
+    (has : HasBegun start.begun start.journals) (p : Carries (own_device start) (own_device now) acts told) (turn : InTurn start now (op_bios acts) p.made) where
   abbrev script : Script
   script = start.script
 
   abbrev done : ℕ → List DeviceUse
-  done device = uses_of_turn script device start.thread (turns.Window (bios_of acts))
+  done device = uses_of_turn script device start.thread (turns.Window (op_bios acts))
 
   abbrev old : ℕ → List Event
   old device = list_at start.journals device
@@ -168,7 +170,7 @@ module _ (start now : CourseData) (acts : List (ℕ × Op)) (told : List Answer)
 
   -- what was recorded on a device of the script
   abbrev recorded : ℕ → List Event
-  recorded device = journal_of (slots_after (slots_of script device) (old device)) (map (λ u. u.use') (done device))
+  recorded device = journal_of (slots_after (slot_count_of script device) (old device)) (map (λ u. u.use') (done device))
 
   -- what was recorded on any device
   abbrev added : ℕ → List Event
@@ -204,14 +206,14 @@ module _ (start now : CourseData) (acts : List (ℕ × Op)) (told : List Answer)
   has_after : HasBegun start.begun now.journals
   has_after = begun_more start.begun start.journals now.journals added has goes
 
-  noted_after : (device_of now).noted ≡ after
+  noted_after : (own_device now).noted ≡ after
   noted_after = ap (λ t. stories_of t now.begun now.journals) turn.thread_is ∙ ap (λ b. stories_of start.thread b now.journals) turn.begun_is
 
   -- the journal as an entry's hold was taken: what it was when the window began, what was recorded till then, and what was after
   front_of : (e : Entry) (device slot event : ℕ) → device < length script.targets → (n : NamesOwnUse script (old device) (done device) e device slot event)
-      → (first : List Event) × (more : List Event) × (added device ≡ first ++ more) × Holds (slots_of script device) (old device ++ first) n.under.key.0 slot event
+      → (first : List Event) × (more : List Event) × (added device ≡ first ++ more) × Holds (slot_count_of script device) (old device ++ first) n.under.key.0 slot event
   front_of e device slot event within n =
-      let slots = slots_after (slots_of script device) (old device) in
+      let slots = slots_after (slot_count_of script device) (old device) in
       let hold : DeviceUse = record { use' = uses.Hold n.under.key; units = n.units } in
       let us = map (λ (u : DeviceUse). u.use') (n.before ++ hold ∷ []) in
       let vs = map (λ (u : DeviceUse). u.use') n.after in
@@ -231,12 +233,12 @@ module _ (start now : CourseData) (acts : List (ℕ × Op)) (told : List Answer)
   own_key e (vias.Inline device slot event) way n =
       let w = way_inline script e.at.context e.at.sector device way in
       let f = front_of e device slot event w.3 n in
-      let at = get_more (Programs slot n.under.key.0) (old device ++ f.0) f.1 event (last_programs n.under.key.0 slot event (old device ++ f.0) f.3.last) in
+      let at = get_more (IsProgramming slot n.under.key.0) (old device ++ f.0) f.1 event (last_programs n.under.key.0 slot event (old device ++ f.0) f.3.last) in
       let whole : events_of (list_at after device) ≡ (old device ++ f.0) ++ f.1 =
       seen_journals start.thread start.begun now.journals has_after device ∙ goes.each device ∙ ap (λ l. old device ++ l) f.2 ∙ sym (append_assoc (old device) f.0 f.1) in
-      subst (λ (k : Option ℕ). IsSomeAnd k (λ key. IsSomeAnd (slice_get (events_of (list_at after device)) event) (Programs slot key)))
+      subst (λ (k : Option ℕ). IsSomeAnd k (λ key. IsSomeAnd (slice_get (events_of (list_at after device)) event) (IsProgramming slot key)))
       (sym (ap (λ (c : Option Context). option_map (λ context. context.key.0) c) n.has_context))
-      (subst (λ l. IsSomeAnd (slice_get l event) (Programs slot n.under.key.0)) (sym whole) at)
+      (subst (λ l. IsSomeAnd (slice_get l event) (IsProgramming slot n.under.key.0)) (sym whole) at)
 
   has_hold : (e : Entry) (via : Via) → way_in via ≡ way_of script e.at.context e.at.sector → NamesUse script old done e via
       → IfSome (option_and_then (λ context. entry_by e.at.tag context via) e.at.context) (HasHold script before after)
@@ -266,7 +268,7 @@ module _ (start now : CourseData) (acts : List (ℕ × Op)) (told : List Answer)
               ∙ ap (λ l. list_at before device ++ l) (ap (notes start.thread) f.2 ∙ map-append _ f.0 f.1)
               ∙ sym (append_assoc (list_at before device) (notes start.thread f.0) (notes start.thread f.1)),
         );
-        holds = subst (λ l. Holds (slots_of script device) l n.under.key.0 slot event)
+        holds = subst (λ l. Holds (slot_count_of script device) l n.under.key.0 slot event)
             (sym (events_of_append (list_at before device) (notes start.thread f.0)
             ∙ ap (λ l. l ++ events_of (notes start.thread f.0)) (seen_journals start.thread start.begun start.journals has device)
             ∙ ap (λ l. old device ++ l) (events_of_notes start.thread f.0))) f.3;
@@ -280,19 +282,19 @@ module _ (start now : CourseData) (acts : List (ℕ × Op)) (told : List Answer)
     rises = turn.rises;
   }
 
-  uses_seen : MakesUses script (journal_seen (device_of start)) (journal_seen (device_of now)) done p.made
+  uses_seen : MakesUses script (journal_seen (own_device start)) (journal_seen (own_device now)) done p.made
   uses_seen = record {
     journals = λ device within.
         seen_now device ∙ turn.uses.journals device within
         ∙ ap (λ l. after_uses script device l (done device)) (sym (course_journals start has device));
-    holds = both (λ e. NamesUse script old done e e.via) (λ e. NamesUse script old done e e.via) (λ e. NamesUse script (journal_seen (device_of start)) done e e.via) p.made
-        (λ e n _. names_same script old (journal_seen (device_of start)) (λ device. sym (course_journals start has device)) done e e.via n) turn.uses.holds turn.uses.holds;
+    holds = both (λ e. NamesUse script old done e e.via) (λ e. NamesUse script old done e e.via) (λ e. NamesUse script (journal_seen (own_device start)) done e e.via) p.made
+        (λ e n _. names_same script old (journal_seen (own_device start)) (λ device. sym (course_journals start has device)) done e e.via n) turn.uses.holds turn.uses.holds;
   }
     where
-      seen_now : (device : ℕ) → journal_seen (device_of now) device ≡ new device
+      seen_now : (device : ℕ) → journal_seen (own_device now) device ≡ new device
       seen_now device = ap (λ (n : List (List Noted)). events_of (list_at n device)) noted_after ∙ seen_journals start.thread start.begun now.journals has_after device
 
-  pub window_submitted : IsScript script → AllByRecursion (λ (x : ℕ × Op). IsAcceptedBio script x.1) acts → Submitted (device_of start) (device_of now) acts
+  pub window_submitted : IsScript script → AllByRecursion (λ (x : ℕ × Op). IsAcceptedBio script x.1) acts → Submitted (own_device start) (own_device now) acts
   window_submitted rules accepted = record {
     made = p.made;
     events = added;
@@ -303,7 +305,7 @@ module _ (start now : CourseData) (acts : List (ℕ × Op)) (told : List Answer)
     attempts = p.attempts;
     ways = p.ways;
     notes = subst (λ n. Notes start.thread before n added) (sym noted_after) (stories_note start.thread start.begun start.journals now.journals added has goes);
-    bounds = window_bounds script start.thread acts rules accepted added (λ device within. (slots_after (slots_of script device) (old device), added_is device within)) added_none;
+    bounds = window_bounds script start.thread acts rules accepted added (λ device within. (slots_after (slot_count_of script device) (old device), added_is device within)) added_none;
     held = subst (λ n. Held script before n p.made) (sym noted_after) held;
     uses = λ _. uses_seen;
   }

@@ -11,7 +11,7 @@ use Rattle.bc_profile.specs.declared.event.Event.{Event}
 use Rattle.bc_profile.specs.SlotJournal.{InNoSlot, slots_after}
 use Rattle.bc_profile.specs.Solo.{SoloData}
 use Rattle.bc_script.specs.Script.{Script}
-use Rattle.bc_compose.specs.Ordered.{slots_of}
+use Rattle.bc_compose.specs.OrderedHolds.{slot_count_of}
 use Rattle.bc_serial.specs.Keyslots.{SlotCipherData, HaveNotKey, IsKeyslots, IsRidOf, giving_back, journal_in}
 use Rattle.bc_section.proofs.Lists.{all_slice, at_exists, list_at_map}
 
@@ -31,6 +31,6 @@ none_has_key script stack caps devices ciphers begun key is rid device within =
     let gone : InNoSlot (slots_after solo.0.count solo.0.journal) key = all_slice (IsRidOf key) devices device solo.0 rid solo.1 in
     let journal : list_at (map journal_in devices) device ≡ solo.0.journal =
     list_at_map journal_in devices device solo.0 solo.1 ∙ ap (λ (held : Option ℕ). solo.0.journal ++ giving_back held) of.held ∙ append-nil solo.0.journal in
-    let count : solo.0.count ≡ slots_of script device = of.count ∙ sym (ap (λ (o : Option Target). option_map_or (λ t. t.slots) o 0) target.1) in
-    subst (λ (l : List Event). InNoSlot (slots_after (slots_of script device) l) key) (sym journal)
+    let count : solo.0.count ≡ slot_count_of script device = of.count ∙ sym (ap (λ (o : Option Target). option_map_or (λ t. t.slots) o 0) target.1) in
+    subst (λ (l : List Event). InNoSlot (slots_after (slot_count_of script device) l) key) (sym journal)
     (subst (λ (n : ℕ). InNoSlot (slots_after n solo.0.journal) key) count gone)

@@ -22,14 +22,15 @@ use Rattle.bc_script.specs.Windows as turns
 use Rattle.bc_report.specs.Programmings.{InlineEntry}
 use Rattle.bc_report.specs.SerialRun.{DeviceUse, uses_of_turn}
 use Rattle.bc_compose.specs.SectionDone.{inline_of}
-use Rattle.bc_compose.specs.Ordered.{Pairs, Rises, slots_of}
+use Rattle.bc_compose.specs.OrderedHolds.{Pairs, Rises, slot_count_of}
 use Rattle.bc_serial.specs.declared.open_hold.OpenHold.{OpenHold}
 use Rattle.bc_serial.specs.Keyslots.{used_at}
 use Rattle.bc_serial.specs.Standing.{CourseData}
 use Rattle.bc_section.specs.Uses.{after_uses, NamesOwnUse, NamesUse}
-use Rattle.bc_serial.specs.InTurn.{open_after, under_hold, StillHolds, NoLater, InTurn, TakesHold, LeavesHolds}
-use Rattle.bc_section.proofs.Lists.{all_append, all_of, list_at_past}
+use Rattle.bc_serial.specs.InTurn.{hold_open_after, under_hold, StillHolds, NoLater, InTurn, RunOpensHold, LeavesHolds}
+use Rattle.bc_section.proofs.Lists.{list_at_past}
 use Rattle.bc_serial.proofs.Extending.{same_events, after_more, used_here, used_elsewhere, no_later_more, own_appended, KeepNames, all_kept}
+use Rattle.bc_base.proofs.Members.{all_append, all_of}
 
 -- the uses of these bios, by device
 abbrev pub uses_of_window : CourseData → List TaggedBio → ℕ → List DeviceUse
@@ -42,7 +43,7 @@ pub leaves_step : (start old new : CourseData) (bios more : List TaggedBio) (mad
     → LeavesHolds old new
     → ((device : ℕ) → map (λ (u : DeviceUse). u.use') (uses_of_window start more device) ≡ map (λ (u : DeviceUse). u.use') (uses_of_window start bios device))
     → KeepNames start.script (list_at start.journals) (uses_of_window start bios) (uses_of_window start more)
-    → open_after start.script more ≡ open_after start.script bios
+    → hold_open_after start.script more ≡ hold_open_after start.script bios
     → InTurn start old bios made → InTurn start new more made
 leaves_step start old new bios more made same l uses_same keep opens t = record {
   script_is = ap (λ (c : CourseData). c.script) same ∙ t.script_is;
@@ -60,18 +61,18 @@ leaves_step start old new bios more made same l uses_same keep opens t = record 
   opened = ap (option_map under_hold) l.opened ∙ t.opened ∙ sym opens;
   still =
       subst (λ (o : Option OpenHold). IfSome o (StillHolds new)) (sym l.opened)
-      (subst (λ (script : Script). IfSome old.opened (λ hold. Holds (slots_of script hold.device) (list_at new.journals hold.device) hold.key hold.slot hold.event))
+      (subst (λ (script : Script). IfSome old.opened (λ hold. Holds (slot_count_of script hold.device) (list_at new.journals hold.device) hold.key hold.slot hold.event))
       (sym (ap (λ (c : CourseData). c.script) same))
-      (subst (λ (js : List (List Event)). IfSome old.opened (λ hold. Holds (slots_of old.script hold.device) (list_at js hold.device) hold.key hold.slot hold.event)) (sym l.journals) t.still));
+      (subst (λ (js : List (List Event)). IfSome old.opened (λ hold. Holds (slot_count_of old.script hold.device) (list_at js hold.device) hold.key hold.slot hold.event)) (sym l.journals) t.still));
 }
 
 -- a hold was taken of a key on a device
 pub takes_step : (start old new : CourseData) (bios more : List TaggedBio) (made : List Entry) (device : ℕ) (key : KeyNo) (names : List UnitName)
     → new ≡ record old { left = new.left; journals = new.journals; opened = new.opened }
-    → TakesHold old new device key → device < length start.script.targets
+    → RunOpensHold old new device key → device < length start.script.targets
     → ((other : ℕ) → other ≢ device → uses_of_window start more other ≡ uses_of_window start bios other)
     → uses_of_window start more device ≡ uses_of_window start bios device ++ record { use' = uses.Hold key; units = names } ∷ []
-    → open_after start.script more ≡ Some (device, key.0)
+    → hold_open_after start.script more ≡ Some (device, key.0)
     → InTurn start old bios made → InTurn start new more made
 takes_step start old new bios more made device key names same k within elsewhere here opens t = record {
   script_is = ap (λ (c : CourseData). c.script) same ∙ t.script_is;
@@ -107,7 +108,7 @@ takes_step start old new bios more made device key names same k within elsewhere
   opened = ap (option_map under_hold) k.opened ∙ sym opens;
   still =
       subst (λ (o : Option OpenHold). IfSome o (StillHolds new)) (sym k.opened)
-      (subst (λ (script : Script). Holds (slots_of script device) (list_at new.journals device) key.0 k.slot k.event) (sym (ap (λ (c : CourseData). c.script) same)) k.holds);
+      (subst (λ (script : Script). Holds (slot_count_of script device) (list_at new.journals device) key.0 k.slot k.event) (sym (ap (λ (c : CourseData). c.script) same)) k.holds);
 }
   where
     taken : DeviceUse
@@ -135,8 +136,8 @@ takes_step start old new bios more made device key names same k within elsewhere
     goes_on d =
         ⊎_elim
         (λ (e : d ≡ device). (
-          journal_of (slots_after (slots_of start.script device) (list_at old.journals device)) (uses.Hold key ∷ []),
-          ap (list_at new.journals) e ∙ at_device ∙ ap (λ (n : ℕ). list_at old.journals n ++ journal_of (slots_after (slots_of start.script device) (list_at old.journals device)) (uses.Hold key ∷ [])) (sym e),
+          journal_of (slots_after (slot_count_of start.script device) (list_at old.journals device)) (uses.Hold key ∷ []),
+          ap (list_at new.journals) e ∙ at_device ∙ ap (λ (n : ℕ). list_at old.journals n ++ journal_of (slots_after (slot_count_of start.script device) (list_at old.journals device)) (uses.Hold key ∷ [])) (sym e),
         ))
         (λ (ne : d ≢ device). ([], at_other d ne ∙ sym (append-nil (list_at old.journals d))))
         (cases_eq d device)

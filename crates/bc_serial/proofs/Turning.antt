@@ -9,7 +9,7 @@ use Rattle.bc_medium.specs.declared.entry.Entry.{Entry}
 use Rattle.bc_script.specs.Script.{Script}
 use Rattle.bc_serial.specs.declared.open_hold.OpenHold.{OpenHold}
 use Rattle.bc_serial.specs.Standing.{CourseData}
-use Rattle.bc_serial.specs.InTurn.{under_hold, StillHolds, InTurn, part_of}
+use Rattle.bc_serial.specs.InTurn.{under_hold, StillHolds, InTurn, first_units_of}
 use Rattle.bc_serial.proofs.Splitting.{open_by, open_begin, open_first}
 pub use Rattle.bc_serial.proofs.TurningUnits.{unit_reached, unit_attempted}
 
@@ -47,6 +47,6 @@ window_begins start none = record {
 
 -- ---- a bio begins
 
-open_begins : (script : Script) (op : ℕ) (bio : Extent) (tail : List TaggedBio) → open_by script (tail ++ part_of op bio 0 ∷ []) ≡ open_by script tail
+open_begins : (script : Script) (op : ℕ) (bio : Extent) (tail : List TaggedBio) → open_by script (tail ++ first_units_of op bio 0 ∷ []) ≡ open_by script tail
 open_begins script op bio [] = open_first script op bio
 open_begins script op bio (t ∷ ts) = open_begin script op bio t ts

@@ -28,17 +28,18 @@ use Rattle.bc_report.specs.Report.{IsAnswer}
 use Rattle.bc_report.specs.SerialRun.{DeviceUse, uses_of_section}
 use Rattle.bc_compose.specs.SectionDone.{SectionDone}
 use Rattle.bc_section.specs.Sections.{DeviceData, SectionsDone, journal_seen, cost, cost_of_section}
-use Rattle.bc_section.specs.Reached.{CarriesSection}
+use Rattle.bc_section.specs.SectionProgress.{CarriesSection}
 use Rattle.bc_serial.specs.Keyslots.{stories_of}
-use Rattle.bc_serial.specs.Standing.{CourseData, HasBegun, device_of}
+use Rattle.bc_serial.specs.Standing.{CourseData, HasBegun, own_device}
 use Rattle.bc_section.specs.Uses.{MakesUses, is_for}
-use Rattle.bc_section.proofs.Lists.{In, in_of_filter, in_of_flat_map, all_at, all_from_in, all_append, from_append, filter_none, list_at_left, list_at_last, take_next, enumerate_push}
-use Rattle.bc_section.proofs.Growing.{begins_itself, begins_trans, made_by}
+use Rattle.bc_section.proofs.Lists.{from_append, filter_none, list_at_left, list_at_last, take_next, enumerate_push}
 use Rattle.bc_serial.proofs.Sectioning.{begun_itself, same_section, list_at_each, length-each, same_by_places, told_on, events_at, events_are, told_are, told_same, told_own, told_front, told_below, not_of_sections}
 use Rattle.bc_serial.proofs.Stories.{own_notes_other, story_at}
 use Rattle.bc_section.proofs.Using.{uses_append}
+use Rattle.bc_base.proofs.Members.{In, in_of_filter, in_of_flat_map, all_at, all_from_in, all_append}
+use Rattle.bc_medium.proofs.Growing.{begins_itself, begins_trans, made_by}
 
-pub sections_none : (d : CourseData) → HasBegun d.begun d.journals → ((shard : ℕ) → list_at (orders_of d.shards) shard ≡ []) → ((device : ℕ) → list_at d.journals device ≡ []) → SectionsDone (device_of d) (device_of d) [] []
+pub sections_none : (d : CourseData) → HasBegun d.begun d.journals → ((shard : ℕ) → list_at (orders_of d.shards) shard ≡ []) → ((device : ℕ) → list_at d.journals device ≡ []) → SectionsDone (own_device d) (own_device d) [] []
 sections_none d has untouched unused = record {
   made = [];
   seen = [];
@@ -230,25 +231,25 @@ no_events thread journals device =
 -- the same of courses
 pub sections_more : (a b d : CourseData) (thread : ℕ) (sections : List (List Op)) (i : ℕ) (answers answers' : List (List Answer)) (section : List Op) (told : List Answer)
     → HasBegun b.begun b.journals → HasBegun d.begun d.journals → thread ≡ i → i < length sections → section ≡ get_or sections i section → answers' ≡ answers ++ told ∷ []
-    → SectionsDone (device_of a) (device_of b) (take i sections) answers
-    → CarriesSection (device_of (record b { thread = thread; begun = b.journals; opened = None })) (device_of d) section told
-    → SectionsDone (device_of a) (device_of d) (take (i + 1) sections) answers'
+    → SectionsDone (own_device a) (own_device b) (take i sections) answers
+    → CarriesSection (own_device (record b { thread = thread; begun = b.journals; opened = None })) (own_device d) section told
+    → SectionsDone (own_device a) (own_device d) (take (i + 1) sections) answers'
 sections_more a b d thread sections i answers answers' section told has has' turn lt read grown p q =
     let long : length (take i sections) ≡ i = omega (arith, length-take i sections) in
-    let x : DeviceData = device_of a in
+    let x : DeviceData = own_device a in
     let begun_is : d.begun ≡ b.journals = ap (λ (y : DeviceData). y.begun) q.same in
     let thread_is : d.thread ≡ thread = ap (λ (y : DeviceData). y.thread) q.same in
     let before : DeviceData = record x { thread = b.thread; seen = orders_of b.shards; noted = stories_of b.thread b.begun b.journals; begun = b.begun; spare = b.left } in
     let start : DeviceData = record x { thread = thread; seen = orders_of b.shards; noted = stories_of thread b.journals b.journals; begun = b.journals; spare = b.left } in
     let new : DeviceData = record x { thread = thread; seen = orders_of d.shards; noted = stories_of thread b.journals d.journals; begun = b.journals; spare = d.left } in
-    let start_is : device_of (record b { thread = thread; begun = b.journals; opened = None }) ≡ start =
+    let start_is : own_device (record b { thread = thread; begun = b.journals; opened = None }) ≡ start =
     ap (λ (y : DeviceData). record y { thread = thread; noted = stories_of thread b.journals b.journals; begun = b.journals }) p.same in
-    let new_is : device_of d ≡ new =
+    let new_is : own_device d ≡ new =
     q.same ∙ ap (λ (y : DeviceData). record y { seen = orders_of d.shards; noted = stories_of d.thread d.begun d.journals; spare = d.left }) start_is
     ∙ ap (λ (n : ℕ). record start { seen = orders_of d.shards; noted = stories_of n d.begun d.journals; spare = d.left }) thread_is
     ∙ ap (λ (l : List (List Event)). record start { seen = orders_of d.shards; noted = stories_of thread l d.journals; spare = d.left }) begun_is in
     let q1 = subst (λ (y : DeviceData). CarriesSection y new section told) start_is
-    (subst (λ (y : DeviceData). CarriesSection (device_of (record b { thread = thread; begun = b.journals; opened = None })) y section told) new_is q) in
+    (subst (λ (y : DeviceData). CarriesSection (own_device (record b { thread = thread; begun = b.journals; opened = None })) y section told) new_is q) in
     subst (λ (y : DeviceData). SectionsDone x y (take (i + 1) sections) answers') (sym new_is)
     (subst (λ l. SectionsDone x new l answers') (sym (take_next sections i section lt read))
     (subst (λ l. SectionsDone x new (take i sections ++ section ∷ []) l) (sym grown)
@@ -258,7 +259,7 @@ sections_more a b d thread sections i answers answers' section told has has' tur
 
 -- how much is left
 pub left_more : (b d : CourseData) (thread : ℕ) (sections : List (List Op)) (i : ℕ) (section : List Op) (told : List Answer) (first : ℕ) → i < length sections → section ≡ get_or sections i section
-    → first ≤ b.left + sum_by cost_of_section (take i sections) → CarriesSection (device_of (record b { thread = thread; begun = b.journals; opened = None })) (device_of d) section told
+    → first ≤ b.left + sum_by cost_of_section (take i sections) → CarriesSection (own_device (record b { thread = thread; begun = b.journals; opened = None })) (own_device d) section told
     → first ≤ d.left + sum_by cost_of_section (take (i + 1) sections)
 left_more b d thread sections i section told first lt read before q =
     let here = q.spare in

@@ -17,9 +17,9 @@ use Rattle.bc_script.specs.Windows as turns
 use Rattle.bc_stack.specs.Pieces.{same_device}
 use Rattle.bc_report.specs.SerialRun.{DeviceUse, inline_key, is_on, name_at, pieces_of_request, holds_for, uses_of_turn}
 use Rattle.bc_section.specs.Uses.{is_for}
-use Rattle.bc_serial.specs.InTurn.{part_of}
-use Rattle.bc_section.proofs.Lists.{In, in_append_left, in_append_right, in_append_cases, in_of_map, in_of_filter, in_of_flat_map, any_in, all_at}
+use Rattle.bc_serial.specs.InTurn.{first_units_of}
 use Rattle.bc_serial.proofs.Pieces.{hold_of}
+use Rattle.bc_base.proofs.Members.{In, in_append_left, in_append_right, in_append_cases, in_of_map, in_of_filter, in_of_flat_map, any_in, all_at}
 
 in_joined : {X : Type 0} (chunks : List (List X)) (chunk : List X) (x : X) → In x chunk → In chunk chunks → In x (flat_map (λ c. c) chunks)
 in_joined [] chunk x at at' = absurd at'
@@ -80,15 +80,15 @@ module _ (script : Script) (device thread : ℕ) where
 
   -- none is for unit number n of the bio of which n units were gone over
   pub name_free : (done : List TaggedBio) (op n : ℕ) (bio : Extent) (name : UnitName) → AllByRecursion (λ (tagged : TaggedBio). tagged.tag < op) done → name.op ≡ op → name.unit ≡ n
-      → list_any (is_for name) (uses_of_turn script device thread (turns.Window (done ++ part_of op bio n ∷ []))) ≡ false
+      → list_any (is_for name) (uses_of_turn script device thread (turns.Window (done ++ first_units_of op bio n ∷ []))) ≡ false
   name_free done op n bio name below op_is unit_is =
-      false_from_ne_true (list_any (is_for name) (uses_of_turn script device thread (turns.Window (done ++ part_of op bio n ∷ []))))
+      false_from_ne_true (list_any (is_for name) (uses_of_turn script device thread (turns.Window (done ++ first_units_of op bio n ∷ []))))
       (λ is.
-      let r = window_names (done ++ part_of op bio n ∷ []) name is in
+      let r = window_names (done ++ first_units_of op bio n ∷ []) name is in
       let op' = r.op in
       let within = r.within in
       ⊎_elim
       (λ (old : In r.tagged done). let lt = all_at (λ (tagged : TaggedBio). tagged.tag < op) done r.tagged below old in absurd (omega arith))
-      (λ (new : In r.tagged (part_of op bio n ∷ [])).
-      ⊎_elim (λ (e : part_of op bio n ≡ r.tagged). let units : n ≡ r.tagged.bio.units = ap (λ (t : TaggedBio). t.bio.units) e in absurd (omega arith)) (λ (no : ⊥). absurd no) new)
-      (in_append_cases done (part_of op bio n ∷ []) r.tagged r.among))
+      (λ (new : In r.tagged (first_units_of op bio n ∷ [])).
+      ⊎_elim (λ (e : first_units_of op bio n ≡ r.tagged). let units : n ≡ r.tagged.bio.units = ap (λ (t : TaggedBio). t.bio.units) e in absurd (omega arith)) (λ (no : ⊥). absurd no) new)
+      (in_append_cases done (first_units_of op bio n ∷ []) r.tagged r.among))

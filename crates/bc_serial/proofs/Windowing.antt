@@ -21,15 +21,16 @@ use Rattle.bc_script.specs.Script.{Script, keys_of, unit_count}
 use Rattle.bc_script.specs.Bios.{bio_of}
 use Rattle.bc_report.specs.declared.answer.Answer.{Answer}
 use Rattle.bc_compose.specs.SectionDone.{IsReply}
-use Rattle.bc_compose.specs.Ordered.{Pairs}
+use Rattle.bc_compose.specs.OrderedHolds.{Pairs}
 use Rattle.bc_section.specs.Sections.{DeviceData, cost, cost_in}
-use Rattle.bc_serial.specs.Standing.{CourseData, device_of}
-use Rattle.bc_section.specs.Uses.{tagged_bio, bios_of}
-use Rattle.bc_section.specs.Reached.{numbered, IsAcceptedBio, MayBePlugged, Settled}
-use Rattle.bc_serial.specs.InTurn.{InTurn, InWindow, MayFollow, Submits, last_request, part_of}
-use Rattle.bc_section.proofs.Lists.{In, all_at, all_from_in, all_append, all_read, in_is, take_next}
+use Rattle.bc_serial.specs.Standing.{CourseData, own_device}
+use Rattle.bc_section.specs.Uses.{tagged_bio, op_bios}
+use Rattle.bc_section.specs.SectionProgress.{numbered, IsAcceptedBio, MayBePlugged, Settled}
+use Rattle.bc_serial.specs.InTurn.{InTurn, InWindow, MayFollow, SubmitsBio, last_request, first_units_of}
+use Rattle.bc_section.proofs.Lists.{all_read, in_is, take_next}
 use Rattle.bc_section.proofs.Carrying.{CarriesBy, carries_none_by, carries_append_by, reply_more}
 use Rattle.bc_section.proofs.Reaching.{numbered_push, numbered_all, get_set_same, get_set_other, length_set}
+use Rattle.bc_base.proofs.Members.{In, all_at, all_from_in, all_append}
 
 -- ---- the bio before
 
@@ -84,25 +85,25 @@ pub follows_none : (script : Script) → Follows script [] None
 follows_none script = record { placed = tt; joined = λ next. refl }
 
 pub follows_next : (script : Script) (done : List TaggedBio) (op : ℕ) (bio : Extent) (last : Option Extent) → last ≡ Some bio → IsPlaced (keys_of script) bio
-    → Follows script (done ++ part_of op bio bio.units ∷ []) last
+    → Follows script (done ++ first_units_of op bio bio.units ∷ []) last
 follows_next script done op bio last is placed = record {
   placed = subst (λ (o : Option Extent). IfSome o (IsPlaced (keys_of script))) (sym is) placed;
-  joined = λ next. ends_last (joins (keys_of script)) done (part_of op bio bio.units) next
+  joined = λ next. ends_last (joins (keys_of script)) done (first_units_of op bio bio.units) next
       ∙ ap (λ (o : Option Extent). option_map_or (λ first. back_runs_on (keys_of script) first next.bio) o false) (sym is);
 }
 
 -- ---- the bios of operations
 
 pub bios_push : (operations : List (ℕ × Op)) (op : ℕ) (operation : Op) (bio : Extent) → bio_of operation ≡ Some bio
-    → bios_of (operations ++ (op, operation) ∷ []) ≡ bios_of operations ++ part_of op bio bio.units ∷ []
+    → op_bios (operations ++ (op, operation) ∷ []) ≡ op_bios operations ++ first_units_of op bio bio.units ∷ []
 bios_push operations op operation bio is =
     filter_map-append tagged_bio operations ((op, operation) ∷ [])
-    ∙ ap (λ (o : Option Extent). bios_of operations ++ cons_option (option_map (λ b. record { tag = op; bio = b }) o) []) is
+    ∙ ap (λ (o : Option Extent). op_bios operations ++ cons_option (option_map (λ b. record { tag = op; bio = b }) o) []) is
 
-pub bios_all : (P : ℕ → Type 0) (operations : List (ℕ × Op)) → AllByRecursion (λ (x : ℕ × Op). P x.0) operations → AllByRecursion (λ (tagged : TaggedBio). P tagged.tag) (bios_of operations)
+pub bios_all : (P : ℕ → Type 0) (operations : List (ℕ × Op)) → AllByRecursion (λ (x : ℕ × Op). P x.0) operations → AllByRecursion (λ (tagged : TaggedBio). P tagged.tag) (op_bios operations)
 bios_all P [] all = tt
 bios_all P ((op, operation) ∷ operations) all =
-    elim (bio_of operation) as (λ (o : Option Extent). AllByRecursion (λ (tagged : TaggedBio). P tagged.tag) (cons_option (option_map (λ b. record { tag = op; bio = b }) o) (bios_of operations))) [
+    elim (bio_of operation) as (λ (o : Option Extent). AllByRecursion (λ (tagged : TaggedBio). P tagged.tag) (cons_option (option_map (λ b. record { tag = op; bio = b }) o) (op_bios operations))) [
       | None ↦ bios_all P operations all.1
       | Some bio ↦ (all.0, bios_all P operations all.1)
     ]
@@ -120,7 +121,7 @@ units_cost ops.Unplug = omega arith
 
 pub window_none : (start : CourseData) (section : List Op) (window : List ℕ) (old : List (Option Answer)) → InTurn start start [] [] → InWindow start start section window 0 old old
 window_none start section window old turn =
-    let none = carries_none_by (device_of start) in
+    let none = carries_none_by (own_device start) in
     record { told = []; carried = none.0; turn = subst (InTurn start start []) (sym none.1) turn; settled = tt; long = refl; others = λ o out. refl }
 
 -- those before one are in R to it
@@ -167,7 +168,7 @@ module _ (a b : CourseData) (section : List Op) (window : List ℕ) (i op : ℕ)
   script_in_window = p.turn.script_is
 
   -- what it follows in the window
-  module _ (c : CourseData) (last : Option Extent) (answer : Answer) (follows : Follows a.script (bios_of before) last) (q : Submits b c op operation last answer) where
+  module _ (c : CourseData) (last : Option Extent) (answer : Answer) (follows : Follows a.script (op_bios before) last) (q : SubmitsBio b c op operation last answer) where
     abbrev runs_on : Bool
     runs_on = option_map_or (λ first. back_runs_on (keys_of b.script) first q.bio) last false
 
@@ -177,14 +178,14 @@ module _ (a b : CourseData) (section : List Op) (window : List ℕ) (i op : ℕ)
       | false ↦ λ off. let e : q.mid ≡ record b { opened = None } = q.starts off in e ∙ ap (λ (m : CourseData). record b { opened = m.opened }) (sym e)
     ]) refl
 
-    same_device : device_of q.mid ≡ device_of b
-    same_device = ap device_of mid_is
+    same_device : own_device q.mid ≡ own_device b
+    same_device = ap own_device mid_is
 
-    joined_as : joins_last (joins (keys_of a.script)) (last_request a.script (bios_of before)) (part_of op q.bio q.bio.units) ≡ runs_on
-    joined_as = follows.joined (part_of op q.bio q.bio.units)
+    joined_as : joins_last (joins (keys_of a.script)) (last_request a.script (op_bios before)) (first_units_of op q.bio q.bio.units) ≡ runs_on
+    joined_as = follows.joined (first_units_of op q.bio q.bio.units)
         ∙ ap (λ (s : Script). option_map_or (λ first. back_runs_on (keys_of s) first q.bio) last false) (sym script_in_window)
 
-    follow : MayFollow a.script (bios_of before) (part_of op q.bio q.bio.units) b.opened q.mid.opened
+    follow : MayFollow a.script (op_bios before) (first_units_of op q.bio q.bio.units) b.opened q.mid.opened
     follow = record {
       goes_on = λ on. ap (λ (m : CourseData). m.opened) (q.goes_on (sym joined_as ∙ on));
       starts = λ off. ap (λ (m : CourseData). m.opened) (q.starts (sym joined_as ∙ off));
@@ -196,54 +197,54 @@ module _ (a b : CourseData) (section : List Op) (window : List ℕ) (i op : ℕ)
     below : Pairs (λ first second. first < second) window → AllByRecursion (λ (o : ℕ). o < op) (take i window)
     below order = pairs_take (λ first second. first < second) window i op order lt read
 
-    turned : Pairs (λ first second. first < second) window → InTurn a c (bios_of before ++ part_of op q.bio q.bio.units ∷ []) made
-    turned order = q.performs.turn a (bios_of before) b.opened p.carried.made
+    turned : Pairs (λ first second. first < second) window → InTurn a c (op_bios before ++ first_units_of op q.bio q.bio.units ∷ []) made
+    turned order = q.performs.turn a (op_bios before) b.opened p.carried.made
         (bios_all (λ o. o < op) before (numbered_all section (λ o. o < op) (take i window) (below order)))
         follow
-        (subst (λ (m : CourseData). InTurn a m (bios_of before) p.carried.made) (sym (ap (λ (m : CourseData). record m { opened = b.opened }) mid_is)) p.turn)
+        (subst (λ (m : CourseData). InTurn a m (op_bios before) p.carried.made) (sym (ap (λ (m : CourseData). record m { opened = b.opened }) mid_is)) p.turn)
 
-    one : CarriesBy (device_of b) (device_of c) ((op, operation) ∷ []) (answer ∷ []) q.performs.carries.made
-    one = subst (λ (d : DeviceData). CarriesBy d (device_of c) ((op, operation) ∷ []) (answer ∷ []) q.performs.carries.made) same_device (q.performs.carries, refl)
+    one : CarriesBy (own_device b) (own_device c) ((op, operation) ∷ []) (answer ∷ []) q.performs.carries.made
+    one = subst (λ (d : DeviceData). CarriesBy d (own_device c) ((op, operation) ∷ []) (answer ∷ []) q.performs.carries.made) same_device (q.performs.carries, refl)
 
     carried_on : KnownStays → Pairs (λ first second. first < second) window
-        → CarriesBy (device_of a) (device_of c) (before ++ (op, operation) ∷ []) (p.told ++ answer ∷ []) made
+        → CarriesBy (own_device a) (own_device c) (before ++ (op, operation) ∷ []) (p.told ++ answer ∷ []) made
     carried_on known_stays order =
-        carries_append_by known_stays (device_of a) (device_of b) (device_of c) before ((op, operation) ∷ []) p.told (answer ∷ []) p.carried.made q.performs.carries.made
+        carries_append_by known_stays (own_device a) (own_device b) (own_device c) before ((op, operation) ∷ []) p.told (answer ∷ []) p.carried.made q.performs.carries.made
         (λ x y at at' same. let less : x.0 < op = all_at (λ (z : ℕ × Op). z.0 < op) before x (numbered_all section (λ o. o < op) (take i window) (below order)) at in
         ⊎_elim (λ (e : (op, operation) ≡ y). let k : op ≡ y.0 = ap (λ (z : ℕ × Op). z.0) e in absurd (omega arith)) (λ (no' : ⊥). absurd no') at')
         (p.carried, refl) one
 
-    go_on : KnownStays → (o : ℕ) → slice_get (slice_set answers op (Some answer)) o ≡ slice_get answers o → Settled (device_of b) section answers o → Settled (device_of c) section (slice_set answers op (Some answer)) o
+    go_on : KnownStays → (o : ℕ) → slice_get (slice_set answers op (Some answer)) o ≡ slice_get answers o → Settled (own_device b) section answers o → Settled (own_device c) section (slice_set answers op (Some answer)) o
     go_on known_stays o same s =
-        let e : device_of c ≡ record (device_of b) { seen = (device_of c).seen; noted = (device_of c).noted; spare = (device_of c).spare } = one.0.same in record {
+        let e : own_device c ≡ record (own_device b) { seen = (own_device c).seen; noted = (own_device c).noted; spare = (own_device c).spare } = one.0.same in record {
           operation = s.operation;
           answer = s.answer;
           asked = s.asked;
           told = same ∙ s.told;
           range = s.range;
-          replied = subst (λ (d : DeviceData). IsReply d.script d.shards d.base d.thread (device_of c).seen (o, s.operation) s.answer) (sym e)
-              (reply_more known_stays b.script (device_of b).shards (device_of b).base b.thread (device_of b).seen (device_of c).seen one.0.grows.fronts (o, s.operation) s.answer s.replied);
+          replied = subst (λ (d : DeviceData). IsReply d.script d.shards d.base d.thread (own_device c).seen (o, s.operation) s.answer) (sym e)
+              (reply_more known_stays b.script (own_device b).shards (own_device b).base b.thread (own_device b).seen (own_device c).seen one.0.grows.fronts (o, s.operation) s.answer s.replied);
         }
 
-    over : IsReply b.script (device_of b).shards (device_of b).base b.thread (device_of c).seen (op, operation) answer
-        → IsReply c.script (device_of c).shards (device_of c).base c.thread (device_of c).seen (op, operation) answer
-    over is' = subst (λ (d : DeviceData). IsReply d.script d.shards d.base d.thread (device_of c).seen (op, operation) answer) (sym one.0.same) is'
+    over : IsReply b.script (own_device b).shards (own_device b).base b.thread (own_device c).seen (op, operation) answer
+        → IsReply c.script (own_device c).shards (own_device c).base c.thread (own_device c).seen (op, operation) answer
+    over is' = subst (λ (d : DeviceData). IsReply d.script d.shards d.base d.thread (own_device c).seen (op, operation) answer) (sym one.0.same) is'
 
     pub window_more : KnownStays → Pairs (λ first second. first < second) window → op < length answers
         → InWindow a c section window (i + 1) old (slice_set answers op (Some answer))
     window_more known_stays order fits =
-        let r = subst (λ l. CarriesBy (device_of a) (device_of c) l (p.told ++ answer ∷ []) made) (sym numbered_next) (carried_on known_stays order) in
+        let r = subst (λ l. CarriesBy (own_device a) (own_device c) l (p.told ++ answer ∷ []) made) (sym numbered_next) (carried_on known_stays order) in
         let now = slice_set answers op (Some answer) in
         record {
           told = p.told ++ answer ∷ [];
           carried = r.0;
-          turn = subst (InTurn a c (bios_of (numbered section (take (i + 1) window)))) (sym r.1)
-              (subst (λ l. InTurn a c l made) (sym (ap bios_of numbered_next ∙ bios_push before op operation q.bio q.is_bio)) (turned order));
-          settled = subst (AllByRecursion (Settled (device_of c) section now)) (sym next)
-              (all_append (Settled (device_of c) section now) (take i window) (op ∷ [])
-              (all_from_in (Settled (device_of c) section now) (take i window)
+          turn = subst (InTurn a c (op_bios (numbered section (take (i + 1) window)))) (sym r.1)
+              (subst (λ l. InTurn a c l made) (sym (ap op_bios numbered_next ∙ bios_push before op operation q.bio q.is_bio)) (turned order));
+          settled = subst (AllByRecursion (Settled (own_device c) section now)) (sym next)
+              (all_append (Settled (own_device c) section now) (take i window) (op ∷ [])
+              (all_from_in (Settled (own_device c) section now) (take i window)
               (λ o at. let less = all_at (λ n. n < op) (take i window) o (below order) at in
-              go_on known_stays o (get_set_other answers op o (Some answer) (λ e. omega arith)) (all_at (Settled (device_of b) section answers) (take i window) o p.settled at)))
+              go_on known_stays o (get_set_other answers op o (Some answer) (λ e. omega arith)) (all_at (Settled (own_device b) section answers) (take i window) o p.settled at)))
               (record { operation = operation; answer = answer; asked = is; told = get_set_same answers op (Some answer) fits; replied = over one.0.replies.0; range = one.0.ranges.0 }, tt));
           long = length_set answers op (Some answer) ∙ p.long;
           others = λ o out. get_set_other answers op o (Some answer)
@@ -252,12 +253,12 @@ module _ (a b : CourseData) (section : List Op) (window : List ℕ) (i op : ℕ)
 
     -- and the next one follows it
     pub follows_more : (last' : Option Extent) → last' ≡ bio_of operation → IsPlaced (keys_of a.script) q.bio
-        → Follows a.script (bios_of (numbered section (take (i + 1) window))) last'
+        → Follows a.script (op_bios (numbered section (take (i + 1) window))) last'
     follows_more last' same placed =
-        subst (λ l. Follows a.script l last') (sym (ap bios_of numbered_next ∙ bios_push before op operation q.bio q.is_bio))
-        (follows_next a.script (bios_of before) op q.bio last' (same ∙ q.is_bio) placed)
+        subst (λ l. Follows a.script l last') (sym (ap op_bios numbered_next ∙ bios_push before op operation q.bio q.is_bio))
+        (follows_next a.script (op_bios before) op q.bio last' (same ∙ q.is_bio) placed)
 
--- an element within, whatever stands for one behind the end
+-- an element within, whatever stands for one after the end
 pub read_within : (xs : List ℕ) (i d e : ℕ) → i < length xs → get_or xs i d ≡ get_or xs i e
 read_within [] i d e lt = absurd (omega arith)
 read_within (x ∷ xs) zero d e lt = refl

@@ -1,5 +1,6 @@
--- What contracts see of the keyslots of a script's devices, for one caller. A hold may be open: it was taken, and is
--- given back by the next call that takes one. The journals are seen as they stand when the open hold is given back.
+-- What contracts see of the keyslots of a script's devices, for one caller. A hold may be open: it
+-- was taken, and is given back by the next call that takes one. The journals are seen as they stand
+-- when the open hold is given back.
 use Rattle.std.specs.Prelude.{◌≡◌, ℕ, ◌+◌, ◌*◌, ◌<◌, ◌≤◌, ◌==◌, ◌&&◌, Bool, false, List, [], ◌∷◌, ◌++◌, length, drop}
 use Rattle.std.specs.Prelude.{map, zip, slice_get, slice_set, Option, Some, None, IfSome, IsSomeAnd, Ok}
 use Rattle.std.specs.Prelude.{option_and_then, if◌then◌else◌}
@@ -26,14 +27,15 @@ use Rattle.bc_profile.specs.Rows.{cleared}
 use Rattle.bc_profile.specs.SlotJournal.{IsLawful}
 use Rattle.bc_profile.specs.OneCaller.{events_of_eviction}
 use Rattle.bc_profile.specs.SlotJournal.{InNoSlot, slots_after}
-use Rattle.bc_profile.specs.Solo.{SoloData, HasSpare, recorded, slots_of as slots_in}
+use Rattle.bc_profile.specs.Solo.{SoloData, HasSpare, solo_with_events, slots_of as slots_in}
 use Rattle.bc_script.specs.Script.{Script, IsScript, keys_of, max_ops, max_units}
 use Rattle.bc_report.specs.Report.{IsEvent}
-use Rattle.bc_compose.specs.Ordered.{slots_of}
+use Rattle.bc_compose.specs.OrderedHolds.{slot_count_of}
 use Rattle.bc_serial.specs.declared.open_hold.OpenHold.{OpenHold}
 use Rattle.bc_section.specs.Uses.{after_uses}
 
--- the script's devices, the journal of each, what each journal was when the section began, and the hold that is open
+-- the script's devices, the journal of each, what each journal was when the section began, and the
+-- hold that is open
 pub record KeyslotsData : Type 0 where
   pub script : Script
   pub journals : List (List Event)
@@ -64,7 +66,8 @@ giving_back held = option_map_or (λ slot. events.Idle slot ∷ []) held []
 abbrev pub journal_in : SoloData → List Event
 journal_in solo = solo.journal ++ giving_back solo.held
 
--- the story of a device for a thread whose section began with these events: those before are others'
+-- the story of a device for a thread whose section began with these events: those before are
+-- others'
 abbrev pub story_of : ℕ → List Event × List Event → List Noted
 story_of thread (begun, journal) = notes (thread + 1) begun ++ notes thread (drop (length begun) journal)
 
@@ -86,17 +89,17 @@ used_each script use' journals =
 -- no slot of a device has the key
 abbrev pub HaveNotKey : Script → List (List Event) → ℕ → Type 0
 HaveNotKey script journals key = (device : ℕ) → device < length script.targets
-    → InNoSlot (slots_after (slots_of script device) (list_at journals device)) key
+    → InNoSlot (slots_after (slot_count_of script device) (list_at journals device)) key
 
 -- a hold of the key was taken on the device: the open one is that hold
-pub record Takes (old new : KeyslotsData) (device key : ℕ) : Type 0 where
+pub record OpensHold (old new : KeyslotsData) (device key : ℕ) : Type 0 where
   pub slot : ℕ
   pub event : ℕ
   pub records : new ≡ record old {
     journals = used_at old.script device (uses.Hold (record { 0 = key })) old.journals;
     opened = Some (record { device = device; key = key; slot = slot; event = event });
   }
-  pub holds : Holds (slots_of old.script device) (list_at new.journals device) key slot event
+  pub holds : Holds (slot_count_of old.script device) (list_at new.journals device) key slot event
 
 -- the hold that is open is of this key
 abbrev pub IsOpenFor : Option OpenHold → ℕ → Type 0
@@ -107,19 +110,19 @@ abbrev pub is_open_for : Option OpenHold → ℕ → ℕ → Bool
 is_open_for opened device key = option_map_or (λ hold. (hold.device == device) && (hold.key == key)) opened false
 
 -- how a unit goes under the open hold
-abbrev pub via_of : Option OpenHold → Via
-via_of None = vias.Plain
-via_of (Some hold) = vias.Inline hold.device hold.slot hold.event
+abbrev pub via_under : Option OpenHold → Via
+via_under None = vias.Plain
+via_under (Some hold) = vias.Inline hold.device hold.slot hold.event
 
 -- the device's journal has room for so many events more
-abbrev pub HasRoom : KeyslotsData → ℕ → ℕ → Type 0
-HasRoom keyslots device events = length (list_at keyslots.journals device) + events ≤ max_events
+abbrev pub JournalHasRoom : KeyslotsData → ℕ → ℕ → Type 0
+JournalHasRoom keyslots device events = length (list_at keyslots.journals device) + events ≤ max_events
 
--- ---- Private: what stands behind it
+-- ---- Private: what its contracts speak of
 
--- a device with its keyslots: as many as the script says, with the rows of the script's keys; one is held where a hold
--- is open on the device; its journal is lawful, with no more events than may be recorded, and their numbers are in
--- their ranges
+-- a device with its keyslots: as many as the script says, with the rows of the script's keys; one
+-- is held where a hold is open on the device; its journal is lawful, with no more events than may
+-- be recorded, and their numbers are in their ranges
 pub record IsKeyslotsOf (script : Script) (opened : Option OpenHold) (device : ℕ) (target : Target) (solo : SoloData)
     : Type 0 where
   pub count : solo.count ≡ target.slots
@@ -142,7 +145,7 @@ IsRidOf key solo = InNoSlot (slots_in solo) key
 
 -- the device after a key was taken out
 abbrev pub evicted : ℕ → SoloData → SoloData
-evicted key solo = recorded solo (events_of_eviction (slots_in solo) key) None
+evicted key solo = solo_with_events solo (events_of_eviction (slots_in solo) key) None
 
 -- words that stood in a slot's registers, and the parts of the cipher that they mean
 pub record SlotCipherData : Type 0 where
@@ -150,10 +153,11 @@ pub record SlotCipherData : Type 0 where
   pub parts : CipherParts
 
 -- the cipher, if there is one, is what its words mean to a device with these capabilities
-abbrev pub KeepsTo : Capabilities → Option SlotCipherData → Type 0
-KeepsTo caps kept = IfSome kept (λ c. read_words c.words caps ≡ Ok c.parts)
+abbrev pub MeansItsWords : Capabilities → Option SlotCipherData → Type 0
+MeansItsWords caps kept = IfSome kept (λ c. read_words c.words caps ≡ Ok c.parts)
 
--- the open hold is of a key of the script, on a device whose slot has the key; the slot's cipher is the key's
+-- the open hold is of a key of the script, on a device whose slot has the key; the slot's cipher is
+-- the key's
 pub record IsOpenHold (script : Script) (devices : List SoloData) (ciphers : List (List (Option SlotCipherData)))
     (hold : OpenHold) : Type 0 where
   pub key : KeyData
@@ -165,7 +169,7 @@ pub record IsOpenHold (script : Script) (devices : List SoloData) (ciphers : Lis
   pub kept_at : slice_get (list_at ciphers hold.device) hold.slot ≡ Some (Some kept)
   pub cipher : kept.parts ≡ parts_of key
 
--- what stands behind the keyslots of a script
+-- what the keyslots of a script keep
 pub record IsKeyslots (script : Script) (stack : StackParts) (caps : List Capabilities) (devices : List SoloData)
     (ciphers : List (List (Option SlotCipherData))) (begun : List SoloData) (opened : Option OpenHold) : Type 0 where
   pub rules : IsScript script
@@ -176,7 +180,7 @@ pub record IsKeyslots (script : Script) (stack : StackParts) (caps : List Capabi
       → AllAt script.targets device (λ target. AllAt devices device (IsKeyslotsOf script opened device target))
   pub cipher_count : length ciphers ≡ length script.targets
   pub each_ciphers : (device : ℕ) → AllAt script.targets device (λ target. AllAt ciphers device
-      (λ kept. (length kept ≡ target.slots) × Each (KeepsTo (capabilities_of target.caps)) kept))
+      (λ kept. (length kept ≡ target.slots) × Each (MeansItsWords (capabilities_of target.caps)) kept))
   pub begun_count : length begun ≡ length devices
   pub begins : (device : ℕ)
       → StartsWith (list_at (map journal_in devices) device) (list_at (map journal_in begun) device)

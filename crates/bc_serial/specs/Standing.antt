@@ -1,7 +1,7 @@
--- What holds of the shards of a run by one caller, and what one attempt of a data unit does to them. The contracts of
--- private functions speak of this; no public one does.
-use Rattle.std.specs.Prelude.{◌≡◌, ℕ, ◌+◌, ◌*◌, ◌<◌, ◌≤◌, ◌==◌, Bool, true, false, List, [], ◌∷◌, ◌++◌, length, map}
-use Rattle.std.specs.Prelude.{filter, slice_get, Option, None, ⊤}
+-- What holds of the shards of a run by one caller, and what one attempt of a data unit does to
+-- them. The contracts of private functions speak of this; no public one does.
+use Rattle.std.specs.Prelude.{◌≡◌, ℕ, ◌+◌, ◌*◌, ◌<◌, ◌≤◌, Bool, true, false, List, [], ◌∷◌, ◌++◌, length, map}
+use Rattle.std.specs.Prelude.{slice_get, Option, None}
 use Rattle.std.specs.List.{range_with_len}
 use Rattle.std.specs.Option.{option_map_or}
 use Rattle.bc_base.specs.declared.place.Place.{Place}
@@ -20,9 +20,9 @@ use Rattle.bc_bio.specs.PlannedUnit.{PlannedUnit}
 use Rattle.bc_medium.specs.declared.entry.Entry.{Entry}
 use Rattle.bc_medium.specs.declared.unit_at.UnitAt.{UnitAt}
 use Rattle.bc_medium.specs.declared.via.Via.{Via}
-use Rattle.bc_medium.specs.Places.{shard_of}
-use Rattle.bc_medium.specs.KeyedDisk.{Sectors, image_sectors, UnitAnswer, Faulted, Written, Text as Answered}
-use Rattle.bc_medium.specs.Entries.{name_of_entry, told_by, IsTold, written_entry, read_entry, failed_entry}
+use Rattle.bc_medium.specs.Layout.{shard_of}
+use Rattle.bc_medium.specs.KeyedDisk.{Text as Answered, Sectors, image_sectors, UnitAnswer, Faulted, Written}
+use Rattle.bc_medium.specs.Entries.{name_of_entry, told_by, HasAnswer, written_entry, read_entry, failed_entry}
 use Rattle.bc_medium.specs.Growth.{IsEntryOf, Knows}
 use Rattle.bc_medium.specs.Outcome.{is_fault}
 use Rattle.bc_medium.specs.ShardOrder.{ShardData, HasKeys}
@@ -30,8 +30,6 @@ use Rattle.bc_medium.specs.Shards.{orders_of, Adds}
 use Rattle.bc_profile.specs.declared.event.Event.{Event}
 use Rattle.bc_profile.specs.declared.uses.Use.TheVariants as uses
 use Rattle.bc_script.specs.declared.op.Op.{Op}
-use Rattle.bc_script.specs.declared.op.Text.{Text}
-use Rattle.bc_script.specs.declared.op.Text.TheVariants.{Fill, Bytes}
 use Rattle.bc_script.specs.Script.{Script, IsScript, keys_of, sectors_in, max_ops, max_units, max_bio_units}
 use Rattle.bc_script.specs.Script.{max_bio_sectors}
 use Rattle.bc_script.specs.Bios.{is_inline, refusal_of}
@@ -44,9 +42,9 @@ use Rattle.bc_serial.specs.Keyslots.{KeyslotsData, HaveNotKey, max_events, stori
 
 -- ---- shards
 
--- a shard of the script's disk: writes had the script's keys, the sectors of its blocks are its own, it fails as
--- planned, and it has room for so many entries more
-pub record Stands (script : Script) (shards left shard : ℕ) (s : ShardData RamData) : Type 0 where
+-- a shard of the script's disk: writes had the script's keys, the sectors of its blocks are its
+-- own, it fails as planned, and it has room for so many entries more
+pub record ShardStands (script : Script) (shards left shard : ℕ) (s : ShardData RamData) : Type 0 where
   pub keys : HasKeys (keys_of script) s
   pub owned : (sector : ℕ) → sector < sectors_in script → shard_of shards sector ≡ shard → owns s.start sector ≡ true
   pub blocks : s.start.blocks ≡ script.blocks
@@ -56,14 +54,14 @@ pub record Stands (script : Script) (shards left shard : ℕ) (s : ShardData Ram
 
 -- each shard is such
 abbrev pub AllStand : Script → ℕ → List (ShardData RamData) → Type 0
-AllStand script left shards = (shard : ℕ) → AllAt shards shard (Stands script (length shards) left shard)
+AllStand script left shards = (shard : ℕ) → AllAt shards shard (ShardStands script (length shards) left shard)
 
 -- each device may still record two events for each of so many data units, evictions and resets
 abbrev pub HaveRoom : ℕ → List (List Event) → Type 0
 HaveRoom left journals = Each (λ journal. length journal + 2 * left ≤ max_events) journals
 
--- a script is being carried out: with its keys' ciphers, over shards of its disk, each with room for so many entries
--- more, and over its devices, each with room for as many holds
+-- a script is being carried out: with its keys' ciphers, over shards of its disk, each with room
+-- for so many entries more, and over its devices, each with room for as many holds
 pub record IsCourse (script : Script) (keys : List KeyData) (shards : List (ShardData RamData))
     (keyslots : KeyslotsData) (left : ℕ) : Type 0 where
   pub rules : IsScript script
@@ -77,9 +75,9 @@ pub record IsCourse (script : Script) (keys : List KeyData) (shards : List (Shar
 abbrev pub sectors_at : List (ShardData RamData) → ℕ → Sectors
 sectors_at shards shard = option_map_or (λ s. contents s.start) (slice_get shards shard) (λ sector. [])
 
--- a script that is being carried out by one caller: over which shards, whose section it is, how many data units,
--- evictions and resets more fit, the journals of the devices and what they were when the section began, and the hold
--- that is open
+-- a script that is being carried out by one caller: over which shards, whose section it is, how
+-- many data units, evictions and resets more fit, the journals of the devices and what they were
+-- when the section began, and the hold that is open
 pub record CourseData : Type 0 where
   pub script : Script
   pub shards : List (ShardData RamData)
@@ -90,8 +88,8 @@ pub record CourseData : Type 0 where
   pub opened : Option OpenHold
 
 -- the same as the device of the thread whose section it is
-abbrev pub device_of : CourseData → DeviceData
-device_of course = record {
+abbrev pub own_device : CourseData → DeviceData
+own_device course = record {
   script = course.script;
   shards = length course.shards;
   base = sectors_at course.shards;
@@ -105,27 +103,22 @@ device_of course = record {
 
 -- ---- data units
 
--- a bio can be performed: it isn't refused, has no more data units and sectors than a script's may have, and none of
--- its numbers wraps
-pub record IsPerformable (script : Script) (bio : Extent) : Type 0 where
+-- a bio can be performed: it isn't refused, has no more data units and sectors than a script's may
+-- have, and none of its numbers wraps
+pub record IsPerformableBio (script : Script) (bio : Extent) : Type 0 where
   pub unrefused : refusal_of script bio ≡ None
   pub accepted : IsAccepted (keys_of script) (sectors_in script) bio
   pub few_units : bio.units ≤ max_bio_units
   pub few_sectors : bio.units * unit_sectors (keys_of script) bio.context ≤ max_bio_sectors
   pub no_wrap : (i : ℕ) → i ≤ bio.units → context_wrapped i bio.context ≡ context_after i bio.context
 
--- a text has bytes for this unit, of so many bytes each
-abbrev pub HasUnit : Text → ℕ → ℕ → Type 0
-HasUnit (Fill byte) size i = ⊤
-HasUnit (Bytes bytes) size i = size * i + size ≤ length bytes
-
 -- the first n units of a bio
 abbrev pub first_units : List KeyData → ℕ → Op → Extent → ℕ → List PlannedUnit
 first_units keys op operation bio n = map (unit_at keys op operation bio) (range_with_len 0 n)
 
 -- a thread's unit, where it lies
-abbrev pub at_of : ℕ → PlannedUnit → UnitAt
-at_of thread u = record { caller = thread; tag = u.tag; unit = u.unit; sector = u.sector; context = u.context }
+abbrev pub unit_place_of : ℕ → PlannedUnit → UnitAt
+unit_place_of thread u = record { caller = thread; tag = u.tag; unit = u.unit; sector = u.sector; context = u.context }
 
 -- the entry of a write that went so, with no fault or with one
 abbrev pub entry_of_write : UnitAt → Via → List ℕ → Bool → Entry
@@ -148,7 +141,7 @@ answer_of_read text true = Answered text
 answer_of_read text false = Faulted
 
 -- a shard goes on by an entry, under these keys if it is a write
-pub record GoesOn (keys : List KeyData) (e : Entry) (s s' : ShardData RamData) : Type 0 where
+pub record GoesOnByEntry (keys : List KeyData) (e : Entry) (s s' : ShardData RamData) : Type 0 where
   pub start : s'.start ≡ s.start
   pub keys_are : HasKeys keys s'
   pub entries : s'.entries ≡ s.entries ++ e ∷ []
@@ -159,9 +152,9 @@ pub record Attempted (keys : List KeyData) (old new : List (ShardData RamData)) 
     : Type 0 where
   pub place : Place
   pub adds : Adds old new e place
-  pub goes_on : ChangesAt old new place.shard (GoesOn keys e)
+  pub goes_on : ChangesAt old new place.shard (GoesOnByEntry keys e)
   pub told : AllAt new place.shard
-      (λ s. IsTold (told_by keys (contents s.start) s.entries) (name_of_entry e) answer)
+      (λ s. HasAnswer (told_by keys (contents s.start) s.entries) (name_of_entry e) answer)
 
 -- each shard has room for one entry more than what fits
 abbrev pub HasEntries : CourseData → Type 0
@@ -174,7 +167,8 @@ pub record HasBegun (begun journals : List (List Event)) : Type 0 where
 
 -- ---- evictions and resets
 
--- a key was taken out of the keyslots of all devices, where it goes inline, and another key out of none
+-- a key was taken out of the keyslots of all devices, where it goes inline, and another key out of
+-- none
 pub record EvictsKey (old new : CourseData) (key : KeyNo) : Type 0 where
   pub left : old.left ≡ new.left + 1
   pub same : new ≡ record old { left = new.left; journals = new.journals; opened = new.opened }
@@ -204,7 +198,8 @@ pub record AttemptsUnit (old new : DeviceData) (u : PlannedUnit) (answer : UnitA
 
 -- ---- the whole run
 
--- a run begins: nothing was attempted or recorded yet, and each shard has its own sectors of the image
+-- a run begins: nothing was attempted or recorded yet, and each shard has its own sectors of the
+-- image
 pub record IsBegun (script : Script) (image : List ℕ) (shards : ℕ) (course : CourseData) : Type 0 where
   pub script_is : course.script ≡ script
   pub shards_are : length course.shards ≡ shards

@@ -12,21 +12,21 @@ ghost use Rattle.bc_script.specs.declared.op.Op.{Op};
 ghost use Rattle.bc_script.specs.Script.{keys_of, IsScript, IsText, max_bio_units, max_bio_sectors};
 ghost use Rattle.bc_script.specs.Bios.{refusal_of, unsupported_of};
 ghost use Rattle.bc_script.specs.Plan.{unit_at};
-ghost use Rattle.bc_serial.specs.Standing.{IsPerformable, HasEntries, HasBegun, EvictsKey, ResetsDevice};
-ghost use Rattle.bc_serial.specs.Standing.{answer_of_write, answer_of_read, at_of};
-ghost use Rattle.bc_serial.specs.InTurn.{AttemptsOn, GoesOver, HasOpen, HasOpenAt, PerformsBio, Reaches, via_in};
+ghost use Rattle.bc_serial.specs.Standing.{IsPerformableBio, HasEntries, HasBegun, EvictsKey, ResetsDevice};
+ghost use Rattle.bc_serial.specs.Standing.{answer_of_write, answer_of_read, unit_place_of};
+ghost use Rattle.bc_serial.specs.InTurn.{AttemptsOn, GoesOver, HasOpen, HasOpenAt, PerformsBio, ReachesUnit, via_in};
 
 use crate::ciphers::Ciphers;
 use crate::keyslots::Keyslots;
 use crate::runs_on::back_runs_on;
-use crate::unit_access::{read_unit, text_of_unit, write_unit};
+use crate::unit_access::{read_unit, write_unit};
 use bc_base::{BLOCK_SECTORS, RamStore};
 use bc_bio::{Context, Extent, Refusal, bio_laws};
 use bc_key::{KeyNo, Keys};
 use bc_medium::{Shards, UnitAt, Via, order_laws};
 use bc_report::Answer;
 use bc_script::{Script, Text};
-use bc_section::answer_of;
+use bc_section::{answer_of, text_of_unit};
 use std::alloc::{AllocError, Global};
 use std::marker::Model;
 
@@ -106,7 +106,8 @@ impl Course<'_> {
         self.keyslots.has_begun();
     }
 
-    /// Does nothing, and states that the script keeps its rules, and that each device has a journal.
+    /// Does nothing, and states that the script keeps its rules, and that each device has a
+    /// journal.
     pub(crate) fn has_devices(&self)
         ensures rules { IsScript self.now.script }
         ensures devices { length self.now.journals ≡ length self.now.script.targets }
@@ -145,7 +146,7 @@ impl Course<'_> {
         requires units { bio.now.units ≤ max_bio_units }
         requires sectors { bio.now.units * unit_sectors (keys_of self.now.script) bio.now.context ≤ max_bio_sectors }
         requires unrefused { refusal_of self.now.script bio.now ≡ None }
-        ensures yes { IsTrue result → IsPerformable self.now.script bio.now }
+        ensures yes { IsTrue result → IsPerformableBio self.now.script bio.now }
         ensures no { IsTrue (not result) → ⊥ }
     {
         bio.check(self.ciphers.keys(), BLOCK_SECTORS * self.script.blocks())
@@ -165,13 +166,13 @@ impl Course<'_> {
         }
     }
 
-    /// Takes a hold for data unit number `unit` of a bio, where it goes inline and the hold that is open isn't of its
-    /// key on its device. What fits is one less.
+    /// Takes a hold for data unit number `unit` of a bio, where it goes inline and the hold that is
+    /// open isn't of its key on its device. What fits is one less.
     fn reach(&mut self, bio: &Extent, unit: u64)
-        requires performable { IsPerformable self.old.script bio.now }
+        requires performable { IsPerformableBio self.old.script bio.now }
         requires unit { unit < bio.now.units }
         requires spare { 1 ≤ self.old.left }
-        ensures reaches { Reaches self.old self.new bio.now unit }
+        ensures reaches { ReachesUnit self.old self.new bio.now unit }
         ensures rules { IsScript self.old.script }
         ensures entries { HasEntries self.new }
         ensures opened { HasOpenAt self.new bio.now.context (sector_at (keys_of self.new.script) bio.now unit) }
@@ -211,7 +212,8 @@ impl Course<'_> {
         }
     }
 
-    /// Enciphers a data unit in place, by the hold that is open or by software; without a context it stays as it is.
+    /// Enciphers a data unit in place, by the hold that is open or by software; without a context
+    /// it stays as it is.
     fn encipher(&self, context: Option<Context>, text: &mut [u8])
         requires key { HasKey (keys_of self.now.script) context }
         requires opened { HasOpen self.now context }
@@ -237,7 +239,8 @@ impl Course<'_> {
         }
     }
 
-    /// Deciphers a data unit in place, by the hold that is open or by software; without a context it stays as it is.
+    /// Deciphers a data unit in place, by the hold that is open or by software; without a context
+    /// it stays as it is.
     fn decipher(&self, context: Option<Context>, text: &mut [u8])
         requires key { HasKey (keys_of self.now.script) context }
         requires opened { HasOpen self.now context }
@@ -273,7 +276,7 @@ impl Course<'_> {
         room: &mut [u8],
     ) -> Result<Answer, AllocError>
         requires access { bio.now.access ≡ Access.Write }
-        requires performable { IsPerformable self.old.script bio.now }
+        requires performable { IsPerformableBio self.old.script bio.now }
         requires text { IsText (keys_of self.old.script) bio.now.context bio.now.units text.now }
         requires room { length room.old ≡ 131072 }
         requires spare { bio.now.units ≤ self.old.left }
@@ -292,8 +295,8 @@ impl Course<'_> {
         }
     }
 
-    /// Goes over data unit number `unit` of a bio: reaches it, and writes it where none before it met a fault. Returns
-    /// the number of the one that met a fault, if one did.
+    /// Goes over data unit number `unit` of a bio: reaches it, and writes it where none before it
+    /// met a fault. Returns the number of the one that met a fault, if one did.
     fn write_next(
         &mut self,
         alloc: Global,
@@ -305,7 +308,7 @@ impl Course<'_> {
         fault: Option<u32>,
     ) -> Result<Option<u32>, AllocError>
         requires access { bio.now.access ≡ Access.Write }
-        requires performable { IsPerformable self.old.script bio.now }
+        requires performable { IsPerformableBio self.old.script bio.now }
         requires text { IsText (keys_of self.old.script) bio.now.context bio.now.units text.now }
         requires unit { unit < bio.now.units }
         requires room { length room.old ≡ 131072 }
@@ -337,7 +340,7 @@ impl Course<'_> {
         room: &mut [u8],
     ) -> Result<bool, AllocError>
         requires access { bio.now.access ≡ Access.Write }
-        requires performable { IsPerformable self.old.script bio.now }
+        requires performable { IsPerformableBio self.old.script bio.now }
         requires text { IsText (keys_of self.old.script) bio.now.context bio.now.units text.now }
         requires unit { unit < bio.now.units }
         requires room { length room.old ≡ 131072 }
@@ -364,7 +367,7 @@ impl Course<'_> {
     /// Reads the data units of a bio, one after the other, until one meets a fault.
     pub(crate) fn read(&mut self, op: u32, bio: &Extent, room: &mut [u8]) -> Answer
         requires access { bio.now.access ≡ Access.Read }
-        requires performable { IsPerformable self.old.script bio.now }
+        requires performable { IsPerformableBio self.old.script bio.now }
         requires room { length room.old ≡ 131072 }
         requires spare { bio.now.units ≤ self.old.left }
         ensures room { length room.new ≡ length room.old }
@@ -384,8 +387,8 @@ impl Course<'_> {
         }
     }
 
-    /// Goes over data unit number `unit` of a bio: reaches it, and reads it into its place where none before it met a
-    /// fault. Returns the number of the one that met a fault, if one did.
+    /// Goes over data unit number `unit` of a bio: reaches it, and reads it into its place where
+    /// none before it met a fault. Returns the number of the one that met a fault, if one did.
     fn read_next(
         &mut self,
         op: u32,
@@ -395,7 +398,7 @@ impl Course<'_> {
         fault: Option<u32>,
     ) -> Option<u32>
         requires access { bio.now.access ≡ Access.Read }
-        requires performable { IsPerformable self.old.script bio.now }
+        requires performable { IsPerformableBio self.old.script bio.now }
         requires unit { unit < bio.now.units }
         requires length { length place.old ≡ 512 * unit_sectors (keys_of self.old.script) bio.now.context }
         requires spare { 1 ≤ self.old.left }
@@ -417,7 +420,7 @@ impl Course<'_> {
     /// Reads data unit number `unit` of a bio into its place. Tells whether it met no fault.
     fn read_unit(&mut self, op: u32, bio: &Extent, unit: u64, place: &mut [u8]) -> bool
         requires access { bio.now.access ≡ Access.Read }
-        requires performable { IsPerformable self.old.script bio.now }
+        requires performable { IsPerformableBio self.old.script bio.now }
         requires unit { unit < bio.now.units }
         requires length { length place.old ≡ 512 * unit_sectors (keys_of self.old.script) bio.now.context }
         requires spare { HasEntries self.old }
@@ -444,7 +447,7 @@ fn unit_of_bio(keys: &Keys, thread: u16, op: u32, bio: &Extent, unit: u64) -> Un
     requires unit { unit < bio.now.units }
     requires few { bio.now.units ≤ 256 }
     requires no_wrap { context_wrapped unit bio.now.context ≡ context_after unit bio.now.context }
-    ensures { (operation : Op) → result ≡ at_of thread (unit_at keys.now.keys op operation bio.now unit) }
+    ensures { (operation : Op) → result ≡ unit_place_of thread (unit_at keys.now.keys op operation bio.now unit) }
 {
     UnitAt {
         caller: thread,

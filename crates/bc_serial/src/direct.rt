@@ -3,8 +3,8 @@
 ghost use Rattle.std.specs.Prelude.{◌≡◌, ◌≤◌, None, IfOk, IfSome};
 ghost use Rattle.bc_bio.specs.Conditions.{IsPlaced};
 ghost use Rattle.bc_script.specs.Script.{keys_of, unit_count, IsScriptOp};
-ghost use Rattle.bc_serial.specs.InTurn.{Submits};
-ghost use Rattle.bc_section.specs.Reached.{IsAcceptedBio};
+ghost use Rattle.bc_serial.specs.InTurn.{SubmitsBio};
+ghost use Rattle.bc_section.specs.SectionProgress.{IsAcceptedBio};
 
 use crate::course::Course;
 use bc_bio::{Extent, Refusal};
@@ -37,7 +37,7 @@ impl<'s> Model for Direct<'s> {
 }
 
 impl Direct<'_> {
-    ghost use Rattle.bc_serial.specs.Standing.{device_of};
+    ghost use Rattle.bc_serial.specs.Standing.{own_device};
 
     /// Begins the section of a thread.
     pub(crate) fn begin(&mut self, thread: u16)
@@ -46,8 +46,8 @@ impl Direct<'_> {
         self.course.begin(thread);
     }
 
-    /// Performs an operation's bio, which isn't refused, after the one of the window before it. Its first hold is taken
-    /// anew where it doesn't run on from that one.
+    /// Performs an operation's bio, which isn't refused, after the one of the window before it. Its
+    /// first hold is taken anew where it doesn't run on from that one.
     fn submit(
         &mut self,
         op: u32,
@@ -58,7 +58,7 @@ impl Direct<'_> {
         requires accepted { IsAcceptedBio self.old.script operation.now }
         requires last { IfSome last.now (IsPlaced (keys_of self.old.script)) }
         requires spare { unit_count operation.now ≤ self.old.left }
-        ensures { IfOk result (Submits self.old self.new op operation.now last.now) }
+        ensures { IfOk result (SubmitsBio self.old self.new op operation.now last.now) }
     {
         let Some(bio) = operation.bio() else {
             unreachable!()
@@ -82,9 +82,9 @@ impl Direct<'_> {
 impl Device<(), Answer, AllocError> for Direct<'_> {
     ghost use Rattle.std.specs.Prelude.{◌≤◌, ⊤};
     ghost use Rattle.bc_section.specs.Sections.{cost_in};
-    ghost use Rattle.bc_serial.specs.Standing.{device_of};
+    ghost use Rattle.bc_serial.specs.Standing.{own_device};
 
-    ghost facts = { λ d. device_of d };
+    ghost facts = { λ d. own_device d };
 
     ghost affords = { λ d operations. cost_in operations ≤ d.left };
 

@@ -13,9 +13,9 @@ ghost use Rattle.bc_script.specs.Script.{bare_keys, keys_of};
 ghost use Rattle.bc_modes.specs.Entries.{read_words};
 ghost use Rattle.bc_stack.specs.Devices.{device_at};
 ghost use Rattle.bc_base.specs.Lists.{Each};
-ghost use Rattle.bc_serial.specs.Keyslots.{IsRidOf, MayEvict, evicted, HasRoom, HaveNotKey, IsCipherOf, IsOpenFor};
-ghost use Rattle.bc_serial.specs.Keyslots.{KeepsTo, Takes};
-ghost use Rattle.bc_serial.specs.Keyslots.{row_of_key, is_open_for, used_at, used_each, via_of};
+ghost use Rattle.bc_serial.specs.Keyslots.{IsRidOf, MayEvict, evicted, JournalHasRoom, HaveNotKey, IsCipherOf, IsOpenFor};
+ghost use Rattle.bc_serial.specs.Keyslots.{MeansItsWords, OpensHold};
+ghost use Rattle.bc_serial.specs.Keyslots.{row_of_key, is_open_for, used_at, used_each, via_under};
 ghost use Rattle.bc_serial.specs.Standing.{HasBegun};
 
 use crate::open_hold::OpenHold;
@@ -33,8 +33,8 @@ use std::alloc::{AllocError, Global};
 use std::marker::Model;
 use std::snapshot::Snapshot;
 
-/// The keyslots of a script's devices. One hold may be open: it is given back when another one is taken, and before a
-/// key is evicted or a device reset.
+/// The keyslots of a script's devices. One hold may be open: it is given back when another one is
+/// taken, and before a key is evicted or a device reset.
 #[derive(Drop)]
 pub(crate) struct Keyslots<'s> {
     script: &'s Script,
@@ -146,14 +146,14 @@ impl<'s> Keyslots<'s> {
         }
     }
 
-    /// Takes a hold of the key on the device: it stays open. Where no slot has the key, the least recently idle one is
-    /// programmed with it.
+    /// Takes a hold of the key on the device: it stays open. Where no slot has the key, the least
+    /// recently idle one is programmed with it.
     pub(crate) fn hold(&mut self, device: u8, key: KeyNo)
         requires device { device < length self.old.script.targets }
         requires key { key.0 < length (keys_of self.old.script) }
         requires inline { is_inline self.old.script key ≡ true }
-        requires room { HasRoom self.old device 2 }
-        ensures { Takes self.old self.new device key.0 }
+        requires room { JournalHasRoom self.old device 2 }
+        ensures { OpensHold self.old self.new device key.0 }
     {
         entry_laws();
         self.put();
@@ -186,7 +186,7 @@ impl<'s> Keyslots<'s> {
     /// How a unit goes under the hold that is open.
     pub(crate) fn via(&self) -> Via
         requires { IsSome self.now.opened }
-        ensures { result ≡ via_of self.now.opened }
+        ensures { result ≡ via_under self.now.opened }
     {
         match self.opened {
             Some(hold) => Via::Inline {
@@ -235,7 +235,7 @@ impl<'s> Keyslots<'s> {
     /// Takes the key out of the keyslots of all devices.
     pub(crate) fn evict(&mut self, key: KeyNo)
         requires key { key.0 < length (keys_of self.old.script) }
-        requires room { (device : ℕ) → device < length self.old.script.targets → HasRoom self.old device 1 }
+        requires room { (device : ℕ) → device < length self.old.script.targets → JournalHasRoom self.old device 1 }
         ensures records { self.new ≡ record self.old {
           journals = used_each self.old.script (uses.Evict key) self.old.journals;
           opened = None;
@@ -249,7 +249,7 @@ impl<'s> Keyslots<'s> {
     /// Has a device program its keyslots again.
     pub(crate) fn reset(&mut self, device: u8)
         requires device { device < length self.old.script.targets }
-        requires room { HasRoom self.old device 1 }
+        requires room { JournalHasRoom self.old device 1 }
         ensures { self.new ≡ record self.old {
           journals = used_at self.old.script device uses.Reset self.old.journals;
           opened = None;
@@ -336,10 +336,10 @@ fn no_ciphers(alloc: Global, slots: u16) -> Result<Vec<Option<SlotCipher>>, Allo
     Ok(ciphers)
 }
 
-/// Has the cipher that these words mean kept: the one that is there, where it is that of the same words, and else a new
-/// one.
+/// Has the cipher that these words mean kept: the one that is there, where it is that of the same
+/// words, and else a new one.
 fn keep_cipher(kept: &mut Option<SlotCipher>, words: &Row, caps: &UfsCaps)
-    requires kept { KeepsTo caps.now kept.old }
+    requires kept { MeansItsWords caps.now kept.old }
     requires reads { IsOk (read_words words.now caps.now) }
     ensures { IsSomeAnd kept.new (λ c. (c.words ≡ words.now) × (read_words words.now caps.now ≡ Ok c.parts)) }
 {

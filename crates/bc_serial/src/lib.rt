@@ -1,7 +1,8 @@
-//! A script carried out by one caller: section after section, over shards and keyslots that are plain values.
+//! A script carried out by one caller: section after section, over shards and keyslots that are
+//! plain values.
 //!
-//! [`serial`] promises a lawful run whose orders and journals are those of one caller, so that script, image and number
-//! of shards decide it whole.
+//! [`serial`] promises a lawful run whose orders and journals are those of one caller, so that
+//! script, image and number of shards decide it whole.
 #![tactic(auto)]
 
 // a section's operations, and what carries them out

@@ -11,8 +11,8 @@ ghost use Rattle.bc_report.specs.LawfulRun.{LawfulRun};
 ghost use Rattle.bc_report.specs.RunOf.{run_of};
 ghost use Rattle.bc_report.specs.SerialRun.{IsSerial};
 ghost use Rattle.bc_section.specs.Sections.{SectionsDone, cost_of_section};
-ghost use Rattle.bc_section.specs.Reached.{CarriesSection};
-ghost use Rattle.bc_serial.specs.Standing.{HasBegun, IsBegun, device_of};
+ghost use Rattle.bc_section.specs.SectionProgress.{CarriesSection};
+ghost use Rattle.bc_serial.specs.Standing.{HasBegun, IsBegun, own_device};
 
 use crate::ciphers::Ciphers;
 use crate::course::Course;
@@ -70,7 +70,7 @@ pub fn serial(
     } = course;
     let devices = keyslots.close(alloc)?;
     let (stores, orders) = shards.close();
-    let image = RamStore::join(alloc, &stores, script.blocks())?;
+    let image = RamStore::into_image(alloc, stores, script.blocks())?;
     let lines = lines_of_shards(alloc, orders.as_slice())?;
     sections_make_a_lawful_run();
     sections_in_turn_make_a_serial_run();
@@ -92,7 +92,7 @@ fn begin<'s>(
     requires shards { (1 ≤ shards) × (shards ≤ 64) }
     ensures { IfOk result (IsBegun script.now image.items shards) }
 {
-    let stores = stores_of(alloc, script, image.as_slice(), shards)?;
+    let stores = stores_of(alloc, script, image, shards)?;
     let quotas = vec![in alloc; MAX_ACTIONS; usize::from(shards)]?;
     let course = Course {
         script,
@@ -120,7 +120,7 @@ fn carry_sections_out(
     requires untouched { (shard : ℕ) → list_at (orders_of direct.old.shards) shard ≡ [] }
     requires unused { (device : ℕ) → list_at direct.old.journals device ≡ [] }
     requires spare { sum_by cost_of_section sections.now ≤ direct.old.left }
-    ensures done { IfOk result (SectionsDone (device_of direct.old) (device_of direct.new) sections.now) }
+    ensures done { IfOk result (SectionsDone (own_device direct.old) (own_device direct.new) sections.now) }
     ensures begun { OnOk result (HasBegun direct.new.begun direct.new.journals) }
 {
     let mut answers = Vec::with_capacity(alloc, sections.len())?;
@@ -145,8 +145,8 @@ fn carry_section_out(
     requires few { length section.now ≤ max_ops }
     requires spare { cost_of_section section.now ≤ direct.old.left }
     ensures { IfOk result (CarriesSection
-        (device_of (record direct.old { thread = thread; begun = direct.old.journals; opened = None }))
-        (device_of direct.new) section.now) }
+        (own_device (record direct.old { thread = thread; begun = direct.old.journals; opened = None }))
+        (own_device direct.new) section.now) }
 {
     direct.begin(thread);
     let mut noted = vec![in alloc; None; section.len()]?;

@@ -7,8 +7,8 @@ ghost use Rattle.bc_bio.specs.Conditions.{IsPlaced};
 use bc_bio::{Context, Extent};
 use bc_key::Keys;
 
-/// Whether `second` runs on at the back of `first`: the same access, the next sector, and no context in both or one key
-/// and the next number.
+/// Whether `second` runs on at the back of `first`: the same access, the next sector, and no
+/// context in both or one key and the next number.
 pub(crate) fn back_runs_on(keys: &Keys, first: &Extent, second: &Extent) -> bool
     requires first { IsPlaced keys.now.keys first.now }
     requires second { IsPlaced keys.now.keys second.now }

@@ -1,23 +1,21 @@
 //! Data units, written to the shards of a disk and read from them, one at a time.
 
-ghost use Rattle.std.specs.Prelude.{◌≡◌, ◌*◌, ◌/◌, ◌+◌, ◌≤◌, List, length, replicate, slice_range, IfOk};
+ghost use Rattle.std.specs.Prelude.{◌≡◌, ◌*◌, ◌/◌, List, length};
 ghost use Rattle.bc_base.specs.RamStores.{owns};
 ghost use Rattle.bc_key.specs.KeyData.{KeyData};
 ghost use Rattle.bc_bio.specs.Extent.{unit_sectors};
 ghost use Rattle.bc_bio.specs.Conditions.{HasKey};
 ghost use Rattle.bc_medium.specs.KeyedDisk.{enciphered, deciphered};
 ghost use Rattle.bc_medium.specs.Shards.{HaveKeys, Own, HasSpare};
-ghost use Rattle.bc_script.specs.Plan.{text_at};
-ghost use Rattle.bc_serial.specs.Standing.{HasUnit, Attempted, entry_of_write, answer_of_write, entry_of_read};
+ghost use Rattle.bc_serial.specs.Standing.{Attempted, entry_of_write, answer_of_write, entry_of_read};
 ghost use Rattle.bc_serial.specs.Standing.{answer_of_read};
 
 use bc_base::RamStore;
 use bc_key::Keys;
 use bc_medium::{Shards, UnitAt, Via};
-use bc_script::Text;
-use std::alloc::{AllocError, Global};
 
-/// Writes a data unit, whose bytes in the clear are `plain` and enciphered `cipher`. Tells whether it met no fault.
+/// Writes a data unit, whose bytes in the clear are `plain` and enciphered `cipher`. Tells whether
+/// it met no fault.
 pub(crate) fn write_unit(
     shards: &mut Shards<RamStore>,
     keys: &Keys,
@@ -42,7 +40,8 @@ pub(crate) fn write_unit(
     }
 }
 
-/// Reads a data unit as it stands. Tells whether it met no fault; where it met one the bytes of the place mean nothing.
+/// Reads a data unit as it stands. Tells whether it met no fault; where it met one the bytes of the
+/// place mean nothing.
 pub(crate) fn read_unit(
     shards: &mut Shards<RamStore>,
     at: &UnitAt,
@@ -62,35 +61,4 @@ pub(crate) fn read_unit(
         Ok(_) => return true,
         Err(_) => return false,
     }
-}
-
-/// The bytes of data unit number `unit` of a text, of `size` bytes each.
-pub(crate) fn text_of_unit(
-    alloc: Global,
-    text: &Text,
-    size: usize,
-    unit: usize,
-) -> Result<Vec<u8>, AllocError>
-    requires { HasUnit text.now size unit }
-    ensures { IfOk result (λ plain. plain.items ≡ text_at text.now size unit) }
-{
-    match text {
-        Text::Fill(byte) => fill(alloc, *byte, size),
-        Text::Bytes(bytes) => copy_unit(alloc, bytes.as_slice(), size, unit),
-    }
-}
-
-fn fill(alloc: Global, byte: u8, size: usize) -> Result<Vec<u8>, AllocError>
-    ensures { IfOk result (λ plain. plain.items ≡ replicate size byte) }
-{
-    Ok(vec![in alloc; byte; size]?)
-}
-
-/// Copies part number `unit` of these bytes, of `size` bytes each.
-fn copy_unit(alloc: Global, bytes: &[u8], size: usize, unit: usize) -> Result<Vec<u8>, AllocError>
-    requires { size * unit + size ≤ length bytes.now }
-    ensures { IfOk result (λ plain. plain.items ≡ slice_range bytes.now (size * unit) (size * unit + size)) }
-{
-    let start = size * unit;
-    Ok(bytes[start..start + size].to_vec(alloc)?)
 }

@@ -14,9 +14,9 @@ direction_of word =
     else (if bytes_eq word (codes "decrypt") then Some Decrypt else None)
 
 -- what a data unit's number and text become, one way
-abbrev pub unit_of : Direction → CipherParts → ℕ → List ℕ → List ℕ
-unit_of Encrypt parts = encipher_unit parts.mode parts.raw
-unit_of Decrypt parts = decipher_unit parts.mode parts.raw
+abbrev pub cipher_of_unit : Direction → CipherParts → ℕ → List ℕ → List ℕ
+cipher_of_unit Encrypt parts = encipher_unit parts.mode parts.raw
+cipher_of_unit Decrypt parts = decipher_unit parts.mode parts.raw
 
 -- n units of so many bytes, one after the other: unit i is `cipher i` of unit i of the texts
 abbrev pub each_unit : (ℕ → List ℕ → List ℕ) → ℕ → ℕ → List ℕ → List ℕ
@@ -32,4 +32,4 @@ texts_of n = map text_byte (range_with_len 0 n)
 
 -- the SHA-256 of n such units of so many bytes, taken one way
 abbrev pub unit_digest : Direction → CipherParts → ℕ → ℕ → List ℕ
-unit_digest way parts size n = sha256 (each_unit (unit_of way parts) size n (texts_of (n * size)))
+unit_digest way parts size n = sha256 (each_unit (cipher_of_unit way parts) size n (texts_of (n * size)))

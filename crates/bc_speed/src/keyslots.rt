@@ -1,5 +1,5 @@
 //! Holds of keys by a keyslot manager for one caller.
-ghost use Rattle.std.specs.Prelude.{◌≡◌, ◌≤◌, length, IfOk, None};
+ghost use Rattle.std.specs.Prelude.{◌≡◌, ◌≤◌, length, IfOk, OnOk, None};
 
 use anyhow::{Result, bail};
 use bc_key::KeyNo;
@@ -54,6 +54,7 @@ fn rows(alloc: Global) -> Result<Vec<Row>, AllocError>
 fn hold_keys(solo: &mut Solo, holds: u32) -> Result<()>
     requires free { solo.old.held ≡ None }
     requires keys { length solo.old.rows ≡ 4096 }
+    ensures free { OnOk result (solo.new.held ≡ None) }
 {
     let mut random: u32 = 1;
     for _ in 0..holds {

@@ -119,6 +119,7 @@ fn hold_all<R: Threads + Wait + Sync>(
 ) -> Result<Vec<SlotPass>, AllocError>
     requires passes { All (IsFree profile.now) passes.items }
     requires keys { length profile.now.rows ≡ 64 }
+    ensures { IfOk result (λ passes. All (IsFree profile.now) passes.items) }
 {
     thread::map_vec(
         rt,

@@ -1,6 +1,6 @@
 //! What a text from outside says: a report, or the first line that no report has there.
 ghost use Rattle.std.specs.Prelude.{◌≡◌, ◌-◌, ◌^◌, ◌<◌, length, IfOk, IfErr};
-ghost use Rattle.bc_report.specs.ReportErrors.{IsRefused};
+ghost use Rattle.bc_report.specs.ReportErrors.{IsRefusedReport};
 
 use anyhow::{Result, bail};
 use bc_report::ReportError;
@@ -14,7 +14,7 @@ pub const MOST_BYTES: usize = 1 << 26;
 fn printed_again(alloc: Global, text: &[u8]) -> Result<Vec<u8>, ReportError>
     requires { length text.now < 2 ^ 32 - 1 }
     ensures same { IfOk result (λ printed. printed.items ≡ text.now) }
-    ensures refused { IfErr result (IsRefused text.now) }
+    ensures refused { IfErr result (IsRefusedReport text.now) }
 {
     let report = bc_report::parse(alloc, text)?;
     match bc_report::print(alloc, &report) {

@@ -1,5 +1,6 @@
 //! A script's text: built in memory, parsed, and printed.
 ghost use Rattle.std.specs.Prelude.{◌≡◌, ◌++◌, OnOk, codes};
+ghost use Rattle.bc_speed.specs.Texts.{SomeScriptHas};
 
 use crate::units::{self, PERIOD};
 use anyhow::{Result, bail};
@@ -49,7 +50,9 @@ fn put_write(text: &mut Vec<u8>, digits: &[u8]) -> Result<(), AllocError>
 }
 
 /// Parses the text and prints the script, once. `Err` also where the text is no script's, or another one was printed.
-pub fn there_and_back(rt: &impl Clock, alloc: Global, text: &[u8]) -> Result<Times> {
+pub fn there_and_back(rt: &impl Clock, alloc: Global, text: &[u8]) -> Result<Times>
+    ensures { OnOk result (SomeScriptHas text.now) }
+{
     let start = Instant::now(rt)?;
     let script = bc_script::parse(alloc, text)?;
     let parse = start.elapsed(rt)?;

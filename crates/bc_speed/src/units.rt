@@ -1,7 +1,7 @@
 //! Many data units, one after the other: unit i has the number i.
 ghost use Rattle.std.specs.Prelude.{◌≡◌, ◌*◌, length, IfOk};
 ghost use Rattle.bc_key.specs.DataUnits.{bytes_of};
-ghost use Rattle.bc_speed.specs.Units.{each_unit, text_byte, texts_of, unit_digest, unit_of};
+ghost use Rattle.bc_speed.specs.Units.{each_unit, text_byte, texts_of, unit_digest, cipher_of_unit};
 
 use crate::direction::Direction;
 use bc_key::Dun;
@@ -48,7 +48,7 @@ fn number(unit: usize) -> Dun
 /// Takes one data unit one way, in place.
 pub fn carry_unit(way: Direction, cipher: &UnitCipher, dun: &Dun, text: &mut [u8])
     requires { length text.old ≡ bytes_of cipher.now.unit }
-    ensures { text.new ≡ unit_of way cipher.now dun.now text.old }
+    ensures { text.new ≡ cipher_of_unit way cipher.now dun.now text.old }
 {
     match way {
         Direction::Encrypt => cipher.encrypt(dun, text),
@@ -60,7 +60,7 @@ pub fn carry_unit(way: Direction, cipher: &UnitCipher, dun: &Dun, text: &mut [u8
 pub fn carry_units(way: Direction, cipher: &UnitCipher, texts: &mut [u8], size: usize, units: usize)
     requires size { size ≡ bytes_of cipher.now.unit }
     requires whole { length texts.old ≡ units * size }
-    ensures { texts.new ≡ each_unit (unit_of way cipher.now) size units texts.old }
+    ensures { texts.new ≡ each_unit (cipher_of_unit way cipher.now) size units texts.old }
 {
     for unit in 0..units {
         carry_unit(

@@ -1,6 +1,6 @@
 -- A piece of a request: its units up to the first on another device.
-use Rattle.std.proofs.Common.{◌≡◌, ◌≢◌, ℕ, zero, suc, ◌+◌, ◌-◌, ◌<◌, ◌≤◌, Bool, true, false, cond, List, [], ◌∷◌, ◌++◌, length, take, drop, refl, sym, ap, subst, ◌∙◌, arith, Option, Some, None, length-drop}
-use Rattle.std.specs.Prelude.{◌==◌, nat_lt, not, position, slice_get, flat_map}
+use Rattle.std.proofs.Common.{◌≡◌, ℕ, zero, suc, ◌+◌, ◌-◌, ◌<◌, ◌≤◌, Bool, true, false, cond, List, [], ◌∷◌, length, take, drop, refl, sym, ap, subst, ◌∙◌, arith, Option, Some, None, length-drop}
+use Rattle.std.specs.Prelude.{◌==◌, nat_lt, not, position, slice_get}
 use Rattle.std.specs.List.{position_or_len}
 use Rattle.std.proofs.lemmas.Bool.Decides.{nat_tests}
 use Rattle.std.proofs.lemmas.List.{length-append}
@@ -13,7 +13,7 @@ use Rattle.std.proofs.lemmas.Option.{same_Some, none-some}
 use Rattle.bc_bio.specs.Chunks.{chunks_with, chunk_by}
 use Rattle.bc_bio.specs.Windows.{NamedUnit, TaggedBio, named_unit, named_units, units_of_request, count_units}
 use Rattle.bc_stack.specs.declared.target.Target.{Target}
-use Rattle.bc_stack.specs.Pieces.{device_of, same_device, pieces_of, EndsPiece}
+use Rattle.bc_stack.specs.Pieces.{device_of, pieces_of, EndsPiece}
 
 module _ {X : Type 0} (number : X → ℕ) where
   abbrev together : X → X → Bool
@@ -54,7 +54,7 @@ module _ {X : Type 0} (number : X → ℕ) where
       let rest = chunk_to y ys k (omega arith) (λ i below. same (suc i) (omega arith) ∙ ap (λ (n : ℕ). Some n) (sym here)) (λ inside e. other (omega arith) (e ∙ ap (λ (n : ℕ). Some n) here)) in
       goes_on x y ys (take k ys) (chunk_by together (drop k ys)) (sym here) rest
 
-slice_get-drop : {X : Type 0} (xs : List X) (n i : ℕ) → slice_get (drop n xs) i ≡ slice_get xs (n + i)
+pub slice_get-drop : {X : Type 0} (xs : List X) (n i : ℕ) → slice_get (drop n xs) i ≡ slice_get xs (n + i)
 slice_get-drop xs zero i = ap (slice_get xs) (let same : i ≡ 0 + i = omega arith in same)
 slice_get-drop [] (suc n) i = refl
 slice_get-drop (x ∷ xs) (suc n) i = slice_get-drop xs n i ∙ ap (slice_get (x ∷ xs)) (let same : suc (n + i) ≡ suc n + i = omega arith in same)
@@ -81,7 +81,7 @@ piece_from targets units first device end ends =
     (λ i below. ap (option_map (device_of targets)) (slice_get-drop units first i) ∙ ends.on_device (first + i) (omega arith) (omega arith))
     (λ inside e. ends.changes (omega (arith, len)) (sym (ap (λ (n : ℕ). option_map (device_of targets) (slice_get units n)) last) ∙ sym (ap (option_map (device_of targets)) (slice_get-drop units first (end - first))) ∙ e))
 
--- ---- what the calls are told
+-- ---- what the calls are given
 
 position_within : {X : Type 0} (test : X → Bool) (xs : List X) → position_or_len test xs ≤ length xs
 position_within test [] = omega arith

@@ -7,7 +7,7 @@ use Rattle.bc_stack.specs.declared.stack.TheConstants.{MAX_DEVICES}
 use Rattle.bc_stack.specs.declared.target.Target.{Target}
 use Rattle.bc_stack.specs.declared.stack_error.StackError.TheVariants.{Gap, Empty, TooMany}
 use Rattle.bc_stack.specs.Devices.{end_of_target}
-use Rattle.bc_stack.specs.Targets.{refusal_from, refusal_of, HasSlots, LieBetween, IsStack}
+use Rattle.bc_stack.specs.Targets.{refusal_from, stack_error_of, HasSlots, LieBetween, IsStack}
 
 -- a test that refuses was not met
 not_refused : {E : Type 0} (test : Bool) (error : E) (others : Option E) → cond test (Some error) others ≡ None → (test ≡ false) × (others ≡ None)
@@ -27,7 +27,7 @@ lie_between first (target ∷ targets) blocks h =
     let not_empty : 1 ≤ target.blocks = grind (arith, nat_tests, some.0) in
     (eqb-true target.first first row.0, not_empty, lie_between (end_of_target target) targets blocks row.1)
 
-pub stack_stands : (targets : List Target) (blocks : ℕ) → All HasSlots targets → refusal_of targets blocks ≡ None → IsStack targets blocks
+pub stack_stands : (targets : List Target) (blocks : ℕ) → All HasSlots targets → stack_error_of targets blocks ≡ None → IsStack targets blocks
 stack_stands [] blocks slots h = record { few = omega arith; cover = tt; slots = slots }
 stack_stands (target ∷ targets) blocks slots h =
     let some : (length (target ∷ targets) == 0) ≡ false = ne_eqb (length (target ∷ targets)) 0 (λ e. omega arith) in

@@ -20,8 +20,8 @@ same_device targets first second = device_of targets first == device_of targets 
 abbrev pub pieces_of : List Target → List NamedUnit → List (List NamedUnit)
 pieces_of targets units = chunk_by (same_device targets) units
 
--- Private: from unit number `first` on, the units below `end` lie on this device, and the one at `end`, if there is one, on
--- another.
+-- Private: from unit number `first` on, the units below `end` lie on this device, and the one at
+-- `end`, if there is one, on another.
 pub record EndsPiece (targets : List Target) (units : List NamedUnit) (first device end : ℕ) : Type 0 where
   pub after_first : first < end
   pub within : end ≤ length units

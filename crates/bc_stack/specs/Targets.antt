@@ -21,18 +21,18 @@ refusal_from first (target ∷ targets) blocks =
     else Some Gap)
 
 -- why these targets make no stack over so many blocks, if they make none
-abbrev pub refusal_of : List Target → ℕ → Option StackError
-refusal_of targets blocks =
+abbrev pub stack_error_of : List Target → ℕ → Option StackError
+stack_error_of targets blocks =
     if length targets == 0 then None
     else (if nat_lt MAX_DEVICES (length targets) then Some TooMany
     else refusal_from 0 targets blocks)
 
 -- the error is the first test that fails, or there was no memory for targets that pass
 abbrev pub IsRefusal : List Target → ℕ → StackError → Type 0
-IsRefusal targets blocks Memory = refusal_of targets blocks ≡ None
-IsRefusal targets blocks Gap = refusal_of targets blocks ≡ Some Gap
-IsRefusal targets blocks Empty = refusal_of targets blocks ≡ Some Empty
-IsRefusal targets blocks TooMany = refusal_of targets blocks ≡ Some TooMany
+IsRefusal targets blocks Memory = stack_error_of targets blocks ≡ None
+IsRefusal targets blocks Gap = stack_error_of targets blocks ≡ Some Gap
+IsRefusal targets blocks Empty = stack_error_of targets blocks ≡ Some Empty
+IsRefusal targets blocks TooMany = stack_error_of targets blocks ≡ Some TooMany
 
 -- a target has 1 to 32 keyslots
 pub record HasSlots (target : Target) : Type 0 where

@@ -7,7 +7,7 @@ ghost use Rattle.bc_bio.specs.Windows.{IsRequest, count_units, units_of_request}
 ghost use Rattle.bc_bio.specs.Requests.{tagged_bios};
 ghost use Rattle.bc_stack.specs.Pieces.{EndsPiece, LiesOnDevice, device_of, pieces_of};
 ghost use Rattle.bc_stack.specs.Devices.{device_at, caps_of, all_support};
-ghost use Rattle.bc_stack.specs.Targets.{HasSlots, IsRefusal, IsStack, refusal_of};
+ghost use Rattle.bc_stack.specs.Targets.{HasSlots, IsRefusal, IsStack, stack_error_of};
 
 use crate::{StackError, Target};
 use bc_bio::Request;
@@ -18,7 +18,8 @@ use std::marker::Model;
 /// How many devices a stack can have.
 pub const MAX_DEVICES: usize = 8;
 
-/// The devices of a disk, each with the blocks after those of the one before it. Without devices no block lies on one.
+/// The devices of a disk, each with the blocks after those of the one before it. Without devices no
+/// block lies on one.
 #[derive(Drop)]
 pub struct Stack {
     targets: Vec<Target>,
@@ -40,12 +41,13 @@ impl Stack {
     ///
     /// # Errors
     ///
-    /// `TooMany` where there are more than [`MAX_DEVICES`] targets; then, from the first target on, `Empty` where it has no
-    /// blocks and `Gap` where it doesn't begin at the end of the one before; then `Gap` where there are targets and the
-    /// last one doesn't end with the disk. `Memory` where there is no memory for targets that pass.
+    /// `TooMany` where there are more than [`MAX_DEVICES`] targets; then, from the first target on,
+    /// `Empty` where it has no blocks and `Gap` where it doesn't begin at the end of the one
+    /// before; then `Gap` where there are targets and the last one doesn't end with the disk.
+    /// `Memory` where there is no memory for targets that pass.
     pub fn new(alloc: Global, targets: &[Target], blocks: u32) -> Result<Stack, StackError>
         requires { All HasSlots targets.now }
-        ensures accepts { OnOk result (refusal_of targets.now blocks ≡ None) }
+        ensures accepts { OnOk result (stack_error_of targets.now blocks ≡ None) }
         ensures refuses { IfErr result (IsRefusal targets.now blocks) }
         ensures stack { IfOk result (λ stack.
             stack ≡ record { targets = targets.now; blocks = blocks }) }
@@ -93,8 +95,9 @@ impl Stack {
         }
     }
 
-    /// The device of unit number `first` of a request, and how many units from there stand in it, up to the first that lies
-    /// on another device or to the request's end. Each unit from `first` on lies in one target.
+    /// The device of unit number `first` of a request, and how many units from there stand in it,
+    /// up to the first that lies on another device or to the request's end. Each unit from `first`
+    /// on lies in one target.
     pub fn cut_at_borders(&self, keys: &Keys, request: &Request, first: u32) -> (u8, u32)
         requires request { IsRequest keys.now.keys (tagged_bios request.now.bios) }
         requires within { first < count_units (tagged_bios request.now.bios) }
@@ -164,7 +167,7 @@ fn position_of(targets: &[Target], sector: u32) -> Option<usize>
 
 /// Whether these targets make a stack over a disk of so many blocks.
 fn check(targets: &[Target], blocks: u32) -> Result<(), StackError>
-    ensures accepts { OnOk result (refusal_of targets.now blocks ≡ None) }
+    ensures accepts { OnOk result (stack_error_of targets.now blocks ≡ None) }
     ensures refuses { IfErr result (IsRefusal targets.now blocks) }
 {
     if targets.is_empty() {

@@ -8,7 +8,8 @@ use thiserror::Error;
 /// Why targets make no stack.
 #[derive(Clone, Copy, Debug, PartialEq, Eq, Error)]
 pub enum StackError {
-    /// A target doesn't begin where the one before it ends, or the last one doesn't end with the disk.
+    /// A target doesn't begin where the one before it ends, or the last one doesn't end with the
+    /// disk.
     #[error("the devices leave a gap")]
     Gap,
     /// A target has no blocks.

@@ -7,7 +7,8 @@ use bc_key::{Caps, Config, DataUnit, Mode};
 use std::alloc::{AllocError, Global};
 use std::test::Fail;
 
-/// Targets with one keyslot each: the first block, how many there are, and the data unit sizes of XTS.
+/// Targets with one keyslot each: the first block, how many there are, and the data unit sizes of
+/// XTS.
 fn targets_of(alloc: Global, parts: &[(u32, u32, u8)]) -> Result<Vec<Target>, AllocError>
     ensures { IfOk result (λ targets. All HasSlots targets.items) }
 {

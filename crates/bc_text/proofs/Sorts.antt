@@ -23,7 +23,7 @@ module _ (X : Type 0) (line_of : X → TextLine) (Valid : X → Type 0) (Stop : 
       let more = same_reading xs ys a b p.1 q.1 sa sb (others (line_of x) (line_of y) (map line_of xs ++ a) (map line_of ys ++ b) e) in
       (ap (λ (z : X). z ∷ xs) here ∙ ap (λ (zs : List X). y ∷ zs) more.0, more.1)
 
-  -- what is read so far is a front of every reading, which goes on with the next line
+  -- what is read so far is a prefix of every reading, which goes on with the next line
   pub goes_on : (xs ys : List X) (now rest : List TextLine) → AllByRecursion Valid xs → AllByRecursion Valid ys → (Stop now → ⊥) → Stop rest → map line_of xs ++ now ≡ map line_of ys ++ rest
       → (y : X) × (zs : List X) × Valid y × (ys ≡ xs ++ y ∷ zs) × (now ≡ line_of y ∷ (map line_of zs ++ rest))
   goes_on [] [] now rest p q on stop e = absurd (on (subst Stop (sym e) stop))

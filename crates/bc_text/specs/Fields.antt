@@ -1,5 +1,5 @@
--- What a field is the text of: a number in decimal digits, or bytes in hexadecimal digits. Each value has one text, so that
--- reading is stated by printing.
+-- What a field is the text of: a number in decimal digits, or bytes in hexadecimal digits. Each
+-- value has one text, so that reading is stated by printing.
 use Rattle.std.specs.Prelude.{◌≡◌, ◌==◌, ◌&&◌, nat_le, if◌then◌else◌, Bool, ℕ, false, List, [], ◌∷◌, length, Option, MatchOption}
 use Rattle.hex.specs.Hex.{encode_lower, IsBytes}
 

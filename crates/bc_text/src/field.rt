@@ -5,8 +5,8 @@ ghost use Rattle.std.specs.Fmt.{decimal};
 ghost use Rattle.bc_text.specs.Fields.{Reads, ReadsBytes, begins_plainly, byte_text, is_upper_digit};
 ghost use Rattle.std.specs.List.{list_any};
 
-/// The number from `least` to `most` whose decimal digits the field is, without leading zeros; `None` where it is
-/// those of no such number.
+/// The number from `least` to `most` whose decimal digits the field is, without leading zeros;
+/// `None` where it is those of no such number.
 pub fn number(field: &[u8], least: u32, most: u32) -> Option<u32>
     ensures { Reads (λ n. (least ≤ n) × (n ≤ most)) decimal field.now result }
 {
@@ -40,8 +40,9 @@ fn value_of(field: &[u8]) -> Option<u32>
     text.parse::<u32>().ok()
 }
 
-/// Fills `out` with the bytes whose hexadecimal digits the field is, two of lower case for each; `None` where the field
-/// isn't the digits of as many bytes as `out` has, and then `out` has any bytes.
+/// Fills `out` with the bytes whose hexadecimal digits the field is, two of lower case for each;
+/// `None` where the field isn't the digits of as many bytes as `out` has, and then `out` has any
+/// bytes.
 pub fn bytes_into(field: &[u8], out: &mut [u8]) -> Option<()>
     ensures { ReadsBytes field.now (length out.old) out.new result }
 {
@@ -54,7 +55,8 @@ pub fn bytes_into(field: &[u8], out: &mut [u8]) -> Option<()>
     }
 }
 
-/// The byte whose two hexadecimal digits of lower case the field is; `None` where it is those of no byte.
+/// The byte whose two hexadecimal digits of lower case the field is; `None` where it is those of no
+/// byte.
 pub fn byte(field: &[u8]) -> Option<u8>
     ensures { Reads (λ b. b < 256) byte_text field.now result }
 {

@@ -7,7 +7,8 @@ ghost use Rattle.hex.specs.Hex.{encode_lower};
 use itoa::Buffer;
 use std::alloc::AllocError;
 
-/// Appends a number to a text in decimal digits without a leading zero, as [`number`](crate::number) reads it.
+/// Appends a number to a text in decimal digits without a leading zero, as
+/// [`number`](crate::number) reads it.
 ///
 /// # Errors
 ///
@@ -20,8 +21,8 @@ pub fn put_number(text: &mut Vec<u8>, n: u64) -> Result<(), AllocError>
     text.extend_from_slice(buffer.format(n).as_bytes())
 }
 
-/// Appends bytes to a text, each in two hexadecimal digits of lower case, as [`bytes_into`](crate::bytes_into) reads
-/// them.
+/// Appends bytes to a text, each in two hexadecimal digits of lower case, as
+/// [`bytes_into`](crate::bytes_into) reads them.
 ///
 /// # Errors
 ///

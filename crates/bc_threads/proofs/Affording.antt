@@ -15,20 +15,20 @@ use Rattle.bc_bio.specs.declared.extent.Extent.{Extent}
 use Rattle.bc_bio.specs.declared.reply.Reply.{Reply}
 use Rattle.bc_bio.specs.PlannedUnit.{PlannedUnit}
 use Rattle.bc_medium.specs.Medium.{shards_of}
-use Rattle.bc_medium.specs.Places.{shard_of}
-use Rattle.bc_queue.specs.RequestUnits.{units_on}
+use Rattle.bc_medium.specs.Layout.{shard_of}
+use Rattle.bc_queue.specs.RequestUnits.{count_units_on}
 use Rattle.bc_queue.specs.Plugs.{PlugParts, no_bios}
 use Rattle.bc_script.specs.declared.op.Op.{Op}
 use Rattle.bc_script.specs.Script.{Script}
 use Rattle.bc_script.specs.Bios.{bio_of}
 use Rattle.bc_script.specs.Plan.{units_of}
-use Rattle.bc_compose.specs.Ordered.{Pairs}
-use Rattle.bc_section.specs.Reached.{IsAcceptedBio, MayBePlugged, numbered}
+use Rattle.bc_compose.specs.OrderedHolds.{Pairs}
+use Rattle.bc_section.specs.SectionProgress.{IsAcceptedBio, MayBePlugged, numbered}
 use Rattle.bc_disk.specs.Disks.{DiskData, IsPassOf, PassData, events_left, facts_on}
-use Rattle.bc_threads.specs.Asked.{entries_asked, events_asked, events_of_one}
-use Rattle.bc_threads.specs.Prepared.{IsBioOf, IsPrepared}
+use Rattle.bc_threads.specs.Demand.{entries_asked, events_asked, events_of_one}
+use Rattle.bc_threads.specs.PreparedBios.{IsBioOf, IsPrepared}
 use Rattle.bc_threads.specs.Plugging.{SameBeside}
-use Rattle.bc_threads.specs.Shared.{CanCarryOut}
+use Rattle.bc_threads.specs.SharedDevice.{CanCarryOut}
 
 each_after : {A : Type 0} (P : A → Type 0) (xs ys : List A) → AllByRecursion P (xs ++ ys) → AllByRecursion P ys
 each_after P [] ys all = all
@@ -51,14 +51,14 @@ pairs_drop R [] x ys all = all.1
 pairs_drop R (z ∷ xs) x ys all = (each_drop (R z) xs x ys all.0, pairs_drop R xs x ys all.1)
 
 module _ (script : Script) (shards : ℕ) where
-  pub units_append : (shard : ℕ) (us vs : List PlannedUnit) → units_on shards shard (us ++ vs) ≡ units_on shards shard us + units_on shards shard vs
+  pub units_append : (shard : ℕ) (us vs : List PlannedUnit) → count_units_on shards shard (us ++ vs) ≡ count_units_on shards shard us + count_units_on shards shard vs
   units_append shard us vs =
       ap (λ (l : List PlannedUnit). length l) (filter-append (λ u. shard_of shards u.sector == shard) us vs)
       ∙ length-append (filter (λ u. shard_of shards u.sector == shard) us) (filter (λ u. shard_of shards u.sector == shard) vs)
 
   pub entries_append : (shard : ℕ) (acts after : List (ℕ × Op)) → entries_asked script shards (acts ++ after) shard ≡ entries_asked script shards acts shard + entries_asked script shards after shard
   entries_append shard acts after =
-      ap (units_on shards shard) (flat_map-append (units_of script) acts after) ∙ units_append shard (flat_map (units_of script) acts) (flat_map (units_of script) after)
+      ap (count_units_on shards shard) (flat_map-append (units_of script) acts after) ∙ units_append shard (flat_map (units_of script) acts) (flat_map (units_of script) after)
 
 pub events_append : (script : Script) (device : ℕ) (acts after : List (ℕ × Op)) → events_asked script (acts ++ after) device ≡ events_asked script acts device + events_asked script after device
 events_append script device acts after = sum_by-append (events_of_one script device) acts after
@@ -150,7 +150,7 @@ with_room contents script thread disk pass bios plug plug' replies replies' room
   room_for = can.room_for;
 }
 
--- what is prepared behind a window stays so, where only bios of the window were taken
+-- what is prepared after a window stays so, where only bios of the window were taken
 pub prepared_behind : (script : Script) (section : List Op) (bios bios' : List (Option Bio)) (window : List ℕ) (after : List (ℕ × Op)) → AllByRecursion (MayBePlugged script section) window
     → Pairs (λ first second. first.0 < second.0) (numbered section window ++ after) → AllByRecursion (IsPrepared script bios) (numbered section window ++ after) → SameBeside window bios bios' → AllByRecursion (IsPrepared script bios') after
 prepared_behind script section bios bios' window after may order prepared same = go after (behind window may order) (each_after (IsPrepared script bios) (numbered section window) after prepared)

@@ -13,14 +13,15 @@ use Rattle.bc_medium.specs.Medium.{EachTwoFrom}
 use Rattle.bc_report.specs.declared.answer.Answer.{Answer}
 use Rattle.bc_script.specs.declared.op.Op.{Op}
 use Rattle.bc_script.specs.Script.{Script}
-use Rattle.bc_section.proofs.Lists.{In, all_by_place, any_from, at_exists, at_map, at_of_map, at_one, list_at_map}
+use Rattle.bc_section.proofs.Lists.{all_by_place, at_exists, at_map, at_of_map, at_one, list_at_map}
 use Rattle.bc_disk.specs.Disks.{DiskData, PassData}
 use Rattle.bc_threads.specs.declared.outcome.Outcome.{Outcome}
-use Rattle.bc_threads.specs.Prepared.{SectionData}
+use Rattle.bc_threads.specs.PreparedBios.{SectionData}
 use Rattle.bc_threads.specs.Jobs.{HasWorked, IsDone, IsReadyJob}
 use Rattle.bc_threads.specs.Quotas.{sections_of, unit_row}
-use Rattle.bc_threads.specs.Runs.{AreCarriedOut, AreJobs, IsCarriedOut, IsOpenedFor, answers_in, contents_told}
+use Rattle.bc_threads.specs.Runs.{AreCarriedOut, AreJobs, IsSectionCarriedOut, IsOpenedFor, answers_in, contents_told}
 use Rattle.bc_threads.proofs.Ready.{may_work}
+use Rattle.bc_base.proofs.Members.{In, any_from}
 
 -- ---- lists by places
 
@@ -181,9 +182,9 @@ are_carried {J} pass section outcomes script disk passes jobs after numbered lon
       let own : At passes thread (pass old.0) = subst (λ (l : List (PassData RamData)). At l thread (pass old.0)) are.same_passes (at_map (λ (j : PassData RamData × Option SectionData). j.0) (map both jobs) thread (both old.0) there) in
       let first : pass old.0 ≡ before = at_one passes thread (pass old.0) before own bat in
       let done = zip_at Done jobs after all thread old.0 new.0 old.1 new.1 in
-      subst (λ (p : PassData RamData). IsCarriedOut script disk thread (list_at (map (λ (job : J). answers_in (outcomes job)) after) thread) p last) first
-      (subst (λ (p : PassData RamData). IsCarriedOut script disk thread (list_at (map (λ (job : J). answers_in (outcomes job)) after) thread) (pass old.0) p) new.2
-      (subst (λ (l : List Answer). IsCarriedOut script disk thread l (pass old.0) (pass new.0)) (sym (list_at_map (λ (job : J). answers_in (outcomes job)) after thread new.0 new.1))
+      subst (λ (p : PassData RamData). IsSectionCarriedOut script disk thread (list_at (map (λ (job : J). answers_in (outcomes job)) after) thread) p last) first
+      (subst (λ (p : PassData RamData). IsSectionCarriedOut script disk thread (list_at (map (λ (job : J). answers_in (outcomes job)) after) thread) (pass old.0) p) new.2
+      (subst (λ (l : List Answer). IsSectionCarriedOut script disk thread l (pass old.0) (pass new.0)) (sym (list_at_map (λ (job : J). answers_in (outcomes job)) after thread new.0 new.1))
       (worked thread (pass old.0) (pass new.0) (section old.0) (section new.0) (outcomes new.0) (are.sections thread (both old.0) there) (numbered thread (pass old.0) own) done)));
   none = λ none. let zero : length script.threads ≡ 0 = ap length none in absurd (omega arith);
 }
@@ -198,11 +199,11 @@ are_carried {J} pass section outcomes script disk passes jobs after numbered lon
     count = zip_length Done jobs after all ∙ sym (length-map jobs both) ∙ sym (length-map (map both jobs) (λ (j : PassData RamData × Option SectionData). j.0)) ∙ ap length are.same_passes
 
     worked : (thread : ℕ) (old new : PassData RamData) (before now : Option SectionData) (outcomes : Option (List Outcome)) → before ≡ Some (record { script = script; thread = thread }) → old.caller ≡ thread
-        → IsDone contents_told disk old new before now outcomes → IsCarriedOut script disk thread (answers_in outcomes) old new
+        → IsDone contents_told disk old new before now outcomes → IsSectionCarriedOut script disk thread (answers_in outcomes) old new
     worked thread old new before now outcomes is caller done =
         of outcomes (subst (λ (o : Option SectionData). IfSome o (λ section. IsSomeAnd outcomes (HasWorked contents_told disk old new section))) is done.worked)
       where
-        of : (outcomes : Option (List Outcome)) → IsSomeAnd outcomes (HasWorked contents_told disk old new (record { script = script; thread = thread })) → IsCarriedOut script disk thread (answers_in outcomes) old new
+        of : (outcomes : Option (List Outcome)) → IsSomeAnd outcomes (HasWorked contents_told disk old new (record { script = script; thread = thread })) → IsSectionCarriedOut script disk thread (answers_in outcomes) old new
         of None it = absurd it
         of (Some outcomes) it = record { pass_of = it.pass_of; caller = it.caller ∙ caller; carries = it.carries }
 

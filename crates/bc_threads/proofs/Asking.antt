@@ -10,20 +10,20 @@ use Rattle.bc_bio.specs.declared.access.Access.TheVariants as access
 use Rattle.bc_bio.specs.declared.extent.Extent.{Extent}
 use Rattle.bc_bio.specs.Extent.{unit_sectors}
 use Rattle.bc_bio.specs.PlannedUnit.{PlannedUnit}
-use Rattle.bc_medium.specs.Places.{shard_of}
-use Rattle.bc_queue.specs.RequestUnits.{units_on}
+use Rattle.bc_medium.specs.Layout.{shard_of}
+use Rattle.bc_queue.specs.RequestUnits.{count_units_on}
 use Rattle.bc_script.specs.declared.op.Op.{Op}
 use Rattle.bc_script.specs.declared.op.Op.TheVariants as ops
 use Rattle.bc_script.specs.Script.{Script, keys_of}
 use Rattle.bc_script.specs.Bios.{is_inline, refusal_of}
 use Rattle.bc_script.specs.Plan.{unit_at, units_of, units_of_bio}
 use Rattle.bc_report.specs.Counts.{touches_any}
-use Rattle.bc_threads.specs.Asked.{entries_asked, events_asked, events_of_one}
+use Rattle.bc_threads.specs.Demand.{entries_asked, events_asked, events_of_one}
 use Rattle.bc_threads.specs.Quotas.{unit_quota, units_from}
-use Rattle.bc_threads.specs.Quotas.{units_on as quota_on}
+use Rattle.bc_threads.specs.Quotas.{units_of_op_on as quota_on}
 
 -- the units of a bio that lie in a shard, counted one by one
-on_range : (keys : List KeyData) (op : ℕ) (operation : Op) (bio : Extent) (shards shard a m : ℕ) → units_on shards shard (map (unit_at keys op operation bio) (range_with_len a m))
+on_range : (keys : List KeyData) (op : ℕ) (operation : Op) (bio : Extent) (shards shard a m : ℕ) → count_units_on shards shard (map (unit_at keys op operation bio) (range_with_len a m))
     ≡ sum_by (λ i. cond (shard_of shards (bio.sector + i * unit_sectors keys bio.context) == shard) 1 0) (range_with_len a m)
 on_range keys op operation bio shards shard a zero = refl
 on_range keys op operation bio shards shard a (suc m) =
@@ -35,14 +35,14 @@ on_range keys op operation bio shards shard a (suc m) =
     one true u us = omega arith
     one false u us = omega arith
 
-bio_most : (script : Script) (shards shard op : ℕ) (operation : Op) (bio : Extent) → units_on shards shard (units_of_bio script op operation bio) ≤ units_from shards shard bio.sector (unit_sectors (keys_of script) bio.context) bio.units
+bio_most : (script : Script) (shards shard op : ℕ) (operation : Op) (bio : Extent) → count_units_on shards shard (units_of_bio script op operation bio) ≤ units_from shards shard bio.sector (unit_sectors (keys_of script) bio.context) bio.units
 bio_most script shards shard op operation bio = taken (is_none (refusal_of script bio))
   where
-    taken : (b : Bool) → units_on shards shard (cond b (map (unit_at (keys_of script) op operation bio) (range_with_len 0 bio.units)) []) ≤ units_from shards shard bio.sector (unit_sectors (keys_of script) bio.context) bio.units
+    taken : (b : Bool) → count_units_on shards shard (cond b (map (unit_at (keys_of script) op operation bio) (range_with_len 0 bio.units)) []) ≤ units_from shards shard bio.sector (unit_sectors (keys_of script) bio.context) bio.units
     taken true = let same = on_range (keys_of script) op operation bio shards shard 0 bio.units in omega arith
     taken false = omega arith
 
-one_most : (script : Script) (shards shard op : ℕ) (operation : Op) → units_on shards shard (units_of script (op, operation)) ≤ quota_on script shards shard operation
+one_most : (script : Script) (shards shard op : ℕ) (operation : Op) → count_units_on shards shard (units_of script (op, operation)) ≤ quota_on script shards shard operation
 one_most script shards shard op (ops.Write context sector units text) = bio_most script shards shard op (ops.Write context sector units text) (record { access = access.Write; context = context; sector = sector; units = units })
 one_most script shards shard op (ops.Read context sector units) = bio_most script shards shard op (ops.Read context sector units) (record { access = access.Read; context = context; sector = sector; units = units })
 one_most script shards shard op (ops.Evict key) = omega arith
@@ -53,7 +53,7 @@ one_most script shards shard op ops.Unplug = omega arith
 pub entries_most : (script : Script) (shards shard k : ℕ) (section : List Op) → entries_asked script shards (enumerate_from k section) shard ≤ unit_quota script shards shard section
 entries_most script shards shard k [] = omega arith
 entries_most script shards shard k (operation ∷ section) =
-    both (units_on shards shard (units_of script (k, operation))) (units_on shards shard (flat_map (units_of script) (enumerate_from (k + 1) section))) (quota_on script shards shard operation) (unit_quota script shards shard section) _ _
+    both (count_units_on shards shard (units_of script (k, operation))) (count_units_on shards shard (flat_map (units_of script) (enumerate_from (k + 1) section))) (quota_on script shards shard operation) (unit_quota script shards shard section) _ _
     (ap length (filter-append (λ u. shard_of shards u.sector == shard) (units_of script (k, operation)) (flat_map (units_of script) (enumerate_from (k + 1) section)))
     ∙ length-append (filter (λ u. shard_of shards u.sector == shard) (units_of script (k, operation))) (filter (λ u. shard_of shards u.sector == shard) (flat_map (units_of script) (enumerate_from (k + 1) section))))
     (sum_by-cons (quota_on script shards shard) operation section) (one_most script shards shard k operation) (entries_most script shards shard (k + 1) section)

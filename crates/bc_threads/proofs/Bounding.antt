@@ -10,8 +10,8 @@ use Rattle.bc_profile.specs.declared.event.Event.TheVariants as events
 use Rattle.bc_profile.specs.declared.skips.Skip.{Skip}
 use Rattle.bc_report.specs.Counts.{is_programming_of}
 use Rattle.bc_pieces.specs.Pieces.{at_device, is_piece_on, pieces_on}
-use Rattle.bc_pieces.specs.Told.{IsHoldOf, OneHold, events_on}
-use Rattle.bc_threads.proofs.Events.{count_append, count_cons}
+use Rattle.bc_pieces.specs.PieceEffects.{IsHoldOf, OneHold, events_on}
+use Rattle.bc_section.proofs.Holding.{count_append, count_cons}
 
 take_one : (test : Event → Bool) (n : ℕ) (e : Event) (m : ℕ) → cond {A = ℕ} (test e) 1 0 ≤ m → count_by test (take n (e ∷ [])) ≤ m
 take_one test zero e m le = omega arith

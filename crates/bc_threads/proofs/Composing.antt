@@ -12,16 +12,16 @@ use Rattle.bc_base.specs.Story.{own, IsFront}
 use Rattle.bc_base.specs.RamStores.{RamData, HaveAllSectors, IsShardOf, owns, contents}
 use Rattle.bc_base.specs.Sectors.{Sectors}
 use Rattle.bc_key.specs.KeyData.{KeyData}
-use Rattle.bc_turn.specs.Parts.{CellData}
+use Rattle.bc_turn.specs.PassParts.{CellData}
 use Rattle.bc_medium.specs.declared.entry.Entry.{Entry}
-use Rattle.bc_medium.specs.Places.{shard_of}
+use Rattle.bc_medium.specs.Layout.{shard_of}
 use Rattle.bc_medium.specs.KeyedDisk.{image_sectors, meets_fault}
 use Rattle.bc_medium.specs.Entries.{caller_of, left_by}
 use Rattle.bc_medium.specs.Medium.{IsEnd, OpeningData, seen_by, shards_of}
 use Rattle.bc_medium.specs.ShardOrder.{FailAsPlanned, IsOrder}
 use Rattle.bc_profile.specs.declared.event.Event.{Event}
 use Rattle.bc_profile.specs.declared.noted.Noted.{Noted}
-use Rattle.bc_profile.specs.Passes.{IsClosed as IsEndOfSlots, IsOf, SlotFacts}
+use Rattle.bc_profile.specs.Passes.{IsClosedStory as IsEndOfSlots, IsOf, SlotFacts}
 use Rattle.bc_profile.specs.SlotJournal.{IsLawful}
 use Rattle.bc_profile.specs.Story.{author_of, events_of}
 use Rattle.bc_ufs.specs.Controllers.{ControllerData}
@@ -33,19 +33,21 @@ use Rattle.bc_report.specs.declared.line.Line.{Line}
 use Rattle.bc_report.specs.LawfulRun.{HaveLawfulJournals, LawfulButHolders}
 use Rattle.bc_report.specs.Report.{Report, IsAnswer, IsEntry, IsEvent, IsPart, IsReport}
 use Rattle.bc_compose.specs.SectionDone.{SectionDone}
-use Rattle.bc_compose.specs.Closed.{DevicesClosed, ShardsClosed, StoresClosed, line_of}
-use Rattle.bc_compose.specs.Composed.{SectionsMakeALawfulRun}
+use Rattle.bc_compose.specs.ClosedOrders.{DevicesClosed, ShardsClosed, StoresClosed, report_line_of}
+use Rattle.bc_compose.specs.ComposedRun.{SectionsMakeALawfulRun}
 use Rattle.bc_section.specs.Openings.{IsOpening, planned_on}
-use Rattle.bc_section.proofs.Lists.{all_by_place, all_slice, at_exists, at_map, at_of_map, at_one, list_at_map, list_at_past, same_tests}
+use Rattle.bc_section.proofs.Lists.{all_by_place, all_slice, at_exists, at_map, at_of_map, at_one, list_at_map, list_at_past}
 use Rattle.bc_disk.specs.Disks.{DiskData, IsPassOf, PassData}
 use Rattle.bc_disk.specs.Closings.{AreAllPasses, IsClosedDisk, passes_on}
 use Rattle.bc_threads.specs.Quotas.{sections_of, unit_row}
-use Rattle.bc_threads.specs.Runs.{AreCarriedOut, IsCarriedOut, IsOpenedFor, contents_told}
-use Rattle.bc_threads.specs.Shared.{base_on}
+use Rattle.bc_threads.specs.Runs.{AreCarriedOut, IsSectionCarriedOut, IsOpenedFor, contents_told}
+use Rattle.bc_threads.specs.SharedDevice.{base_on}
 use Rattle.bc_threads.proofs.Apart.{any_at, choose, few_from, list_at_is, of_some, two_at, two_long, zip_by_place, zip_length}
-use Rattle.bc_threads.proofs.Faults.{empty_behind, fail_at, met_planned, not_behind, nothing_behind, planned_met}
+use Rattle.bc_threads.proofs.Faults.{empty_behind}
 use Rattle.bc_threads.proofs.Opening.{calls_told, is_owned}
 use Rattle.bc_threads.proofs.Ready.{shards_are}
+use Rattle.bc_base.proofs.Members.{same_tests}
+use Rattle.bc_section.proofs.Faults.{not_behind, nothing_behind, fail_at, met_planned, planned_met}
 
 counted : (threads : List (List Op)) → 0 < length threads → length (sections_of threads) ≡ length threads
 counted [] some = absurd (omega arith)
@@ -84,7 +86,7 @@ module _ (script : Script) (image : List ℕ) (n : ℕ) (disk : DiskData RamData
   pass_at : (t : ℕ) → t < length script.threads → (pass : PassData RamData) × At passes t pass
   pass_at t lt = let count = pass_count in let same = counted script.threads (omega arith) in at_exists passes t (omega arith)
 
-  carried : (t : ℕ) → t < length script.threads → (pass : PassData RamData) → At passes t pass → (before : PassData RamData) × IsCarriedOut script disk t (list_at answers t) before pass
+  carried : (t : ℕ) → t < length script.threads → (pass : PassData RamData) → At passes t pass → (before : PassData RamData) × IsSectionCarriedOut script disk t (list_at answers t) before pass
   carried t lt pass at =
       let same = counted script.threads (omega arith) in
       let count = pass_count in
@@ -381,10 +383,10 @@ module _ (script : Script) (image : List ℕ) (n : ℕ) (disk : DiskData RamData
       lawful = lawful_journals;
     }
 
-    pub is_report : (lines : List (List Line)) → lines ≡ map (map line_of) orders → Each (IsPart IsEntry) lines → Each (IsPart IsEvent) events → IsReport (record { threads = answers; shards = lines; devices = events })
+    pub is_report : (lines : List (List Line)) → lines ≡ map (map report_line_of) orders → Each (IsPart IsEntry) lines → Each (IsPart IsEvent) events → IsReport (record { threads = answers; shards = lines; devices = events })
     is_report lines lines_are lines_fit events_fit = record {
       few_threads = let c : length script.threads ≤ max_threads = is.rules.threads.count in let a = done.answered in omega arith;
-      few_shards = let few = is.few in let long = ap length lines_are in let mapped = length-map orders (map line_of) in let count = order_count in omega arith;
+      few_shards = let few = is.few in let long = ap length lines_are in let mapped = length-map orders (map report_line_of) in let count = order_count in omega arith;
       few_devices = let few = is.rules.devices.stack.few in let one = closed.one_for_each in let count = is.opened.one_for_each in let same = ap length is.opened.targets_are in omega arith;
       answers = all_by_place (AllByRecursion IsAnswer) answers (λ k said at.
           let here = slice_get_within answers k said at in
@@ -397,7 +399,7 @@ module _ (script : Script) (image : List ℕ) (n : ℕ) (disk : DiskData RamData
     }
 
     pub is_lawful : SectionsMakeALawfulRun → (left : List ℕ) → length left ≡ 4096 * script.blocks → ((s : ℕ) → s < 8 * script.blocks → AllAt stores (shard_of (length stores) s) (λ store. image_sectors left s ≡ contents store s))
-        → (lines : List (List Line)) → lines ≡ map (map line_of) orders → LawfulButHolders script image n (record { threads = answers; shards = lines; devices = events }) left
+        → (lines : List (List Line)) → lines ≡ map (map report_line_of) orders → LawfulButHolders script image n (record { threads = answers; shards = lines; devices = events }) left
     is_lawful law left left_long left_is lines lines_are = law script image n (record { threads = answers; shards = lines; devices = events }) left made_of orders stories (record {
       base = base_on contents_told disk;
       seen = seen;
@@ -414,12 +416,12 @@ module _ (script : Script) (image : List ℕ) (n : ℕ) (disk : DiskData RamData
     })
 
     -- the same, of what the parts were made to be
-    pub is_report_as : (lines : List (List Line)) (journals : List (List Event)) → lines ≡ map (map line_of) orders → Each (IsPart IsEntry) lines → journals ≡ events → Each (IsPart IsEvent) journals
+    pub is_report_as : (lines : List (List Line)) (journals : List (List Event)) → lines ≡ map (map report_line_of) orders → Each (IsPart IsEntry) lines → journals ≡ events → Each (IsPart IsEvent) journals
         → IsReport (record { threads = answers; shards = lines; devices = journals })
     is_report_as lines journals lines_are lines_fit journals_are journals_fit =
         subst (λ (l : List (List Event)). IsReport (record { threads = answers; shards = lines; devices = l })) (sym journals_are) (is_report lines lines_are lines_fit (subst (Each (IsPart IsEvent)) journals_are journals_fit))
 
-    pub is_lawful_as : (lines : List (List Line)) (journals : List (List Event)) → lines ≡ map (map line_of) orders → journals ≡ events → SectionsMakeALawfulRun
+    pub is_lawful_as : (lines : List (List Line)) (journals : List (List Event)) → lines ≡ map (map report_line_of) orders → journals ≡ events → SectionsMakeALawfulRun
         → (left : List ℕ) (lent : List RamData) (blocks : ℕ) → lent ≡ stores → blocks ≡ script.blocks → length left ≡ 4096 * blocks → ((s : ℕ) → s < 8 * blocks → AllAt lent (shard_of (length lent) s) (λ store. image_sectors left s ≡ contents store s))
         → (report : Report) → report ≡ record { threads = answers; shards = lines; devices = journals } → LawfulButHolders script image n report left
     is_lawful_as lines journals lines_are journals_are law left lent blocks lent_is blocks_is left_long left_is report report_is =

@@ -4,12 +4,13 @@ use Rattle.std.specs.Prelude.{◌==◌, sum_by}
 use Rattle.std.specs.List.{range_with_len}
 use Rattle.std.proofs.lemmas.List.Sums.{sum_by-append, sum_by-cons, sum_by-le-sum_by, sum_by-take-le}
 use Rattle.std.proofs.lemmas.List.FromFn.{map-range_with_len_more}
-use Rattle.bc_medium.specs.Places.{shard_of}
+use Rattle.bc_medium.specs.Layout.{shard_of}
 use Rattle.bc_script.specs.declared.op.Op.{Op}
 use Rattle.bc_script.specs.declared.op.Op.TheVariants as ops
 use Rattle.bc_script.specs.Script.{Script, unit_count, unit_count_of_section}
-use Rattle.bc_section.proofs.Lists.{range_push, take_next}
-use Rattle.bc_threads.specs.Quotas.{unit_quota, units_from, units_on}
+use Rattle.bc_section.proofs.Lists.{take_next}
+use Rattle.bc_threads.specs.Quotas.{unit_quota, units_from, units_of_op_on}
+use Rattle.bc_base.proofs.Members.{range_push}
 
 sum_push : {A : Type 0} (f : A → ℕ) (xs : List A) (x : A) → sum_by f (xs ++ x ∷ []) ≡ sum_by f xs + f x
 sum_push f xs x = sum_by-append f xs (x ∷ []) ∙ ap (λ (k : ℕ). sum_by f xs + k) (one (f x))
@@ -42,7 +43,7 @@ from_most shards shard sector sectors a (suc n) =
     both : (x y n : ℕ) → x ≤ 1 → y ≤ n → x + y ≤ suc n
     both x y n one rest = omega arith
 
-pub on_most : (script : Script) (shards shard : ℕ) (operation : Op) → units_on script shards shard operation ≤ unit_count operation
+pub on_most : (script : Script) (shards shard : ℕ) (operation : Op) → units_of_op_on script shards shard operation ≤ unit_count operation
 on_most script shards shard (ops.Write context sector units text) = from_most shards shard sector _ 0 units
 on_most script shards shard (ops.Read context sector units) = from_most shards shard sector _ 0 units
 on_most script shards shard (ops.Evict key) = omega arith
@@ -51,11 +52,11 @@ on_most script shards shard ops.Plug = omega arith
 on_most script shards shard ops.Unplug = omega arith
 
 pub quota_most : (script : Script) (shards shard : ℕ) (section : List Op) → unit_quota script shards shard section ≤ unit_count_of_section section
-quota_most script shards shard section = sum_by-le-sum_by (units_on script shards shard) unit_count section (on_most script shards shard)
+quota_most script shards shard section = sum_by-le-sum_by (units_of_op_on script shards shard) unit_count section (on_most script shards shard)
 
 pub quota_more : (script : Script) (shards shard : ℕ) (section : List Op) (i : ℕ) (operation : Op) → i < length section → operation ≡ get_or section i operation
-    → unit_quota script shards shard (take (i + 1) section) ≡ unit_quota script shards shard (take i section) + units_on script shards shard operation
-quota_more script shards shard section i operation lt is = ap (unit_quota script shards shard) (take_next section i operation lt is) ∙ sum_push (units_on script shards shard) (take i section) operation
+    → unit_quota script shards shard (take (i + 1) section) ≡ unit_quota script shards shard (take i section) + units_of_op_on script shards shard operation
+quota_more script shards shard section i operation lt is = ap (unit_quota script shards shard) (take_next section i operation lt is) ∙ sum_push (units_of_op_on script shards shard) (take i section) operation
 
 pub counted_more : (shards shard sector sectors n count one : ℕ) → count ≡ units_from shards shard sector sectors n → one ≡ cond (shard_of shards (sector + n * sectors) == shard) 1 0
     → count + one ≡ units_from shards shard sector sectors (n + 1)
@@ -73,7 +74,7 @@ row_more script shards n section row more one are is grown =
 
 -- the count stays below the bound
 pub count_fits : (script : Script) (shards shard : ℕ) (section : List Op) (i count one : ℕ) (operation : Op) → i < length section → operation ≡ get_or section i operation
-    → count ≡ unit_quota script shards shard (take i section) → one ≡ units_on script shards shard operation → count + one ≤ unit_count_of_section section
+    → count ≡ unit_quota script shards shard (take i section) → one ≡ units_of_op_on script shards shard operation → count + one ≤ unit_count_of_section section
 count_fits script shards shard section i count one operation lt at is more =
     omega (arith, quota_more script shards shard section i operation lt at, quota_most script shards shard (take (i + 1) section), sum_by-take-le unit_count section (i + 1))
 

@@ -16,7 +16,7 @@ use Rattle.bc_bio.specs.declared.access.Access.TheVariants.{Read, Write}
 use Rattle.bc_bio.specs.declared.bio.Bio.{Bio}
 use Rattle.bc_bio.specs.declared.unit.Unit.{Unit}
 use Rattle.bc_section.proofs.Lists.{take_next}
-use Rattle.bc_threads.specs.Outcomes.{bytes_in, bytes_of, done_answer}
+use Rattle.bc_threads.specs.Outcomes.{bytes_of_unit, bytes_of_bio, done_answer}
 use Rattle.bc_report.specs.declared.answer.Answer.{Answer}
 use Rattle.bc_report.specs.declared.answer.Answer.TheVariants as answers
 use Rattle.bc_report.specs.Answers.{read_answer}
@@ -65,14 +65,14 @@ first_of_append [] ys p q = q
 first_of_append (x ∷ xs) ys p q = λ byte is. p byte is
 
 -- and of one more unit
-pub first_of_next : (units : List Unit) (i : ℕ) (unit : Unit) → i < length units → unit ≡ get_or units i unit → ((byte : ℕ) → slice_get (flat_map bytes_in (take i units)) 0 ≡ Some byte → byte < 256)
-    → ((byte : ℕ) → slice_get (bytes_in unit) 0 ≡ Some byte → byte < 256) → (byte : ℕ) → slice_get (flat_map bytes_in (take (i + 1) units)) 0 ≡ Some byte → byte < 256
+pub first_of_next : (units : List Unit) (i : ℕ) (unit : Unit) → i < length units → unit ≡ get_or units i unit → ((byte : ℕ) → slice_get (flat_map bytes_of_unit (take i units)) 0 ≡ Some byte → byte < 256)
+    → ((byte : ℕ) → slice_get (bytes_of_unit unit) 0 ≡ Some byte → byte < 256) → (byte : ℕ) → slice_get (flat_map bytes_of_unit (take (i + 1) units)) 0 ≡ Some byte → byte < 256
 first_of_next units i unit lt read before here =
-    subst (λ (us : List Unit). (byte : ℕ) → slice_get (flat_map bytes_in us) 0 ≡ Some byte → byte < 256) (sym (take_next units i unit lt read))
-    (subst (λ (bytes : List ℕ). (byte : ℕ) → slice_get bytes 0 ≡ Some byte → byte < 256) (sym (flat_map-append bytes_in (take i units) (unit ∷ [])))
-    (first_of_append (flat_map bytes_in (take i units)) (bytes_in unit ++ []) before (first_of_append (bytes_in unit) [] here (λ byte is. absurd (none-some byte is)))))
+    subst (λ (us : List Unit). (byte : ℕ) → slice_get (flat_map bytes_of_unit us) 0 ≡ Some byte → byte < 256) (sym (take_next units i unit lt read))
+    (subst (λ (bytes : List ℕ). (byte : ℕ) → slice_get bytes 0 ≡ Some byte → byte < 256) (sym (flat_map-append bytes_of_unit (take i units) (unit ∷ [])))
+    (first_of_append (flat_map bytes_of_unit (take i units)) (bytes_of_unit unit ++ []) before (first_of_append (bytes_of_unit unit) [] here (λ byte is. absurd (none-some byte is)))))
 
 -- the numbers of how a report says that a bio was done
-pub done_fits : (access : Access) (bio : Bio) → ((byte : ℕ) → slice_get (bytes_of bio) 0 ≡ Some byte → byte < 256) → IsAnswer (done_answer access bio)
+pub done_fits : (access : Access) (bio : Bio) → ((byte : ℕ) → slice_get (bytes_of_bio bio) 0 ≡ Some byte → byte < 256) → IsAnswer (done_answer access bio)
 done_fits Write bio first = tt
-done_fits Read bio first = read_fits (bytes_of bio) first
+done_fits Read bio first = read_fits (bytes_of_bio bio) first

@@ -1,8 +1,6 @@
 -- Events of a caller on the devices, and how many there are of a kind.
-use Rattle.std.proofs.Common.{◌≡◌, ℕ, ◌+◌, Bool, cond, List, [], ◌∷◌, ◌++◌, refl, sym, ap, subst, ◌∙◌, arith, Some, None}
-use Rattle.std.specs.Prelude.{All, count_by, slice_set}
-use Rattle.std.proofs.lemmas.List.{map-append}
-use Rattle.std.proofs.lemmas.List.Sums.{sum_by-cons, sum_by-append}
+use Rattle.std.proofs.Common.{◌≡◌, ℕ, ◌+◌, List, [], ◌∷◌, ◌++◌, refl, sym, ap, subst, ◌∙◌, arith, Some, None}
+use Rattle.std.specs.Prelude.{All, slice_set}
 use Rattle.bc_base.specs.Lists.{list_at}
 use Rattle.bc_base.specs.Story.{own}
 use Rattle.bc_profile.specs.declared.event.Event.{Event}
@@ -10,21 +8,9 @@ use Rattle.bc_profile.specs.declared.event.Event.TheVariants as events
 use Rattle.bc_profile.specs.declared.noted.Noted.{Noted}
 use Rattle.bc_profile.specs.SlotJournal.{Slots, InNoSlot, after_event, after_events, opening, slots_after}
 use Rattle.bc_profile.specs.Story.{author_of, events_of, notes}
-use Rattle.bc_compose.specs.Ordered.{Notes}
+use Rattle.bc_compose.specs.OrderedHolds.{Notes}
 use Rattle.bc_pieces.specs.Pieces.{NotesOn}
-
-pub count_cons : {X : Type 0} (test : X → Bool) (x : X) (xs : List X) → count_by test (x ∷ xs) ≡ cond {A = ℕ} (test x) 1 0 + count_by test xs
-count_cons test x xs = sum_by-cons (λ (y : _). cond {A = ℕ} (test y) 1 0) x xs
-
-pub count_append : {X : Type 0} (test : X → Bool) (xs ys : List X) → count_by test (xs ++ ys) ≡ count_by test xs + count_by test ys
-count_append test xs ys = sum_by-append (λ (y : _). cond {A = ℕ} (test y) 1 0) xs ys
-
-pub events_of_notes : (caller : ℕ) (es : List Event) → events_of (notes caller es) ≡ es
-events_of_notes caller [] = refl
-events_of_notes caller (e ∷ es) = ap (λ l. e ∷ l) (events_of_notes caller es)
-
-pub events_of_append : (a b : List Noted) → events_of (a ++ b) ≡ events_of a ++ events_of b
-events_of_append a b = map-append (λ (n : Noted). n.event) a b
+use Rattle.bc_section.proofs.Numbered.{events_of_append, events_of_notes}
 
 -- the notes of each device are those of all
 pub notes_of_each : (caller thread : ℕ) (old new : List (List Noted)) (made : ℕ → List Event) → caller ≡ thread

@@ -11,12 +11,12 @@ use Rattle.bc_script.specs.declared.op.Op.TheVariants as ops
 use Rattle.bc_script.specs.Script.{Script}
 use Rattle.bc_script.specs.Bios.{is_inline}
 use Rattle.bc_report.specs.declared.answer.Answer.{Answer}
-use Rattle.bc_section.specs.Reached.{Evicted, HasReset}
+use Rattle.bc_section.specs.SectionProgress.{Evicted, HasReset}
 use Rattle.bc_disk.specs.declared.eviction.Busy.{Busy}
 use Rattle.bc_disk.specs.Disks.{DiskData, IsPassOf, PassData, events_left, facts_on, goes_inline, keys_in}
 use Rattle.bc_disk.specs.Evictions.{AsksEach, Resets, asks}
-use Rattle.bc_threads.specs.Asked.{events_of_one}
-use Rattle.bc_threads.specs.Shared.{CanCarryOut, base_on, device_on}
+use Rattle.bc_threads.specs.Demand.{events_of_one}
+use Rattle.bc_threads.specs.SharedDevice.{CanCarryOut, base_on, device_on}
 use Rattle.bc_threads.proofs.Affording.{after_acts, prepared_after}
 use Rattle.bc_threads.proofs.Evicting.{answer_by, evicted_inline, evicted_soft, has_reset}
 use Rattle.bc_threads.proofs.Showing.{IsWayFor, inline_of_script}

@@ -22,14 +22,16 @@ use Rattle.bc_report.specs.Counts.{is_reset_of, touches_under, touches_any, is_r
 use Rattle.bc_report.specs.Evictions.{Eviction, is_evict, is_busy, is_busy_with, names_busy, names_device, names_before, IsEvictionAnswer}
 use Rattle.bc_report.specs.Programmings.{passes}
 use Rattle.bc_compose.specs.SectionDone.{Bounds}
-use Rattle.bc_compose.specs.Ordered.{IsTakenOut}
-use Rattle.bc_section.specs.Reached.{Evicted, HasReset}
-use Rattle.bc_section.proofs.Growing.{begins_itself, grows_none}
+use Rattle.bc_compose.specs.OrderedHolds.{IsTakenOut}
+use Rattle.bc_section.specs.SectionProgress.{Evicted, HasReset}
 use Rattle.bc_pieces.specs.Pieces.{DeviceFacts, at_device}
 use Rattle.bc_disk.specs.declared.eviction.Busy.{Busy}
-use Rattle.bc_disk.specs.Evictions.{AddsEvents, AsksEach, Empties, IsBefore, IsRefusedBy, Resets}
-use Rattle.bc_threads.proofs.Events.{count_cons, in_no_slot, notes_of_each}
+use Rattle.bc_disk.specs.Evictions.{AddsEvents, AsksEach, EmptiesSlot, IsBefore, IsRefusedBy, Resets}
+use Rattle.bc_threads.proofs.Events.{in_no_slot, notes_of_each}
 use Rattle.bc_threads.proofs.Showing.{IsWayFor, shown}
+use Rattle.bc_medium.proofs.Growing.{begins_itself, grows_none}
+use Rattle.bc_section.proofs.Holding.{count_cons}
+use Rattle.bc_threads.proofs.Submission.{not_alone}
 
 or_false : (b : Bool) → (b || false) ≡ b
 or_false true = refl
@@ -41,9 +43,6 @@ and_false false = refl
 
 no_more : (b : Bool) → b ≡ false → cond {A = ℕ} b 1 0 ≤ 0
 no_more b is = subst (λ (c : Bool). cond {A = ℕ} c 1 0 ≤ 0) (sym is) (omega arith)
-
-not_alone : {A : Type 0} → IsTrue false → A
-not_alone is = absurd (true≢false (sym is))
 
 -- how a report says what an eviction came to
 abbrev pub answer_by : Option Busy → Answer
@@ -63,7 +62,7 @@ module _ (script : Script) (thread : ℕ) (base : ℕ → Sectors) (old new : De
     eviction = record { thread = thread; op = op; key = key.0; answer = answer_by refused }
 
     of_empties : (device : ℕ) (test : Event → Bool) (n : ℕ) → ((slot : ℕ) → cond {A = ℕ} (test (events.Evict slot key.0)) 1 0 ≤ n)
-        → Empties (old.slots device) (list_at new.noted device) key.0 (made device) → count_by test (made device) ≤ n
+        → EmptiesSlot (old.slots device) (list_at new.noted device) key.0 (made device) → count_by test (made device) ≤ n
     of_empties device test n evict empties = ⊎_elim
         (λ (none : made device ≡ []). subst (λ (l : List Event). count_by test l ≤ n) (sym none) (omega arith))
         (λ (one : (slot : ℕ) × (made device ≡ events.Evict slot key.0 ∷ [])).
@@ -82,7 +81,7 @@ module _ (script : Script) (thread : ℕ) (base : ℕ → Sectors) (old new : De
         → ((slot refs : ℕ) → cond {A = ℕ} (test (events.Busy slot key.0 refs)) 1 0 ≤ n) → count_by test (made device) ≤ n
     few device test n evict busy = ⊎_elim
         (λ (within : device < length old.targets). ⊎_elim
-        (λ (empties : Empties (old.slots device) (list_at new.noted device) key.0 (made device)). of_empties device test n evict empties)
+        (λ (empties : EmptiesSlot (old.slots device) (list_at new.noted device) key.0 (made device)). of_empties device test n evict empties)
         (λ (is : (slot refs : ℕ) × IsRefusedBy key.0 slot refs (made device)). of_refused device is.0 is.1 test n (busy is.0 is.1) is.2)
         (asks.each device within))
         (λ (past : length old.targets ≤ device). subst (λ (l : List Event). count_by test l ≤ n) (sym (asks.others device past)) (omega arith))

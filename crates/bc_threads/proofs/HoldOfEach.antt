@@ -18,16 +18,17 @@ use Rattle.bc_stack.specs.declared.target.Target.{Target}
 use Rattle.bc_stack.specs.Devices.{device_at, has_sector}
 use Rattle.bc_script.specs.Script.{Script}
 use Rattle.bc_script.specs.Bios.{is_inline}
-use Rattle.bc_report.specs.Programmings.{InlineEntry, Programs}
+use Rattle.bc_report.specs.Programmings.{InlineEntry, IsProgramming}
 use Rattle.bc_compose.specs.SectionDone.{NamesOwn, inline_of, key_of_entry}
-use Rattle.bc_compose.specs.Ordered.{HasHold, Held}
-use Rattle.bc_section.proofs.Lists.{all_at, all_from_in, all_of, in_of_filter_map}
+use Rattle.bc_compose.specs.OrderedHolds.{HasHold, Held}
+use Rattle.bc_section.proofs.Lists.{in_of_filter_map}
 use Rattle.bc_pieces.specs.Pieces.{DeviceFacts}
-use Rattle.bc_pieces.specs.Told.{HasHoldBetween, Rise}
+use Rattle.bc_pieces.specs.PieceEffects.{HasHoldBetween, Rise}
 use Rattle.bc_disk.specs.Disks.{goes_inline}
 use Rattle.bc_disk.specs.Submissions.{GoesItsWay, HasItsHold, IsInline, IsUnderWay, IsWayOf}
 use Rattle.bc_threads.proofs.Rising.{inline_parts, rises_are}
 use Rattle.bc_threads.proofs.Showing.{IsWayFor, inline_of_script}
+use Rattle.bc_base.proofs.Members.{all_at, all_from_in, all_of}
 
 -- the parts of an inline way
 abbrev device_in : Via → ℕ
@@ -71,8 +72,8 @@ module _ (script : Script) (thread : ℕ) (old new : DeviceFacts) (way : IsWayFo
       by_context : (o : Option Context) → IsSomeAnd o (λ c. c.key.0 ≡ h.key) → NamesOwn new.noted (option_map (λ context. context.key.0) o) (vias.Inline h.device h.slot h.epoch)
       by_context None under = absurd under
       by_context (Some c) under =
-          subst (λ (k : ℕ). IsSomeAnd (slice_get (events_of (list_at new.noted h.device)) h.epoch) (Programs h.slot k)) (sym under)
-          (subst (λ (o : Option Event). IsSomeAnd o (Programs h.slot h.key)) (sym programs.1) (refl, refl))
+          subst (λ (k : ℕ). IsSomeAnd (slice_get (events_of (list_at new.noted h.device)) h.epoch) (IsProgramming h.slot k)) (sym under)
+          (subst (λ (o : Option Event). IsSomeAnd o (IsProgramming h.slot h.key)) (sym programs.1) (refl, refl))
 
   own_key : (e : Entry) → HasIt e → NamesOwn new.noted (key_of_entry e) e.via
   own_key e has = by_via e.via refl

@@ -33,19 +33,19 @@ use Rattle.bc_report.specs.Evictions.{is_evict, is_busy}
 use Rattle.bc_report.specs.Holders.{is_unit_under, is_way_on}
 use Rattle.bc_report.specs.SerialRun.{DeviceUse, holds_for, is_on, name_at, uses_of_turn}
 use Rattle.bc_compose.specs.SectionDone.{Bounds}
-use Rattle.bc_section.specs.Reached.{MayBePlugged, numbered}
-use Rattle.bc_section.specs.Uses.{bios_of}
+use Rattle.bc_section.specs.SectionProgress.{MayBePlugged, numbered}
+use Rattle.bc_section.specs.Uses.{op_bios}
 use Rattle.bc_section.proofs.Chunks.{chunks_linked}
-use Rattle.bc_section.proofs.Lists.{all_at, all_from_in, in_of_flat_map, in_of_map}
 use Rattle.bc_pieces.specs.Pieces.{at_device, is_piece_on, is_piece_under, pieces_on}
-use Rattle.bc_pieces.specs.Told.{IsHoldOf, OneHold, events_on}
+use Rattle.bc_pieces.specs.PieceEffects.{IsHoldOf, OneHold, events_on}
 use Rattle.bc_disk.specs.Submissions.{inline_pieces, window_pieces}
 use Rattle.bc_section.proofs.Ascending.{HasKeyOf, one_key}
 use Rattle.bc_threads.proofs.Bounding.{few_of_holds, none_of_holds, of_hold, of_its_key}
-use Rattle.bc_threads.proofs.Events.{count_append}
-use Rattle.bc_section.proofs.Holding.{hold_weight, holds_of, no_reset, touched_by, window_holds}
-use Rattle.bc_threads.proofs.Piecing.{asked_is, no_events, numbered_accepted, on_le, tagged_are, window_events}
+use Rattle.bc_section.proofs.Holding.{hold_weight, holds_of, no_reset, touched_by, window_holds, count_append}
+use Rattle.bc_threads.proofs.Piecing.{asked_is, no_events, on_le, tagged_are, window_events}
 use Rattle.bc_threads.proofs.WindowBios.{IsWindowBio}
+use Rattle.bc_base.proofs.Members.{in_of_map, in_of_flat_map, all_at, all_from_in}
+use Rattle.bc_section.proofs.Numbered.{numbered_accepted}
 
 -- ---- what is in the chunks of a list
 
@@ -236,7 +236,7 @@ module _ (script : Script) (rules : IsScript script) (laws : UnrefusedIsAccepted
       (subst (λ (k : List KeyData). length (filter (is_here script.targets device number) (window_pieces script.targets k taken)) ≤ count_by (touches_under script device number) acts) (sym same_keys)
       (let few = pieces_here script device 0 number (map tagged_of taken) in
       let same = ap (λ (w : List TaggedBio). weigh script device 0 number (uses_of_turn script device 0 (turns.Window w))) (tagged_are script section window taken all) in
-      let holds = window_holds script device 0 rules.devices.stack (λ key. key.0 == number) (bios_of acts) in
+      let holds = window_holds script device 0 rules.devices.stack (λ key. key.0 == number) (op_bios acts) in
       let touched = touched_by script device within (λ key. key.0 == number) (is_unit_under script number device) (counts device number) acts (numbered_accepted script section window may) in
       omega (arith, few, same, holds, touched))))
       (λ (past : length script.targets ≤ device).

@@ -13,12 +13,14 @@ use Rattle.bc_bio.specs.declared.marked_bio.MarkedBio.{MarkedBio}
 use Rattle.bc_bio.specs.declared.reply.Reply.{Reply}
 use Rattle.bc_bio.specs.Requests.{RequestParts, tagged_of, unmarked}
 use Rattle.bc_bio.specs.Windows.{TaggedBio}
-use Rattle.bc_queue.specs.Plugs.{AreRequests, IsOfWindow, IsPlug, PlugParts, bios_of, count_bios, no_bios}
-use Rattle.bc_compose.specs.Ordered.{Pairs}
-use Rattle.bc_section.proofs.Lists.{all_read, zip_append}
+use Rattle.bc_queue.specs.Plugs.{AreRequests, IsOfWindow, IsPlug, PlugParts, bios_in, count_bios, no_bios}
+use Rattle.bc_compose.specs.OrderedHolds.{Pairs}
+use Rattle.bc_section.proofs.Lists.{all_read}
 use Rattle.bc_threads.specs.declared.outcome.Outcome.{Outcome}
 use Rattle.bc_threads.specs.declared.outcome.Outcome.TheVariants as outcomes
 use Rattle.bc_threads.specs.Plugging.{AreNoted, HasBioAt, IsPlugged, SameBeside}
+use Rattle.bc_base.proofs.Members.{zip_append}
+use Rattle.bc_section.proofs.Reaching.{get_set_other}
 
 -- ---- places
 
@@ -26,18 +28,6 @@ pub get_set_same : {X : Type 0} (xs : List X) (i : ℕ) (x : X) → i < length x
 get_set_same [] i x lt = absurd (omega (arith, lt))
 get_set_same (y ∷ ys) zero x lt = refl
 get_set_same (y ∷ ys) (suc i) x lt = get_set_same ys i x (omega (arith, lt))
-
-pub get_set_other : {X : Type 0} (xs : List X) (i j : ℕ) (x : X) → (i ≡ j → ⊥) → slice_get (slice_set xs i x) j ≡ slice_get xs j
-get_set_other [] i j x ne = refl
-get_set_other (y ∷ ys) zero zero x ne = absurd (ne refl)
-get_set_other (y ∷ ys) zero (suc j) x ne = refl
-get_set_other (y ∷ ys) (suc i) zero x ne = refl
-get_set_other (y ∷ ys) (suc i) (suc j) x ne = get_set_other ys i j x (λ e. ne (ap suc e))
-
-pub length_set : {X : Type 0} (xs : List X) (i : ℕ) (x : X) → length (slice_set xs i x) ≡ length xs
-length_set [] i x = refl
-length_set (y ∷ ys) zero x = refl
-length_set (y ∷ ys) (suc i) x = ap suc (length_set ys i x)
 
 pub read_within : (xs : List ℕ) (i d e : ℕ) → i < length xs → get_or xs i d ≡ get_or xs i e
 read_within [] i d e lt = absurd (omega (arith, lt))
@@ -75,11 +65,11 @@ zip_length R [] (y ∷ ys) all = absurd all
 zip_length R (x ∷ xs) [] all = absurd all
 zip_length R (x ∷ xs) (y ∷ ys) all = ap suc (zip_length R xs ys all.1)
 
-count_is : (requests : List RequestParts) → count_bios requests ≡ length (bios_of requests)
+count_is : (requests : List RequestParts) → count_bios requests ≡ length (bios_in requests)
 count_is [] = refl
 count_is (r ∷ rs) =
     let one = sum_by-cons (λ (request : RequestParts). length request.bios) r rs in
-    let both = length-append r.bios (bios_of rs) in let rest = count_is rs in omega (arith, one, both, rest)
+    let both = length-append r.bios (bios_in rs) in let rest = count_is rs in omega (arith, one, both, rest)
 
 module _ (keys : List KeyData) (bios : List (Option Bio)) (window : List ℕ) where
   pub plugged_none : (plug : PlugParts) → plug ≡ no_bios → IsPlugged keys bios [] plug
@@ -92,7 +82,7 @@ module _ (keys : List KeyData) (bios : List (Option Bio)) (window : List ℕ) wh
       omega (arith, a, b, c, d)
 
   pub plugged_more : (os : List ℕ) (o : ℕ) (bio : Bio) (old new : PlugParts) → IsPlugged keys bios os old → At bios o (Some bio)
-      → bios_of new.requests ≡ bios_of old.requests ++ unmarked bio ∷ []
+      → bios_in new.requests ≡ bios_in old.requests ++ unmarked bio ∷ []
       → ((tagged : List TaggedBio) → IsOfWindow keys old.requests tagged → IsOfWindow keys new.requests (tagged ++ tagged_of bio ∷ []))
       → IsPlug new → AreRequests keys new.requests → IsPlugged keys bios (os ++ o ∷ []) new
   plugged_more os o bio old new was stands bios_are window_is plug_is requests = record {

@@ -7,9 +7,9 @@ use Rattle.std.proofs.lemmas.List.{length-map, length-replicate}
 use Rattle.std.proofs.lemmas.List.FromFn.{length-map-range_with_len, get_or-map-range_with_len}
 use Rattle.std.proofs.lemmas.List.Sums.{sum_by-cons}
 use Rattle.bc_base.specs.RamStores.{RamData, IsShardOf, owns}
-use Rattle.bc_base.specs.Stores.{ToldCalls}
-use Rattle.bc_medium.specs.Medium.{column}
-use Rattle.bc_medium.specs.Places.{shard_of}
+use Rattle.bc_base.specs.Stores.{StoreCalls}
+use Rattle.bc_medium.specs.Medium.{quotas_of_shard}
+use Rattle.bc_medium.specs.Layout.{shard_of}
 use Rattle.bc_stack.specs.declared.target.Target.{Target}
 use Rattle.bc_stack.specs.Targets.{StackParts}
 use Rattle.bc_script.specs.declared.op.Op.{Op}
@@ -22,7 +22,7 @@ use Rattle.bc_threads.specs.Runs.{stack_of}
 use Rattle.bc_threads.proofs.Counting.{quota_most}
 
 -- what a store in memory tells of its calls
-abbrev pub calls_told : RamData → Option ToldCalls
+abbrev pub calls_told : RamData → Option StoreCalls
 calls_told store = Some (record { plan = store.calls.fails; calls = store.calls.calls })
 
 some_sections : (sections : List (List Op)) → 1 ≤ length (sections_of sections)
@@ -42,11 +42,11 @@ each_row f n long [] = tt
 each_row f n long (section ∷ sections) = (long section, each_row f n long sections)
 
 sum_column : (f : List Op → List ℕ) (bound : List Op → ℕ) (place : ℕ) → ((section : List Op) → slice_index_or (f section) place 0 ≤ bound section) → (sections : List (List Op))
-    → sum (column place (map f sections)) ≤ sum_by bound sections
+    → sum (quotas_of_shard place (map f sections)) ≤ sum_by bound sections
 sum_column f bound place most [] = omega arith
 sum_column f bound place most (section ∷ sections) =
-    both (slice_index_or (f section) place 0) (sum (column place (map f sections))) (bound section) (sum_by bound sections) (sum (column place (map f (section ∷ sections)))) (sum_by bound (section ∷ sections))
-    (sum_by-cons (λ (k : ℕ). k) (slice_index_or (f section) place 0) (column place (map f sections))) (sum_by-cons bound section sections) (most section) (sum_column f bound place most sections)
+    both (slice_index_or (f section) place 0) (sum (quotas_of_shard place (map f sections))) (bound section) (sum_by bound sections) (sum (quotas_of_shard place (map f (section ∷ sections)))) (sum_by bound (section ∷ sections))
+    (sum_by-cons (λ (k : ℕ). k) (slice_index_or (f section) place 0) (quotas_of_shard place (map f sections))) (sum_by-cons bound section sections) (most section) (sum_column f bound place most sections)
   where
     both : (a b c d s t : ℕ) → s ≡ a + b → t ≡ c + d → a ≤ c → b ≤ d → s ≤ t
     both a b c d s t left right first second = omega arith

@@ -5,7 +5,7 @@ use Rattle.std.proofs.lemmas.List.{map-append}
 use Rattle.std.proofs.lemmas.Option.{get_or_from_slice_get, none-some, same_Some, slice_get_within}
 use Rattle.bc_base.specs.Lists.{At}
 use Rattle.bc_section.proofs.Lists.{take_next}
-use Rattle.bc_threads.proofs.Noting.{get_set_other, length_set}
+use Rattle.bc_section.proofs.Reaching.{get_set_other, length_set}
 
 module _ {X : Type 0} where
   -- these have been taken out, and those from this place on are as they were

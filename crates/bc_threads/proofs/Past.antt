@@ -19,8 +19,7 @@ use Rattle.bc_stack.specs.Pieces.{device_of}
 use Rattle.bc_script.specs.declared.op.Op.{Op}
 use Rattle.bc_script.specs.Script.{Script, IsScript, keys_of}
 use Rattle.bc_script.specs.Bios.{is_inline}
-use Rattle.bc_threads.proofs.Events.{count_cons}
-use Rattle.bc_section.proofs.Holding.{holds_by}
+use Rattle.bc_section.proofs.Holding.{holds_by, count_cons}
 use Rattle.bc_section.proofs.Located.{covered, found, some_targets}
 use Rattle.bc_threads.proofs.WindowBios.{IsWindowBio, is_accepted}
 

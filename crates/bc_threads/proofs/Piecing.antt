@@ -1,6 +1,6 @@
 -- The events that a window asks for: two for each of its operations that touches the device, as its pieces there are no more.
 use Rattle.std.proofs.Common.{◌≡◌, ◌∙◌, ℕ, ◌*◌, ◌<◌, ◌≤◌, Bool, true, false, cond, List, [], ◌∷◌, length, map, refl, sym, ap, subst, arith, Option, Some, None}
-use Rattle.std.specs.Prelude.{◌==◌, ◌||◌, count_by, sum_by, filter, flat_map, slice_get, IsSomeAnd}
+use Rattle.std.specs.Prelude.{◌==◌, ◌||◌, count_by, sum_by, filter, flat_map}
 use Rattle.std.specs.List.{AllByRecursion, AllZip, cons_option, list_any}
 use Rattle.std.specs.Option.{option_map, option_map_or}
 use Rattle.std.proofs.lemmas.List.{length-append}
@@ -25,36 +25,26 @@ use Rattle.bc_report.specs.Counts.{touches_any}
 use Rattle.bc_report.specs.Holders.{is_way_on}
 use Rattle.bc_profile.specs.declared.uses.Use.TheVariants as uses
 use Rattle.bc_report.specs.SerialRun.{DeviceUse, name_at, holds_for, is_on, pieces_of_request, uses_of_turn}
-use Rattle.bc_section.specs.Reached.{IsAcceptedBio, MayBePlugged, numbered}
-use Rattle.bc_section.specs.Uses.{bios_of}
+use Rattle.bc_section.specs.SectionProgress.{IsAcceptedBio, MayBePlugged, numbered}
+use Rattle.bc_section.specs.Uses.{op_bios}
 use Rattle.bc_pieces.specs.Pieces.{is_piece_on, pieces_on}
 use Rattle.bc_disk.specs.Submissions.{events_for, inline_key, inline_pieces}
-use Rattle.bc_threads.specs.Asked.{events_asked, events_of_one}
-use Rattle.bc_threads.proofs.Events.{count_cons}
-use Rattle.bc_section.proofs.Holding.{hold_weight, holds_of, touched_by, window_holds}
+use Rattle.bc_threads.specs.Demand.{events_asked, events_of_one}
+use Rattle.bc_section.proofs.Holding.{hold_weight, holds_of, touched_by, window_holds, count_cons}
 use Rattle.bc_threads.proofs.Past.{none_on}
 use Rattle.bc_threads.proofs.WindowBios.{IsWindowBio}
-
--- the operations of a window have accepted bios
-pub numbered_accepted : (script : Script) (section : List Op) (os : List ℕ) → AllByRecursion (MayBePlugged script section) os → AllByRecursion (λ act. IsAcceptedBio script act.1) (numbered section os)
-numbered_accepted script section [] all = tt
-numbered_accepted script section (o ∷ os) all = of_op (slice_get section o) all.0 (numbered_accepted script section os all.1)
-  where
-    of_op : (p : Option Op) → IsSomeAnd p (IsAcceptedBio script) → AllByRecursion (λ act. IsAcceptedBio script act.1) (numbered section os)
-        → AllByRecursion (λ act. IsAcceptedBio script act.1) (option_map_or (λ operation. (o, operation) ∷ numbered section os) p (numbered section os))
-    of_op None is rest = absurd is
-    of_op (Some x) is rest = (is, rest)
+use Rattle.bc_section.proofs.Numbered.{numbered_accepted}
 
 -- the bios of a window by their tags are those of its operations
-pub tagged_are : (script : Script) (section : List Op) (window : List ℕ) (taken : List Bio) → AllZip (IsWindowBio script section) window taken → map tagged_of taken ≡ bios_of (numbered section window)
+pub tagged_are : (script : Script) (section : List Op) (window : List ℕ) (taken : List Bio) → AllZip (IsWindowBio script section) window taken → map tagged_of taken ≡ op_bios (numbered section window)
 tagged_are script section [] [] all = refl
 tagged_are script section [] (bio ∷ taken) all = absurd all
 tagged_are script section (o ∷ os) [] all = absurd all
 tagged_are script section (o ∷ os) (bio ∷ taken) all =
     ap (λ (l : List TaggedBio). tagged_of bio ∷ l) (tagged_are script section os taken all.1)
-    ∙ ap (λ (tag : ℕ). record { tag = tag; bio = extent_of bio } ∷ bios_of (numbered section os)) all.0.of.tag
-    ∙ sym (ap (λ (e : Option Extent). cons_option (option_map (λ bio. record { tag = o; bio = bio }) e) (bios_of (numbered section os))) all.0.of.extent)
-    ∙ sym (ap (λ (p : Option Op). bios_of (option_map_or (λ operation. (o, operation) ∷ numbered section os) p (numbered section os))) all.0.asked)
+    ∙ ap (λ (tag : ℕ). record { tag = tag; bio = extent_of bio } ∷ op_bios (numbered section os)) all.0.of.tag
+    ∙ sym (ap (λ (e : Option Extent). cons_option (option_map (λ bio. record { tag = o; bio = bio }) e) (op_bios (numbered section os))) all.0.of.extent)
+    ∙ sym (ap (λ (p : Option Op). op_bios (option_map_or (λ operation. (o, operation) ∷ numbered section os) p (numbered section os))) all.0.asked)
 
 module _ (script : Script) (device thread : ℕ) where
   abbrev weigh : List DeviceUse → ℕ
@@ -125,7 +115,7 @@ module _ (script : Script) (device thread : ℕ) where
       (subst (λ (k : List KeyData). events_for script.targets k taken device ≤ events_asked script acts device) (sym same_keys)
       (let few = of_requests (requests_of (keys_of script) (map tagged_of taken)) in
       let same = ap (λ (w : List TaggedBio). weigh (uses_of_turn script device thread (turns.Window w))) (tagged_are script section window taken all) in
-      let holds = window_holds script device thread rules.devices.stack (λ key. true) (bios_of acts) in
+      let holds = window_holds script device thread rules.devices.stack (λ key. true) (op_bios acts) in
       let touched = touched_by script device within (λ key. true) (λ u. is_way_on device (way_of script u.context u.sector)) (λ u context is passes way. way) acts accepted in
       let asked = asked_is acts accepted in
       omega (arith, few, same, holds, touched, asked)))

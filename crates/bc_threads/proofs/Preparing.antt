@@ -7,7 +7,6 @@ use Rattle.std.proofs.lemmas.List.FromFn.{length-map-range_with_len, map-range_w
 use Rattle.std.proofs.lemmas.List.{length-replicate}
 use Rattle.std.proofs.lemmas.Option.{none-some}
 use Rattle.bc_base.specs.Lists.{At, AllAt}
-use Rattle.bc_key.specs.KeyData.{KeyData}
 use Rattle.bc_bio.specs.declared.access.Access.{Access}
 use Rattle.bc_bio.specs.declared.access.Access.TheVariants.{Read, Write}
 use Rattle.bc_bio.specs.declared.bio.Bio.{Bio}
@@ -23,20 +22,9 @@ use Rattle.bc_script.specs.declared.op.Text.{Text}
 use Rattle.bc_script.specs.declared.op.Text.TheVariants.{Fill, Bytes}
 use Rattle.bc_script.specs.Script.{Script, IsScriptOp, IsText, keys_of}
 use Rattle.bc_script.specs.Bios.{bio_of}
-use Rattle.bc_script.specs.Plan.{text_at, written_at}
-use Rattle.bc_threads.specs.Prepared.{HasUnit, IsBioOf, IsMadeFor, IsPrepared}
-
--- a part ends within as many parts as there are
-part_within : (size i n : ℕ) → i < n → size * i + size ≤ n * size
-part_within size i zero lt = absurd (omega arith)
-part_within size zero (suc n) lt = omega arith
-part_within size (suc i) (suc n) lt = let before = part_within size i n (omega arith) in omega arith
-
--- a bio's text has its units, and each of them has its size
-has_unit : (keys : List KeyData) (context : Option Context) (units : ℕ) (text : Text) (i : ℕ) → IsText keys context units text → i < units → HasUnit text (512 * unit_sectors keys context) i
-has_unit keys context units (Fill byte) i rules within = tt
-has_unit keys context units (Bytes bytes) i rules within =
-    subst (λ (n : ℕ). 512 * unit_sectors keys context * i + 512 * unit_sectors keys context ≤ n) (sym rules.2) (part_within (512 * unit_sectors keys context) i units within)
+use Rattle.bc_script.specs.Plan.{text_at, written_at, HasUnit}
+use Rattle.bc_threads.specs.PreparedBios.{IsBioOf, IsMadeFor, IsPrepared}
+use Rattle.bc_section.proofs.Numbered.{has_unit}
 
 text_length : (text : Text) (size i : ℕ) → HasUnit text size i → length (text_at text size i) ≡ size
 text_length (Fill byte) size i has = length-replicate size byte

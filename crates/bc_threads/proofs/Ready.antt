@@ -19,7 +19,7 @@ use Rattle.bc_disk.specs.Openings.{quota_at}
 use Rattle.bc_threads.specs.Jobs.{MayWork}
 use Rattle.bc_threads.specs.Quotas.{event_row, event_rows, sections_of, unit_quota, unit_row, unit_rows}
 use Rattle.bc_threads.specs.Runs.{IsOpenedFor, contents_told}
-use Rattle.bc_threads.specs.Shared.{IsOpenFor}
+use Rattle.bc_threads.specs.SharedDevice.{IsOpenFor}
 use Rattle.bc_threads.proofs.Asking.{entries_most, events_most}
 
 at_list : (xs : List (List Op)) (t : ℕ) → t < length xs → At xs t (list_at xs t)

@@ -8,7 +8,7 @@ use Rattle.bc_bio.specs.declared.extent.Extent.{Extent}
 use Rattle.bc_script.specs.declared.op.Op.{Op}
 use Rattle.bc_script.specs.Script.{Script}
 use Rattle.bc_script.specs.Bios.{bio_of}
-use Rattle.bc_threads.specs.Prepared.{IsBioOf, IsPrepared}
+use Rattle.bc_threads.specs.PreparedBios.{IsBioOf, IsPrepared}
 use Rattle.bc_threads.proofs.Affording.{each_there}
 
 -- the bio of an operation that has one

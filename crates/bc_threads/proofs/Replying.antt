@@ -29,13 +29,14 @@ use Rattle.bc_report.specs.declared.answer.Answer.{Answer}
 use Rattle.bc_report.specs.declared.answer.Answer.TheVariants as answers
 use Rattle.bc_report.specs.Answers.{answer_of_outcome, read_answer, IsOwnWord}
 use Rattle.bc_compose.specs.SectionDone.{IsBioAnswer, IsReply}
-use Rattle.bc_section.proofs.Lists.{all_of, zip_more}
+use Rattle.bc_section.proofs.Lists.{zip_more}
 use Rattle.bc_queue.specs.Carrying.{AccessFacts}
 use Rattle.bc_pieces.specs.Becoming.{Becomes, KnowsDone, KnowsFault, KnowsUnit, OpensWith, planned_in, planned_units}
 use Rattle.bc_disk.specs.Submissions.{RepliesTo}
-use Rattle.bc_threads.specs.Outcomes.{answer_of_reply, bytes_in, done_answer}
+use Rattle.bc_threads.specs.Outcomes.{answer_of_reply, bytes_of_unit, done_answer}
+use Rattle.bc_base.proofs.Members.{all_of}
 
-bytes_of_texts : (texts : List (List ℕ)) → flat_map bytes_in (map (λ text. Full text) texts) ≡ flat_map (λ text. text) texts
+bytes_of_texts : (texts : List (List ℕ)) → flat_map bytes_of_unit (map (λ text. Full text) texts) ≡ flat_map (λ text. text) texts
 bytes_of_texts [] = refl
 bytes_of_texts (text ∷ texts) = ap (λ (l : List ℕ). text ++ l) (bytes_of_texts texts)
 
@@ -53,7 +54,7 @@ module _ (script : Script) (base : ℕ → Sectors) (thread : ℕ) (facts : Acce
   done Read old new is = (
     Bytes (flat_map (λ text. text) is.0),
     (refl, is.0, zip_more (λ u text. KnowsUnit facts seen base u (Text text)) (λ u text. Knows (keys_of script) facts.shards base thread seen u (Text text)) (planned_units facts.keys old) is.0 (λ u text k. knows u (Text text) k) is.1, refl),
-    ap read_answer (ap (flat_map bytes_in) is.2 ∙ bytes_of_texts is.0),
+    ap read_answer (ap (flat_map bytes_of_unit) is.2 ∙ bytes_of_texts is.0),
   )
 
   fault : (access : Access) (old : Bio) (unit : ℕ) → KnowsFault facts seen base old unit → IsOutcome access (planned_units facts.keys old) (answers.Fault unit)

@@ -9,9 +9,10 @@ use Rattle.bc_medium.specs.declared.via.Via.{Via}
 use Rattle.bc_medium.specs.declared.via.Via.TheVariants as vias
 use Rattle.bc_report.specs.Programmings.{InlineEntry, entry_by}
 use Rattle.bc_compose.specs.SectionDone.{inline_of}
-use Rattle.bc_compose.specs.Ordered.{Pairs, Rises}
-use Rattle.bc_section.proofs.Lists.{all_at, all_from_in, in_of_filter_map}
-use Rattle.bc_pieces.specs.Told.{NamesNoEarlier, Rise}
+use Rattle.bc_compose.specs.OrderedHolds.{Pairs, Rises}
+use Rattle.bc_section.proofs.Lists.{in_of_filter_map}
+use Rattle.bc_pieces.specs.PieceEffects.{NamesNoEarlier, Rise}
+use Rattle.bc_base.proofs.Members.{all_at, all_from_in}
 
 -- what an inline entry says of its unit and its way
 pub inline_parts : (op : ℕ) (context : Option Context) (via : Via) (i : InlineEntry) → option_and_then (λ c. entry_by op c via) context ≡ Some i

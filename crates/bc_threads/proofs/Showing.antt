@@ -14,12 +14,12 @@ use Rattle.bc_bio.specs.declared.refusal.Refusal.TheVariants as refusals
 use Rattle.bc_bio.specs.Check.{check_of}
 use Rattle.bc_stack.specs.declared.target.Target.{Target}
 use Rattle.bc_script.specs.Script.{Script, keys_of}
-use Rattle.bc_script.specs.Bios.{is_inline, is_supported, refusal_of}
-use Rattle.bc_compose.specs.Ordered.{slots_of}
+use Rattle.bc_script.specs.Bios.{is_inline, context_is_supported, refusal_of}
+use Rattle.bc_compose.specs.OrderedHolds.{slot_count_of}
 use Rattle.bc_section.specs.Sections.{DeviceData}
 use Rattle.bc_pieces.specs.Pieces.{DeviceFacts}
 use Rattle.bc_disk.specs.Disks.{DiskData, goes_inline, keys_in, refusal_on, supports_context}
-use Rattle.bc_threads.specs.Shared.{IsOpenFor}
+use Rattle.bc_threads.specs.SharedDevice.{IsOpenFor}
 
 -- what contracts of the loop see of a caller's way to the disk
 abbrev pub shown : Script → (ℕ → Sectors) → ℕ → DeviceFacts → DeviceData
@@ -40,7 +40,7 @@ pub record IsWayFor (script : Script) (thread : ℕ) (facts : DeviceFacts) : Typ
   pub keys : facts.access.keys ≡ keys_of script
   pub targets : facts.targets ≡ script.targets
   pub caller : facts.access.caller ≡ thread
-  pub slots : (device : ℕ) → device < length script.targets → facts.slots device ≡ slots_of script device
+  pub slots : (device : ℕ) → device < length script.targets → facts.slots device ≡ slot_count_of script device
 
 -- a key goes inline on the disk where it does by the script
 pub inline_of_script : (targets : List Target) (keys : List KeyData) (script : Script) (key : KeyNo) → targets ≡ script.targets → keys ≡ keys_of script → goes_inline targets keys key ≡ is_inline script key
@@ -48,7 +48,7 @@ inline_of_script targets keys script key ts ks =
     ap (λ (t : List Target). goes_inline t keys key) ts ∙ ap (λ (k : List KeyData). goes_inline script.targets k key) ks
 
 module _ {S : Type 0} (contents : S → Option Sectors) (script : Script) (disk : DiskData S) (opened : IsOpenFor contents script disk) where
-  supports : (context : Option Context) → supports_context disk context ≡ is_supported script context
+  supports : (context : Option Context) → supports_context disk context ≡ context_is_supported script context
   supports None = refl
   supports (Some context) =
       ap (λ (b : Bool). b || disk.fallback) (inline_of_script disk.targets (keys_in disk) script context.key opened.targets opened.keys)

@@ -1,4 +1,4 @@
--- A window was submitted: all that the loop over a section's operations is told of it.
+-- A window was submitted: all that the loop over a section's operations is given of it.
 use Rattle.std.proofs.Common.{◌≡◌, ◌∙◌, ℕ, ◌<◌, ◌++◌, false, List, [], refl, sym, ap, subst, arith, Option}
 use Rattle.std.specs.Prelude.{IsTrue}
 use Rattle.std.specs.List.{AllByRecursion, AllZip}
@@ -11,15 +11,15 @@ use Rattle.bc_profile.specs.Laws.{HoldsNameProgrammings, ProgrammingsStay}
 use Rattle.bc_script.specs.declared.op.Op.{Op}
 use Rattle.bc_script.specs.Script.{Script}
 use Rattle.bc_report.specs.Report.{IsAnswer}
-use Rattle.bc_compose.specs.Ordered.{Pairs}
-use Rattle.bc_section.specs.Reached.{MayBePlugged, Settled, Submitted, answers_by, numbered}
-use Rattle.bc_pieces.specs.Told.{IsHoldOf, events_on}
+use Rattle.bc_compose.specs.OrderedHolds.{Pairs}
+use Rattle.bc_section.specs.SectionProgress.{MayBePlugged, Settled, Submitted, answers_by, numbered}
+use Rattle.bc_pieces.specs.PieceEffects.{IsHoldOf, events_on}
 use Rattle.bc_disk.specs.Disks.{DiskData, PassData, facts_on}
 use Rattle.bc_disk.specs.Submissions.{RepliesTo, Submits, window_pieces}
 use Rattle.bc_threads.specs.declared.outcome.Outcome.{Outcome}
 use Rattle.bc_threads.specs.Outcomes.{answer_in, answer_of_reply}
 use Rattle.bc_threads.specs.Plugging.{AreNoted}
-use Rattle.bc_threads.specs.Shared.{IsOpenFor, device_on}
+use Rattle.bc_threads.specs.SharedDevice.{IsOpenFor, device_on}
 use Rattle.bc_threads.proofs.HoldOfEach.{held_are}
 use Rattle.bc_threads.proofs.Keyed.{bounds_are}
 use Rattle.bc_threads.proofs.Showing.{IsWayFor}
@@ -28,7 +28,7 @@ use Rattle.bc_threads.proofs.Telling.{settled}
 use Rattle.bc_threads.proofs.WindowBios.{IsWindowBio}
 use Rattle.bc_threads.proofs.Windowing.{planned_are, ways_are}
 
-not_alone : {A : Type 0} → IsTrue false → A
+pub not_alone : {A : Type 0} → IsTrue false → A
 not_alone is = absurd (true≢false (sym is))
 
 module _ {S : Type 0} (contents : S → Option Sectors) (script : Script) (section : List Op) (thread : ℕ) (disk : DiskData S) (old new : PassData S)

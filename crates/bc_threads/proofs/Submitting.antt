@@ -14,11 +14,11 @@ use Rattle.bc_queue.specs.Laws.{TagsDiffer}
 use Rattle.bc_script.specs.declared.op.Op.{Op}
 use Rattle.bc_script.specs.Script.{Script}
 use Rattle.bc_script.specs.Plan.{units_of}
-use Rattle.bc_compose.specs.Ordered.{Notes, Pairs}
-use Rattle.bc_section.specs.Reached.{numbered}
+use Rattle.bc_compose.specs.OrderedHolds.{Notes, Pairs}
+use Rattle.bc_section.specs.SectionProgress.{numbered}
 use Rattle.bc_pieces.specs.Becoming.{planned_units}
 use Rattle.bc_pieces.specs.Pieces.{DeviceFacts}
-use Rattle.bc_pieces.specs.Told.{events_on}
+use Rattle.bc_pieces.specs.PieceEffects.{events_on}
 use Rattle.bc_disk.specs.Submissions.{Submits}
 use Rattle.bc_threads.proofs.Events.{notes_of_each}
 use Rattle.bc_threads.proofs.Showing.{IsWayFor}

@@ -10,7 +10,7 @@ use Rattle.bc_bio.specs.Laws.{UnrefusedIsAccepted}
 use Rattle.bc_script.specs.declared.op.Op.{Op}
 use Rattle.bc_script.specs.Script.{Script}
 use Rattle.bc_report.specs.Report.{IsAnswer}
-use Rattle.bc_section.specs.Reached.{Settled, answers_by}
+use Rattle.bc_section.specs.SectionProgress.{Settled, answers_by}
 use Rattle.bc_section.proofs.Lists.{at_map}
 use Rattle.bc_pieces.specs.Becoming.{planned_units}
 use Rattle.bc_disk.specs.Disks.{DiskData, PassData, facts_on}
@@ -19,7 +19,7 @@ use Rattle.bc_threads.specs.declared.outcome.Outcome.{Outcome}
 use Rattle.bc_threads.specs.declared.outcome.Outcome.TheVariants as outcomes
 use Rattle.bc_threads.specs.Outcomes.{answer_in, answer_of_reply}
 use Rattle.bc_threads.specs.Plugging.{AreNoted}
-use Rattle.bc_threads.specs.Shared.{IsOpenFor, base_on, device_on}
+use Rattle.bc_threads.specs.SharedDevice.{IsOpenFor, base_on, device_on}
 use Rattle.bc_threads.proofs.Replying.{is_reply}
 use Rattle.bc_threads.proofs.Showing.{IsWayFor}
 use Rattle.bc_threads.proofs.WindowBios.{IsWindowBio, units_are}

@@ -28,13 +28,13 @@ use Rattle.bc_script.specs.declared.op.Op.TheVariants as ops
 use Rattle.bc_script.specs.Script.{Script, IsContext, IsNamedKey, IsScript, IsScriptOp, keys_of, sectors_in}
 use Rattle.bc_script.specs.Bios.{bio_of, refusal_of, unsupported_of}
 use Rattle.bc_script.specs.Plan.{unit_at, units_of, units_of_bio}
-use Rattle.bc_section.specs.Reached.{IsAcceptedBio, MayBePlugged, numbered}
+use Rattle.bc_section.specs.SectionProgress.{IsAcceptedBio, MayBePlugged, numbered}
 use Rattle.bc_section.proofs.Lists.{all_slice, at_of_map}
 use Rattle.bc_pieces.specs.Becoming.{planned_in, planned_units}
 use Rattle.bc_disk.specs.Disks.{DiskData}
 use Rattle.bc_disk.specs.Submissions.{IsTaken}
-use Rattle.bc_threads.specs.Prepared.{IsBioOf, IsPrepared}
-use Rattle.bc_threads.specs.Shared.{IsOpenFor}
+use Rattle.bc_threads.specs.PreparedBios.{IsBioOf, IsPrepared}
+use Rattle.bc_threads.specs.SharedDevice.{IsOpenFor}
 use Rattle.bc_threads.proofs.Refusing.{bio_there}
 use Rattle.bc_threads.proofs.Showing.{refusal_is}
 

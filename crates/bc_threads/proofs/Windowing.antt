@@ -15,29 +15,29 @@ use Rattle.bc_bio.specs.Requests.{tagged_bios, tagged_of, unmarked}
 use Rattle.bc_bio.specs.Windows.{TaggedBio}
 use Rattle.bc_medium.specs.declared.entry.Entry.{Entry}
 use Rattle.bc_medium.specs.Medium.{shards_of}
-use Rattle.bc_medium.specs.Places.{shard_of}
-use Rattle.bc_queue.specs.Plugs.{IsOfWindow, PlugParts, bios_of}
+use Rattle.bc_medium.specs.Layout.{shard_of}
+use Rattle.bc_queue.specs.Plugs.{IsOfWindow, PlugParts, bios_in}
 use Rattle.bc_queue.specs.Queues.{opening_of}
-use Rattle.bc_queue.specs.RequestUnits.{units_on}
+use Rattle.bc_queue.specs.RequestUnits.{count_units_on}
 use Rattle.bc_script.specs.declared.op.Op.{Op}
 use Rattle.bc_script.specs.Script.{Script, IsScript, IsScriptOp, keys_of}
 use Rattle.bc_script.specs.Plan.{units_of}
 use Rattle.bc_compose.specs.SectionDone.{SaysItsWay}
-use Rattle.bc_section.specs.Reached.{MayBePlugged, numbered}
-use Rattle.bc_section.proofs.Lists.{all_of}
+use Rattle.bc_section.specs.SectionProgress.{MayBePlugged, numbered}
 use Rattle.bc_pieces.specs.Becoming.{OpensWith, planned_units}
 use Rattle.bc_pieces.specs.Pieces.{DeviceFacts}
 use Rattle.bc_disk.specs.Disks.{DiskData, PassData, facts_on, keys_in}
 use Rattle.bc_disk.specs.Submissions.{AreTaken, GoesItsWay, HasEntriesFor, LeavesEntries, RepliesTo, Submits, bare_bios}
-use Rattle.bc_threads.specs.Asked.{entries_asked}
+use Rattle.bc_threads.specs.Demand.{entries_asked}
 use Rattle.bc_threads.specs.Plugging.{HasBioAt, IsPlugged}
-use Rattle.bc_threads.specs.Prepared.{IsPrepared}
-use Rattle.bc_threads.specs.Shared.{IsOpenFor, base_on}
+use Rattle.bc_threads.specs.PreparedBios.{IsPrepared}
+use Rattle.bc_threads.specs.SharedDevice.{IsOpenFor, base_on}
 use Rattle.bc_threads.proofs.Affording.{entries_append}
 use Rattle.bc_threads.proofs.Noting.{zip_length}
 use Rattle.bc_threads.proofs.Showing.{IsWayFor}
 use Rattle.bc_threads.proofs.Ways.{says_its_way}
 use Rattle.bc_threads.proofs.WindowBios.{IsWindowBio, all_units_are, bios_there, is_placed, is_taken}
+use Rattle.bc_base.proofs.Members.{all_of}
 
 -- the bios of a window stand where they were prepared, and can be placed
 pub window_there : (script : Script) (section : List Op) (bios : List (Option Bio)) (keys : List KeyData) → keys ≡ keys_of script → IsScript script → UnrefusedIsAccepted → AllByRecursion (IsScriptOp script) section
@@ -58,12 +58,12 @@ bare_unmarked [] = refl
 bare_unmarked (bio ∷ taken) = ap (λ (l : List Bio). bio ∷ l) (bare_unmarked taken)
 
 module _ (keys : List KeyData) (bios : List (Option Bio)) (window : List ℕ) (plug : PlugParts) (is : IsPlugged keys bios window plug) where
-  pub bare_are : bare_bios (bios_of plug.requests) ≡ is.taken
+  pub bare_are : bare_bios (bios_in plug.requests) ≡ is.taken
   bare_are = ap bare_bios is.plugged ∙ bare_unmarked is.taken
 
-  pub window_is : (keys' : List KeyData) → keys ≡ keys' → IsOfWindow keys' plug.requests (tagged_bios (bios_of plug.requests))
+  pub window_is : (keys' : List KeyData) → keys ≡ keys' → IsOfWindow keys' plug.requests (tagged_bios (bios_in plug.requests))
   window_is keys' same =
-      subst (λ (k : List KeyData). IsOfWindow k plug.requests (tagged_bios (bios_of plug.requests))) same
+      subst (λ (k : List KeyData). IsOfWindow k plug.requests (tagged_bios (bios_in plug.requests))) same
       (subst (IsOfWindow keys plug.requests) (sym (ap tagged_bios is.plugged ∙ tagged_unmarked is.taken)) is.window_is)
 
 module _ {S : Type 0} (contents : S → Option Sectors) (script : Script) (section : List Op) (disk : DiskData S) (opened : IsOpenFor contents script disk) (laws : UnrefusedIsAccepted) where
@@ -79,7 +79,7 @@ module _ {S : Type 0} (contents : S → Option Sectors) (script : Script) (secti
       ap (λ (keys : List KeyData). flat_map (planned_units keys) taken) opened.keys ∙ all_units_are script section opened.rules laws window taken all
 
   -- none of them lies in a shard that isn't there
-  none_past : (shard : ℕ) → shards_of disk.queue.medium ≤ shard → (us : List PlannedUnit) → units_on (shards_of disk.queue.medium) shard us ≡ 0
+  none_past : (shard : ℕ) → shards_of disk.queue.medium ≤ shard → (us : List PlannedUnit) → count_units_on (shards_of disk.queue.medium) shard us ≡ 0
   none_past shard past us = ap (λ (l : List PlannedUnit). length l) (none us)
     where
       below : (n m : ℕ) → 1 ≤ m → shard_of m n < m
@@ -98,7 +98,7 @@ module _ {S : Type 0} (contents : S → Option Sectors) (script : Script) (secti
   has_entries pass window taken rest all room shard = ⊎_elim
       (λ (within : shard < shards_of disk.queue.medium).
       let split = entries_append script (shards_of disk.queue.medium) shard (numbered section window) rest in let had = room shard within in
-      let same = ap (units_on (shards_of disk.queue.medium) shard) (planned_are window taken all) in omega (arith, split, had, same))
+      let same = ap (count_units_on (shards_of disk.queue.medium) shard) (planned_are window taken all) in omega (arith, split, had, same))
       (λ (past : shards_of disk.queue.medium ≤ shard). let none = none_past shard past (flat_map (planned_units (keys_in disk)) taken) in omega (arith, none))
       (cases_lt shard (shards_of disk.queue.medium))
 
@@ -107,9 +107,9 @@ module _ {S : Type 0} (contents : S → Option Sectors) (script : Script) (secti
       → (shard : ℕ) → (facts_on contents disk old).access.spare shard ≤ (facts_on contents disk new).access.spare shard + entries_asked script (shards_of disk.queue.medium) (numbered section window) shard
   leaves old new window taken bare same all le shard =
       let used = le shard in
-      let units = ap (units_on (shards_of disk.queue.medium) shard) (ap (λ (l : List Bio). flat_map (planned_units (keys_in disk)) l) same ∙ planned_are window taken all) in omega (arith, used, units)
+      let units = ap (count_units_on (shards_of disk.queue.medium) shard) (ap (λ (l : List Bio). flat_map (planned_units (keys_in disk)) l) same ∙ planned_are window taken all) in omega (arith, used, units)
 
-  -- the sectors at the opening are told
+  -- the sectors at the opening are reported
   pub opens_with : (pass : PassData S) → OpensWith (facts_on contents disk pass).access (base_on contents disk)
   opens_with pass sector = told (opening_of contents disk.queue.medium (shard_of (shards_of disk.queue.medium) sector)) (opened.tells (shard_of (shards_of disk.queue.medium) sector) (below sector (shards_of disk.queue.medium) opened.some_shards))
     where

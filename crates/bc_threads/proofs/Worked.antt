@@ -8,13 +8,13 @@ use Rattle.bc_bio.specs.declared.reply.Reply.{Reply}
 use Rattle.bc_queue.specs.Plugs.{PlugParts}
 use Rattle.bc_script.specs.declared.op.Op.{Op}
 use Rattle.bc_script.specs.Script.{Script}
-use Rattle.bc_compose.specs.Ordered.{Pairs}
-use Rattle.bc_section.specs.Reached.{CarriesSection}
+use Rattle.bc_compose.specs.OrderedHolds.{Pairs}
+use Rattle.bc_section.specs.SectionProgress.{CarriesSection}
 use Rattle.bc_disk.specs.Disks.{DiskData, IsPassOf, PassData}
 use Rattle.bc_threads.specs.declared.outcome.Outcome.{Outcome}
 use Rattle.bc_threads.specs.Outcomes.{answer_in}
-use Rattle.bc_threads.specs.Prepared.{IsSection, SectionData}
-use Rattle.bc_threads.specs.Shared.{CanCarryOut, device_on}
+use Rattle.bc_threads.specs.PreparedBios.{IsPreparedSection, SectionData}
+use Rattle.bc_threads.specs.SharedDevice.{CanCarryOut, device_on}
 use Rattle.bc_threads.specs.Jobs.{HasWorked, MayWork}
 use Rattle.bc_threads.proofs.Outcomes.{same_out}
 
@@ -39,7 +39,7 @@ ascends n [] = tt
 ascends n (x ∷ ops) = (later n (n + 1) ops (omega arith), ascends (n + 1) ops)
 
 module _ {S : Type 0} (contents : S → Option Sectors) (script : Script) (thread : ℕ) (disk : DiskData S) (pass : PassData S) (may : MayWork contents disk pass (record { script = script; thread = thread })) where
-  pub can_carry_out : (bios : List (Option Bio)) (plug : PlugParts) (replies : List Reply) (room : ℕ) (noted : List (Option Outcome)) (outcomes : List Outcome) (outcome_room : ℕ) → IsSection script thread bios plug replies room noted outcomes outcome_room
+  pub can_carry_out : (bios : List (Option Bio)) (plug : PlugParts) (replies : List Reply) (room : ℕ) (noted : List (Option Outcome)) (outcomes : List Outcome) (outcome_room : ℕ) → IsPreparedSection script thread bios plug replies room noted outcomes outcome_room
       → CanCarryOut contents script thread disk pass bios plug replies room (enumerate_from 0 (list_at script.threads thread))
   can_carry_out bios plug replies room noted outcomes outcome_room is = record {
     opened = may.opened;

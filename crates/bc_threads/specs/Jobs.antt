@@ -2,12 +2,12 @@
 use Rattle.std.specs.Prelude.{◌≡◌, List, map, Option, None, IsSomeAnd, IfSome}
 use Rattle.std.specs.List.{enumerate_from}
 use Rattle.bc_base.specs.Sectors.{Sectors}
-use Rattle.bc_section.specs.Reached.{CarriesSection}
+use Rattle.bc_section.specs.SectionProgress.{CarriesSection}
 use Rattle.bc_disk.specs.Disks.{DiskData, IsPassOf, PassData}
 use Rattle.bc_threads.specs.declared.outcome.Outcome.{Outcome}
 use Rattle.bc_threads.specs.Outcomes.{answer_in}
-use Rattle.bc_threads.specs.Prepared.{SectionData, operations_of}
-use Rattle.bc_threads.specs.Shared.{HasRoomFor, IsNew, IsOpenFor, device_on}
+use Rattle.bc_threads.specs.PreparedBios.{SectionData, operations_of}
+use Rattle.bc_threads.specs.SharedDevice.{HasRoomFor, IsNew, IsOpenFor, device_on}
 
 module _ {S : Type 0} (contents : S → Option Sectors) where
   -- a section can be carried out on the disk by this pass

@@ -1,8 +1,8 @@
 pub mod Outcomes
-pub mod Prepared
-pub mod Asked
+pub mod PreparedBios
+pub mod Demand
 pub mod Quotas
 pub mod Plugging
-pub mod Shared
+pub mod SharedDevice
 pub mod Jobs
 pub mod Runs

@@ -14,18 +14,18 @@ use Rattle.bc_threads.specs.declared.outcome.Outcome.{Outcome}
 use Rattle.bc_threads.specs.declared.outcome.Outcome.TheVariants as outcomes
 
 -- the bytes that a unit has
-abbrev pub bytes_in : Unit → List ℕ
-bytes_in (Full bytes) = bytes
-bytes_in _ = []
+abbrev pub bytes_of_unit : Unit → List ℕ
+bytes_of_unit (Full bytes) = bytes
+bytes_of_unit _ = []
 
 -- the bytes of a bio: those of its units, one after the other
-abbrev pub bytes_of : Bio → List ℕ
-bytes_of bio = flat_map bytes_in bio.units
+abbrev pub bytes_of_bio : Bio → List ℕ
+bytes_of_bio bio = flat_map bytes_of_unit bio.units
 
 -- how a report says that a bio was done
 abbrev pub done_answer : Access → Bio → Answer
 done_answer Write bio = answers.Wrote
-done_answer Read bio = read_answer (bytes_of bio)
+done_answer Read bio = read_answer (bytes_of_bio bio)
 
 -- how it says a reply
 abbrev pub answer_of_reply : Reply → Answer

@@ -1,4 +1,5 @@
--- Private: the bios of a window, taken from where they were prepared and plugged; and its replies, noted.
+-- Private: the bios of a window, taken from where they were prepared and plugged; and its replies,
+-- noted.
 use Rattle.std.specs.Prelude.{◌≡◌, ℕ, ◌==◌, false, List, map, slice_get, Option, Some}
 use Rattle.std.specs.List.{AllZip, list_any}
 use Rattle.bc_base.specs.Lists.{At}
@@ -8,7 +9,7 @@ use Rattle.bc_bio.specs.declared.reply.Reply.{Reply}
 use Rattle.bc_bio.specs.BioUnits.{extent_of}
 use Rattle.bc_bio.specs.Conditions.{IsPlaced}
 use Rattle.bc_bio.specs.Requests.{tagged_of, unmarked}
-use Rattle.bc_queue.specs.Plugs.{AreRequests, IsOfWindow, IsPlug, PlugParts, bios_of}
+use Rattle.bc_queue.specs.Plugs.{AreRequests, IsOfWindow, IsPlug, PlugParts, bios_in}
 use Rattle.bc_threads.specs.declared.outcome.Outcome.{Outcome}
 use Rattle.bc_threads.specs.declared.outcome.Outcome.TheVariants as outcomes
 
@@ -17,10 +18,11 @@ abbrev pub HasBioAt : List KeyData → List (Option Bio) → ℕ → Type 0
 HasBioAt keys bios o = (bio : Bio) × At bios o (Some bio) × IsPlaced keys (extent_of bio)
 
 -- the bios that stood at these places are plugged, and nothing else
-pub record IsPlugged (keys : List KeyData) (bios : List (Option Bio)) (window : List ℕ) (plug : PlugParts) : Type 0 where
+pub record IsPlugged (keys : List KeyData) (bios : List (Option Bio)) (window : List ℕ)
+    (plug : PlugParts) : Type 0 where
   pub taken : List Bio
   pub each : AllZip (λ o bio. At bios o (Some bio)) window taken
-  pub plugged : bios_of plug.requests ≡ map unmarked taken
+  pub plugged : bios_in plug.requests ≡ map unmarked taken
   pub plug_is : IsPlug plug
   pub requests : AreRequests keys plug.requests
   pub window_is : IsOfWindow keys plug.requests (map tagged_of taken)

@@ -7,14 +7,14 @@ use Rattle.bc_script.specs.Script.{Script, IsScript, keys_of}
 use Rattle.bc_report.specs.declared.answer.Answer.{Answer}
 use Rattle.bc_stack.specs.Targets.{StackParts}
 use Rattle.bc_section.specs.Openings.{AreOpenings}
-use Rattle.bc_section.specs.Reached.{CarriesSection}
+use Rattle.bc_section.specs.SectionProgress.{CarriesSection}
 use Rattle.bc_disk.specs.Disks.{DiskData, IsPassOf, PassData}
 use Rattle.bc_disk.specs.Openings.{IsOpened}
 use Rattle.bc_threads.specs.declared.outcome.Outcome.{Outcome}
 use Rattle.bc_threads.specs.Outcomes.{answer_in}
-use Rattle.bc_threads.specs.Prepared.{SectionData}
+use Rattle.bc_threads.specs.PreparedBios.{SectionData}
 use Rattle.bc_threads.specs.Quotas.{event_rows, unit_rows}
-use Rattle.bc_threads.specs.Shared.{device_on}
+use Rattle.bc_threads.specs.SharedDevice.{device_on}
 
 -- what a store in memory tells of its sectors: all of them
 abbrev pub contents_told : RamData → Option Sectors
@@ -37,7 +37,7 @@ pub record IsOpenedFor (script : Script) (image : List ℕ) (shards : ℕ) (disk
       (unit_rows script shards) (event_rows script) disk passes
 
 -- the section of a thread was carried out by its pass, with these answers
-pub record IsCarriedOut (script : Script) (disk : DiskData RamData) (thread : ℕ) (answers : List Answer)
+pub record IsSectionCarriedOut (script : Script) (disk : DiskData RamData) (thread : ℕ) (answers : List Answer)
     (old new : PassData RamData) : Type 0 where
   pub pass_of : IsPassOf disk new
   pub caller : new.caller ≡ thread
@@ -50,7 +50,7 @@ pub record AreCarriedOut (script : Script) (disk : DiskData RamData) (old new : 
   pub answered : length answers ≡ length script.threads
   pub pass_for_each : length new ≡ length old
   pub each : (thread : ℕ) → thread < length script.threads → AllAt old thread (λ before. AllAt new thread (λ after.
-      IsCarriedOut script disk thread (list_at answers thread) before after))
+      IsSectionCarriedOut script disk thread (list_at answers thread) before after))
   pub none : script.threads ≡ [] → new ≡ old
 
 -- jobs by their passes and sections: each thread's pass and section

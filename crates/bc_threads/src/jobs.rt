@@ -20,8 +20,8 @@ pub struct Job<'s, S: Store> {
     pub outcomes: Option<Vec<Outcome>>,
 }
 
-/// Carries out all jobs at once, each by a thread of its own. Afterwards no job has its section, and each has the
-/// outcomes that [`work`] gave on its pass.
+/// Carries out all jobs at once, each by a thread of its own. Afterwards no job has its section,
+/// and each has the outcomes that [`work`] gave on its pass.
 ///
 /// Each job has a section that [`work`] may carry out by the job's pass.
 pub fn sections<S: Store + Send, G: Gate + Sync, R: Threads + Wait + Sync>(

@@ -9,7 +9,8 @@ use bc_base::Items;
 use bc_profile::{Event, Skip};
 use std::alloc::{AllocError, Global};
 
-/// The journals as a report has them, if it may have as many events. Their numbers are in the ranges of their types.
+/// The journals as a report has them, if it may have as many events. Their numbers are in the
+/// ranges of their types.
 pub(crate) fn journals_of(
     alloc: Global,
     devices: Vec<Vec<Event>>,

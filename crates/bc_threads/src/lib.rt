@@ -1,7 +1,7 @@
 //! A script carried out by a thread for each of its sections, at once and over one disk.
 //!
-//! [`threads`] opens a [`Disk`](bc_disk::Disk), has all [`sections`] carried out, and closes it. Whatever the
-//! threads' steps interleave to, what is left is a lawful run.
+//! [`threads`] opens a [`Disk`](bc_disk::Disk), has all [`sections`] carried out, and closes it.
+//! Whatever the threads' steps interleave to, what is left is a lawful run.
 #![tactic(auto)]
 
 // what a thread carries out, and what comes of it

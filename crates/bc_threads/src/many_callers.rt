@@ -6,7 +6,7 @@ ghost use Rattle.bc_base.specs.Lists.{Each};
 ghost use Rattle.bc_base.specs.RamStores.{RamData};
 ghost use Rattle.bc_report.specs.LawfulRun.{LawfulButHolders};
 ghost use Rattle.bc_report.specs.Report.{IsEntry, IsPart};
-ghost use Rattle.bc_compose.specs.Closed.{line_of};
+ghost use Rattle.bc_compose.specs.ClosedOrders.{report_line_of};
 ghost use Rattle.bc_script.specs.Script.{bare_keys};
 ghost use Rattle.bc_disk.specs.Disks.{PassData};
 ghost use Rattle.bc_threads.specs.Runs.{AreCarriedOut, AreJobs, IsOpenedFor, answers_in};
@@ -52,7 +52,7 @@ pub fn threads<G: Gate + Sync, R: Threads + Wait + Sync>(
         LawfulButHolders script.now image.items shards finished.report finished.image.items) }
 {
     let _ = helpers;
-    let Opened { disk, passes } = open_disk(alloc, script, image.as_slice(), shards)?;
+    let Opened { disk, passes } = open_disk(alloc, script, image, shards)?;
     let (passes, answers) = carry_out_all(rt, alloc, script, &disk, passes, gate)?;
     finish(rt, alloc, script, disk, passes, answers)
 }
@@ -61,12 +61,12 @@ pub fn threads<G: Gate + Sync, R: Threads + Wait + Sync>(
 pub(crate) fn open_disk(
     alloc: Global,
     script: &Script,
-    image: &[u8],
+    image: Vec<u8>,
     shards: u16,
 ) -> Result<Opened<RamStore>, AllocError>
-    requires length { length image.now ≡ 4096 * script.now.blocks }
+    requires length { length image.items ≡ 4096 * script.now.blocks }
     requires shards { (1 ≤ shards) × (shards ≤ 64) }
-    ensures { IfOk result (λ opened. IsOpenedFor script.now image.now shards opened.disk opened.passes.items) }
+    ensures { IfOk result (λ opened. IsOpenedFor script.now image.items shards opened.disk opened.passes.items) }
 {
     let keys = keys_of(alloc, script.keys())?;
     let Ok(stack) = Stack::new(alloc, script.targets(), script.blocks()) else {
@@ -215,7 +215,7 @@ pub(crate) fn finish<R: Wait>(
         shards,
         devices,
     } = closed;
-    let image = RamStore::join(alloc, stores.as_slice(), script.blocks())?;
+    let image = RamStore::into_image(alloc, stores, script.blocks())?;
     let lines = lines_of(alloc, shards.as_slice())?;
     let journals = journals_of(alloc, devices)?;
     sections_make_a_lawful_run();
@@ -227,7 +227,7 @@ pub(crate) fn finish<R: Wait>(
 
 /// The lines of the orders of the shards, if a report may have as many.
 fn lines_of(alloc: Global, orders: &[Vec<Entry>]) -> Result<Items<Items<Line>>, AllocError>
-    ensures lines { IfOk result (λ lines. lines ≡ map (λ order. map line_of order.items) orders.now) }
+    ensures lines { IfOk result (λ lines. lines ≡ map (λ order. map report_line_of order.items) orders.now) }
     ensures ranges { IfOk result (Each (IsPart IsEntry)) }
 {
     for order in orders {

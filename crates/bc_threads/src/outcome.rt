@@ -2,7 +2,7 @@
 
 ghost use Rattle.std.specs.Prelude.{◌≡◌, ◌++◌, flat_map, map, IfOk, OnOk};
 ghost use Rattle.bc_report.specs.Answers.{read_answer};
-ghost use Rattle.bc_threads.specs.Outcomes.{answer_in, answer_of_reply, bytes_in, bytes_of, done_answer};
+ghost use Rattle.bc_threads.specs.Outcomes.{answer_in, answer_of_reply, bytes_of_unit, bytes_of_bio, done_answer};
 
 use bc_base::Items;
 use bc_bio::{Access, Bio, Reply, Unit};
@@ -81,7 +81,7 @@ fn answer_of_done(bio: &Bio, room: &mut Vec<u8>) -> Result<Answer, AllocError>
 
 /// Leaves in `room` the bytes of these units, one after the other, and nothing else.
 fn bring_together(units: &[Unit], room: &mut Vec<u8>) -> Result<(), AllocError>
-    ensures { OnOk result (room.new.items ≡ flat_map bytes_in units.now) }
+    ensures { OnOk result (room.new.items ≡ flat_map bytes_of_unit units.now) }
 {
     room.clear();
     for unit in units {
@@ -92,7 +92,7 @@ fn bring_together(units: &[Unit], room: &mut Vec<u8>) -> Result<(), AllocError>
 
 /// Appends the bytes of a unit.
 fn append(unit: &Unit, room: &mut Vec<u8>) -> Result<(), AllocError>
-    ensures { OnOk result (room.new.items ≡ room.old.items ++ bytes_in unit.now) }
+    ensures { OnOk result (room.new.items ≡ room.old.items ++ bytes_of_unit unit.now) }
 {
     match unit {
         Unit::Full(bytes) => room.extend_from_slice(bytes.as_slice()),

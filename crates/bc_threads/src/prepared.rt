@@ -1,6 +1,6 @@
 //! Bios that are made ahead of a section's operations, with the bytes of their units.
 
-ghost use Rattle.std.specs.Prelude.{◌≡◌, ℕ, ◌*◌, ◌+◌, ◌<◌, ◌≤◌, length, map, replicate, slice_range, IfOk};
+ghost use Rattle.std.specs.Prelude.{◌≡◌, ℕ, ◌*◌, ◌<◌, ◌≤◌, length, map, IfOk};
 ghost use Rattle.std.specs.List.{enumerate_from, range_with_len};
 ghost use Rattle.bc_base.specs.Lists.{Each};
 ghost use Rattle.bc_bio.specs.declared.access.Access.{Access};
@@ -9,12 +9,13 @@ ghost use Rattle.bc_bio.specs.Conditions.{HasKey};
 ghost use Rattle.bc_bio.specs.Extent.{unit_sectors};
 ghost use Rattle.bc_key.specs.DataUnits.{IsUnitSize};
 ghost use Rattle.bc_script.specs.Script.{IsScriptOp, keys_of, max_ops};
-ghost use Rattle.bc_script.specs.Plan.{text_at};
-ghost use Rattle.bc_threads.specs.Prepared.{HasUnit, IsMadeFor, IsPrepared};
+ghost use Rattle.bc_script.specs.Plan.{text_at, HasUnit};
+ghost use Rattle.bc_threads.specs.PreparedBios.{IsMadeFor, IsPrepared};
 
 use bc_base::{Items, SECTOR_BYTES};
 use bc_bio::{Access, Bio, Context, Unit};
 use bc_script::{Op, Script, Text};
+use bc_section::text_of_unit;
 use std::alloc::{AllocError, Global};
 
 /// The bio of each operation of a section, if it has one, with its units' bytes.
@@ -52,7 +53,7 @@ fn bio_of(
             text,
         } => {
             let size = unit_bytes(script, *context);
-            let units = units_of(alloc, text, size, *units)?;
+            let units = units_for(alloc, text, size, *units)?;
             Ok(Some(Bio {
                 tag: op,
                 access: Access::Write,
@@ -67,7 +68,7 @@ fn bio_of(
             units,
         } => {
             let size = unit_bytes(script, *context);
-            let units = units_of(alloc, &Text::Fill(0), size, *units)?;
+            let units = units_for(alloc, &Text::Fill(0), size, *units)?;
             Ok(Some(Bio {
                 tag: op,
                 access: Access::Read,
@@ -105,7 +106,7 @@ pub(crate) fn unit_sectors(script: &Script, context: Option<Context>) -> u32
 }
 
 /// So many units of `size` bytes each, which have the bytes of a text.
-fn units_of(alloc: Global, text: &Text, size: usize, count: u32) -> Result<Items<Unit>, AllocError>
+fn units_for(alloc: Global, text: &Text, size: usize, count: u32) -> Result<Items<Unit>, AllocError>
     requires text { (unit : ℕ) → unit < count → HasUnit text.now size unit }
     ensures { IfOk result (λ units. units ≡ map (λ i. Full (text_at text.now size i)) (range_with_len 0 count)) }
 {
@@ -115,30 +116,4 @@ fn units_of(alloc: Global, text: &Text, size: usize, count: u32) -> Result<Items
         units.push(Unit::Full(Items::from_vec(bytes)))?;
     }
     Ok(Items::from_vec(units))
-}
-
-/// The bytes of data unit number `unit` of a text, of `size` bytes each.
-fn text_of_unit(alloc: Global, text: &Text, size: usize, unit: usize) -> Result<Vec<u8>, AllocError>
-    requires { HasUnit text.now size unit }
-    ensures { IfOk result (λ plain. plain.items ≡ text_at text.now size unit) }
-{
-    match text {
-        Text::Fill(byte) => fill(alloc, *byte, size),
-        Text::Bytes(bytes) => copy_unit(alloc, bytes.as_slice(), size, unit),
-    }
-}
-
-fn fill(alloc: Global, byte: u8, size: usize) -> Result<Vec<u8>, AllocError>
-    ensures { IfOk result (λ plain. plain.items ≡ replicate size byte) }
-{
-    Ok(vec![in alloc; byte; size]?)
-}
-
-/// Copies part number `unit` of these bytes, of `size` bytes each.
-fn copy_unit(alloc: Global, bytes: &[u8], size: usize, unit: usize) -> Result<Vec<u8>, AllocError>
-    requires { size * unit + size ≤ length bytes.now }
-    ensures { IfOk result (λ plain. plain.items ≡ slice_range bytes.now (size * unit) (size * unit + size)) }
-{
-    let start = size * unit;
-    Ok(bytes[start..start + size].to_vec(alloc)?)
 }

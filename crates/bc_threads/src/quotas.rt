@@ -2,16 +2,17 @@
 
 ghost use Rattle.std.specs.Prelude.{◌≡◌, ◌==◌, ◌≤◌, map, IfOk, if◌then◌else◌};
 ghost use Rattle.bc_base.specs.Lists.{Each};
-ghost use Rattle.bc_medium.specs.Places.{shard_of};
+ghost use Rattle.bc_medium.specs.Layout.{shard_of};
 ghost use Rattle.bc_script.specs.Script.{IsScriptOp, max_units, unit_count_of_section};
-ghost use Rattle.bc_threads.specs.Quotas.{event_rows, unit_quota, unit_row, unit_rows, units_from, units_on};
+ghost use Rattle.bc_threads.specs.Quotas.{event_rows, unit_quota, unit_row, unit_rows, units_from, units_of_op_on};
 
 use crate::prepared::unit_sectors;
 use bc_base::BLOCK_SECTORS;
 use bc_script::{Op, Script};
 use std::alloc::{AllocError, Global};
 
-/// For each caller of a disk that is opened for a script, how many entries it may have at each shard.
+/// For each caller of a disk that is opened for a script, how many entries it may have at each
+/// shard.
 pub(crate) fn units_of_callers(
     alloc: Global,
     script: &Script,
@@ -69,7 +70,7 @@ fn units_at(script: &Script, section: &[Op], shards: u16, shard: u16) -> u32
 fn units_on(script: &Script, operation: &Op, shards: u16, shard: u16) -> u32
     requires shards { 1 ≤ shards }
     requires rules { IsScriptOp script.now operation.now }
-    ensures { result ≡ units_on script.now shards shard operation.now }
+    ensures { result ≡ units_of_op_on script.now shards shard operation.now }
 {
     let Some(bio) = operation.bio() else {
         return 0;
@@ -103,7 +104,8 @@ fn counted(shards: u16, shard: u16, sector: u64) -> u32
     0
 }
 
-/// For each caller of a disk that is opened for a script, how many events it may make on each device.
+/// For each caller of a disk that is opened for a script, how many events it may make on each
+/// device.
 pub(crate) fn events_of_callers(alloc: Global, script: &Script) -> Result<Vec<Vec<u32>>, AllocError>
     ensures { IfOk result (λ rows. map (λ row. row.items) rows.items ≡ event_rows script.now) }
 {

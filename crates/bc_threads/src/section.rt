@@ -11,8 +11,8 @@ use bc_script::limits::MAX_PLUGGED;
 use std::alloc::{AllocError, Global};
 use std::marker::Model;
 
-/// A section of a script that is to be carried out, with all memory that this takes: its bios with their units'
-/// bytes, a plug, and room for the replies and outcomes.
+/// A section of a script that is to be carried out, with all memory that this takes: its bios with
+/// their units' bytes, a plug, and room for the replies and outcomes.
 #[derive(Drop)]
 pub struct Section<'s> {
     pub(crate) script: &'s Script,
@@ -29,13 +29,13 @@ pub struct Section<'s> {
 
 impl<'s> Model for Section<'s> {
     ghost use Rattle.std.specs.Prelude.{vec_capacity};
-    ghost use Rattle.bc_threads.specs.Prepared.{IsSection, SectionData};
+    ghost use Rattle.bc_threads.specs.PreparedBios.{IsPreparedSection, SectionData};
 
     ghost Value = { SectionData };
 
     ghost view = { λ s. record { script = s.script.now; thread = s.thread } };
 
-    ghost invariant = { λ s. IsSection s.script.now s.thread s.bios.items s.plug s.replies.items
+    ghost invariant = { λ s. IsPreparedSection s.script.now s.thread s.bios.items s.plug s.replies.items
         (vec_capacity s.replies) s.noted.items s.outcomes.items (vec_capacity s.outcomes) };
 }
 

@@ -8,11 +8,11 @@ ghost use Rattle.bc_bio.specs.BioUnits.{extent_of};
 ghost use Rattle.bc_bio.specs.Conditions.{IsPlaced};
 ghost use Rattle.bc_bio.specs.Requests.{tagged_of, unmarked};
 ghost use Rattle.bc_bio.specs.Windows.{TaggedBio};
-ghost use Rattle.bc_queue.specs.Plugs.{AreRequests, IsOfWindow, IsPlug, bios_of, count_bios, no_bios};
+ghost use Rattle.bc_queue.specs.Plugs.{AreRequests, IsOfWindow, IsPlug, bios_in, count_bios, no_bios};
 ghost use Rattle.bc_script.specs.declared.limits.TheConstants.{MAX_PLUGGED};
-ghost use Rattle.bc_compose.specs.Ordered.{Pairs};
+ghost use Rattle.bc_compose.specs.OrderedHolds.{Pairs};
 ghost use Rattle.bc_report.specs.Report.{IsAnswer};
-ghost use Rattle.bc_threads.specs.Outcomes.{answer_of_reply, bytes_in};
+ghost use Rattle.bc_threads.specs.Outcomes.{answer_of_reply, bytes_of_unit};
 ghost use Rattle.bc_threads.specs.Plugging.{AreNoted, HasBioAt, IsPlugged, SameBeside};
 
 use crate::Outcome;
@@ -46,7 +46,7 @@ impl<'a, S: Store, G: Gate, R: Wait> Device<R, Outcome, Infallible> for Sharing<
     ghost use Rattle.bc_threads.specs.Outcomes.{answer_in};
     ghost use Rattle.bc_disk.specs.Disks.{DiskData};
     ghost use Rattle.bc_script.specs.Script.{Script};
-    ghost use Rattle.bc_threads.specs.Shared.{CanCarryOut, device_on};
+    ghost use Rattle.bc_threads.specs.SharedDevice.{CanCarryOut, device_on};
 
     ghost facts = { λ d. device_on S.contents d.script.now d.thread d.disk.now d.pass.now };
 
@@ -142,7 +142,7 @@ fn plug_in(keys: &Keys, plug: &mut Plug, bio: Bio)
     requires requests { AreRequests keys.now.keys plug.old.requests }
     requires placed { IsPlaced keys.now.keys (extent_of bio) }
     requires room { count_bios plug.old.requests < MAX_PLUGGED }
-    ensures bios { bios_of plug.new.requests ≡ bios_of plug.old.requests ++ unmarked bio ∷ [] }
+    ensures bios { bios_in plug.new.requests ≡ bios_in plug.old.requests ++ unmarked bio ∷ [] }
     ensures window { (window : List TaggedBio) → IsOfWindow keys.now.keys plug.old.requests window
         → IsOfWindow keys.now.keys plug.new.requests (window ++ tagged_of bio ∷ []) }
     ensures plug { IsPlug plug.new }
@@ -171,7 +171,7 @@ fn plug_all(keys: &Keys, bios: &mut Vec<Option<Bio>>, plug: &mut Plug, window: &
 
 /// Does nothing, and states that the first byte of a unit is one.
 fn unit_law(unit: &Unit)
-    ensures { (byte : ℕ) → slice_get (bytes_in unit.now) 0 ≡ Some byte → byte < 256 }
+    ensures { (byte : ℕ) → slice_get (bytes_of_unit unit.now) 0 ≡ Some byte → byte < 256 }
 {
     if let Unit::Full(bytes) = unit {
         if let Some(byte) = bytes.as_slice().first() {
@@ -182,7 +182,7 @@ fn unit_law(unit: &Unit)
 
 /// Does nothing, and states it of the first byte of all these units.
 fn units_law(units: &[Unit])
-    ensures { (byte : ℕ) → slice_get (flat_map bytes_in units.now) 0 ≡ Some byte → byte < 256 }
+    ensures { (byte : ℕ) → slice_get (flat_map bytes_of_unit units.now) 0 ≡ Some byte → byte < 256 }
 {
     for unit in units {
         unit_law(unit);

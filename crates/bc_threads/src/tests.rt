@@ -1,4 +1,5 @@
-//! Runs in which a gate holds a thread up until another one has come somewhere, by [`threads`] and by [`sections`].
+//! Runs in which a gate holds a thread up until another one has come somewhere, by [`threads`] and
+//! by [`sections`].
 
 ghost use Rattle.std.specs.Prelude.{◌≡◌, ◌*◌, ◌≤◌, length};
 
@@ -23,7 +24,7 @@ const MOST_WAITS: usize = 5;
 
 /// Where in an operation a thread passes the gate.
 #[derive(Clone, Copy, PartialEq, Eq)]
-enum Place {
+enum Moment {
     Starts,
     Holds,
     Answered,
@@ -34,7 +35,7 @@ enum Place {
 struct Passed {
     thread: u16,
     op: u32,
-    place: Place,
+    place: Moment,
 }
 
 /// A thread that comes to the place `at` is held up there until another one has come to `until`.
@@ -55,17 +56,17 @@ struct HoldingGate<'w> {
 }
 
 const fn starts(thread: u16, op: u32) -> Passed {
-    let place = Place::Starts;
+    let place = Moment::Starts;
     Passed { thread, op, place }
 }
 
 const fn holds(thread: u16, op: u32) -> Passed {
-    let place = Place::Holds;
+    let place = Moment::Holds;
     Passed { thread, op, place }
 }
 
-const fn answered(thread: u16, op: u32) -> Passed {
-    let place = Place::Answered;
+const fn has_answer(thread: u16, op: u32) -> Passed {
+    let place = Moment::Answered;
     Passed { thread, op, place }
 }
 
@@ -74,7 +75,7 @@ const fn held_up(at: Passed, until: Passed) -> HeldUp {
 }
 
 impl Passed {
-    fn is(&self, thread: u16, op: u32, place: Place) -> bool {
+    fn is(&self, thread: u16, op: u32, place: Moment) -> bool {
         self.thread == thread && self.op == op && self.place == place
     }
 }
@@ -113,9 +114,9 @@ impl<'w> HoldingGate<'w> {
 impl Gate for HoldingGate<'_> {
     fn pass<R: Wait>(&self, _rt: &R, thread: u16, tag: u32, place: GatePlace) {
         let place = match place {
-            GatePlace::Starts => Place::Starts,
-            GatePlace::Holds { .. } => Place::Holds,
-            GatePlace::Answered => Place::Answered,
+            GatePlace::Starts => Moment::Starts,
+            GatePlace::Holds { .. } => Moment::Holds,
+            GatePlace::Answered => Moment::Answered,
         };
         for (one, has_come) in self.waits.iter().zip(&self.has_come) {
             if one.until.is(thread, tag, place) {
@@ -132,7 +133,8 @@ impl Gate for HoldingGate<'_> {
 
 // ---- runs
 
-/// Opens a disk, has the sections of a script carried out, of which there is one, and closes the disk.
+/// Opens a disk, has the sections of a script carried out, of which there is one, and closes the
+/// disk.
 fn by_sections<G: Gate + Sync, R: Threads + Wait + Sync>(
     rt: &R,
     alloc: Global,
@@ -145,13 +147,13 @@ fn by_sections<G: Gate + Sync, R: Threads + Wait + Sync>(
     requires shards { (1 ≤ shards) × (shards ≤ 64) }
     requires some { 1 ≤ length script.now.threads }
 {
-    let Opened { disk, passes } = open_disk(alloc, script, image.as_slice(), shards)?;
+    let Opened { disk, passes } = open_disk(alloc, script, image, shards)?;
     let (passes, answers) = carry_out_some(rt, alloc, script, &disk, passes, gate)?;
     finish(rt, alloc, script, disk, passes, answers)
 }
 
-/// The report of a script of a section at least that is carried out over zeros, by [`threads`] or by [`sections`], while
-/// threads are held up so. None of them may have waited in vain.
+/// The report of a script of a section at least that is carried out over zeros, by [`threads`] or
+/// by [`sections`], while threads are held up so. None of them may have waited in vain.
 fn report_of<R: Threads + Wait + Sync>(
     rt: &R,
     alloc: Global,
@@ -193,7 +195,7 @@ const WRITTEN_AND_EVICTED: &[u8] = b"blkcrypt 1\ndisk 2\nfallback off\ndevice 0 
 fn a_key_that_another_thread_holds_is_not_evicted(rt: HostRuntime) -> Result<(), Fail> {
     let waits = [
         held_up(starts(1, 0), holds(0, 0)),
-        held_up(holds(0, 0), answered(1, 0)),
+        held_up(holds(0, 0), has_answer(1, 0)),
     ];
     let expected: &[u8] = b"report 1\nthread 0\ndone\ndone fill 11\nthread 1\nbusy 0 0 1\n\
         shard 0 2\n0 0 0 inline 0 0 0\n0 1 0 inline 0 0 0\n\
@@ -214,7 +216,7 @@ fn a_key_that_another_thread_holds_is_not_evicted(rt: HostRuntime) -> Result<(),
 
 #[test]
 fn a_key_that_nobody_holds_any_more_is_evicted(rt: HostRuntime) -> Result<(), Fail> {
-    let waits = [held_up(starts(1, 0), answered(0, 1))];
+    let waits = [held_up(starts(1, 0), has_answer(0, 1))];
     let expected: &[u8] = b"report 1\nthread 0\ndone\ndone fill 11\nthread 1\nevicted\n\
         shard 0 2\n0 0 0 inline 0 0 0\n0 1 0 inline 0 0 0\n\
         device 0 4\nprogram 0 0\nidle 0\nidle 0\nevict 0 0\nend\n";
@@ -246,7 +248,7 @@ const TWO_KEYS: &[u8] = b"blkcrypt 1\ndisk 2\nfallback off\ndevice 0 2 2 1 0 8\n
 /// Thread 1 is done while thread 0 has a hold. Which of them programs its slot first, nobody says.
 #[test]
 fn a_thread_goes_on_while_another_one_is_held_up(rt: HostRuntime) -> Result<(), Fail> {
-    let waits = [held_up(holds(0, 0), answered(1, 0))];
+    let waits = [held_up(holds(0, 0), has_answer(1, 0))];
     let first: &[u8] = b"report 1\nthread 0\ndone\nthread 1\ndone\n\
         shard 0 1\n0 0 0 inline 0 0 0\nshard 1 1\n1 0 0 inline 0 1 1\n\
         device 0 4\nprogram 0 0\nprogram 1 1\nidle 1\nidle 0\nend\n";
@@ -280,11 +282,11 @@ const THREE_KEYS: &[u8] = b"blkcrypt 1\ndisk 1\nfallback off\ndevice 0 1 2 1 0 8
 #[test]
 fn a_slot_that_another_thread_holds_is_skipped(rt: HostRuntime) -> Result<(), Fail> {
     let waits = [
-        held_up(starts(1, 0), answered(0, 0)),
-        held_up(starts(0, 1), answered(1, 0)),
+        held_up(starts(1, 0), has_answer(0, 0)),
+        held_up(starts(0, 1), has_answer(1, 0)),
         held_up(starts(1, 1), holds(0, 1)),
         held_up(holds(0, 1), holds(1, 1)),
-        held_up(holds(1, 1), answered(0, 1)),
+        held_up(holds(1, 1), has_answer(0, 1)),
     ];
     let expected: &[u8] = b"report 1\nthread 0\ndone\ndone fill 11\nthread 1\ndone\ndone\n\
         shard 0 4\n0 0 0 inline 0 0 0\n1 0 0 inline 0 1 2\n0 1 0 inline 0 0 0\n1 1 0 inline 0 1 4\n\

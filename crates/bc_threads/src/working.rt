@@ -5,7 +5,7 @@ ghost use Rattle.std.specs.List.{enumerate_from};
 ghost use Rattle.bc_base.specs.Lists.{At, list_at};
 ghost use Rattle.bc_threads.specs.declared.outcome.Outcome.{Outcome};
 ghost use Rattle.bc_threads.specs.Jobs.{HasWorked, MayWork};
-ghost use Rattle.bc_threads.specs.Shared.{CanCarryOut};
+ghost use Rattle.bc_threads.specs.SharedDevice.{CanCarryOut};
 
 use crate::sharing::Sharing;
 use crate::{Outcome, Section};
@@ -14,10 +14,11 @@ use bc_disk::{Disk, Pass};
 use bc_section::carry_out;
 use std::sync::Wait;
 
-/// Carries out a section on a disk, by the pass of the section's thread, and returns what each operation came to.
-/// Takes no memory: the section has all that is needed.
+/// Carries out a section on a disk, by the pass of the section's thread, and returns what each
+/// operation came to. Takes no memory: the section has all that is needed.
 ///
-/// The disk was opened for the section's script, and the pass is new, with room for what the section's operations ask.
+/// The disk was opened for the section's script, and the pass is new, with room for what the
+/// section's operations ask.
 pub fn work<S: Store, G: Gate, R: Wait>(
     rt: &R,
     disk: &Disk<S>,

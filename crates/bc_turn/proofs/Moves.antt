@@ -12,7 +12,7 @@ use Rattle.bc_turn.specs.declared.view.Account.{Account}
 use Rattle.bc_turn.specs.declared.view.View.{View}
 use Rattle.bc_base.specs.Lists.{Each}
 use Rattle.bc_base.specs.Story.{StartsWith, own}
-use Rattle.bc_turn.specs.Turning.{one_if, sum_of, flat, below, names, has, newcomers, account, view_of, Fits, Turning, GoesOn, Based, Alone, mine, front_of, others_of, cut_off, left_over, joined, tried, gave, counted}
+use Rattle.bc_turn.specs.Turning.{one_if, sum_of, flat, below, names, has, newcomers, account, view_of, Fits, Turning, ViewGoesOn, Based, Alone, mine, front_of, others_of, cut_off, left_over, joined_view, tried, gave, counted}
 use Rattle.bc_base.proofs.Lists.{each_front, each_back, each_append, each_both, each_set}
 use Rattle.bc_base.proofs.Stories.{own-append, own_other, begins_itself, begins_more}
 use Rattle.bc_turn.proofs.Lists.{each_at, sum_append, none_counts, around, flat_more, below-le, below-one, or_one}
@@ -321,11 +321,11 @@ module _ {V E B : Type 0} (entries : V → List E) (kept : B → V → Type 0) (
       let b1 = sum_append f L (v.accounts ++ R) in let b2 = sum_append f v.accounts R in let b3 = sum_append f F O in omega arith)
 
   -- how the accounts stand once one view took in another's
-  merged : (s : St) (r : Rule s) (id : ℕ) (v : View E B) (other : ℕ) (w : View E B) → 0 < length v.accounts → get_elem? s.views id ≡ maybe.some v → other ≢ id → get_elem? (set s.views id (joined v w)) other ≡ maybe.some w
-      → Rule record { words = s.words; homes = s.homes; views = set (set s.views id (joined v w)) other (view_of None []) }
+  merged : (s : St) (r : Rule s) (id : ℕ) (v : View E B) (other : ℕ) (w : View E B) → 0 < length v.accounts → get_elem? s.views id ≡ maybe.some v → other ≢ id → get_elem? (set s.views id (joined_view v w)) other ≡ maybe.some w
+      → Rule record { words = s.words; homes = s.homes; views = set (set s.views id (joined_view v w)) other (view_of None []) }
   merged s r id v other w some_one at apart there =
       let P = Fits by r.story in
-      let j = joined v w in let vs = set s.views id j in let none = view_of None [] in
+      let j = joined_view v w in let vs = set s.views id j in let none = view_of None [] in
       let k = around s.views id v at in let L : List (Account E) = k.front in let R : List (Account E) = k.back in
       let X : List (Account E) = v.accounts in let Y : List (Account E) = w.accounts in
       let o = around vs other w there in let L' : List (Account E) = o.front in let R' : List (Account E) = o.back in
@@ -344,7 +344,7 @@ module _ {V E B : Type 0} (entries : V → List E) (kept : B → V → Type 0) (
       let a1 = sum_append f L ((X ++ Y) ++ R) in let a2 = sum_append f (X ++ Y) R in let a3 = sum_append f X Y in let a4 = sum_append f L' R' in let a5 = sum_append f L' (Y ++ R') in let a6 = sum_append f Y R' in
       let b1 = sum_append f L (X ++ R) in let b2 = sum_append f X R in omega arith)
 
-  pub joins : (id : ℕ) (v : View E B) (other : ℕ) (w : View E B) → 0 < length v.accounts → Joins Rule id v other w (joined v w) (view_of None [])
+  pub joins : (id : ℕ) (v : View E B) (other : ℕ) (w : View E B) → 0 < length v.accounts → Joins Rule id v other w (joined_view v w) (view_of None [])
   joins id v other w some_one s r at apart there = merged s r id v other w some_one at apart there
 
   new_fits : (n : ℕ) → Each (Fits by []) (newcomers n)
@@ -412,7 +412,7 @@ module _ {V E B : Type 0} (entries : V → List E) (kept : B → V → Type 0) (
 
 module _ {V E B : Type 0} (entries : V → List E) (kept : B → V → Type 0) (by : E → ℕ) (b : B) (callers : ℕ) where
   -- the same, at a seat that is known
-  pub gives_at : (slots id : ℕ) (me : Me (Option V) (View E B)) (w : View E B) (v : V) (n : ℕ) → me ≡ (w, (0, Some v) ∷ []) → Alone w → (mine w).has ≡ true → GoesOn entries kept by w v → n ≡ 2 * length (entries v)
+  pub gives_at : (slots id : ℕ) (me : Me (Option V) (View E B)) (w : View E B) (v : V) (n : ℕ) → me ≡ (w, (0, Some v) ∷ []) → Alone w → (mine w).has ≡ true → ViewGoesOn entries kept by w v → n ≡ 2 * length (entries v)
       → Allows (Turning entries kept by b callers) slots id me 0 (λ _. n) (λ _. gave entries kept by (step slots 0 n 0 maybe.none) me n)
   gives_at slots id me w v n is alone holds goes_on count =
       subst (λ (m : Me (Option V) (View E B)). Allows (Turning entries kept by b callers) slots id m 0 (λ _. n) (λ _. gave entries kept by (step slots 0 n 0 maybe.none) m n)) (sym is)

@@ -12,7 +12,7 @@ use Rattle.bc_base.specs.Lists.{Each}
 use Rattle.bc_base.specs.Story.{own}
 use Rattle.bc_turn.specs.Turning.{mine}
 use Rattle.bc_base.specs.Lists.{At, ChangesAt}
-use Rattle.bc_turn.specs.Parts.{Part, Pass, CellData, TurnsData, IsOf, part_key, cell_key, IsPost}
+use Rattle.bc_turn.specs.PassParts.{Part, Pass, CellData, TurnsData, IsOf, part_key, cell_key, IsPost}
 use Rattle.bc_base.proofs.Lists.{each_at, each_set}
 use Rattle.bc_base.proofs.Stories.{own-append}
 
@@ -94,7 +94,7 @@ module _ {E B : Type 0} where
   key_kept key x q (Some v) P Q f g p n = f v p
   key_kept key x q None P Q f g p n = g n
 
--- the count of a part's own entries, told by the pass
+-- the count of a part's own entries, reported by the pass
 pub made_at : {E B : Type 0} (by : E → ℕ) (p : Pass E B) (n : ℕ) (posts : List (Part E B)) (i k : ℕ) (x q : Part E B) (r : ℕ) → record { caller = n; parts = posts } ≡ p → Each (λ z. z.caller ≡ n) posts → k < length p.parts → i ≡ k → x ≡ get_or posts i x
     → At p.parts k q → r ≡ length (own by x.caller x.seen) → r ≡ length (own by p.caller q.seen)
 made_at {E} {B} by p n posts i k x q r pass each inside e gx at is =

@@ -15,7 +15,7 @@ use Rattle.bc_base.specs.Lists.{Each}
 use Rattle.bc_base.specs.Story.{own, StartsWith}
 use Rattle.bc_turn.specs.Turning.{sum_of, one_if, names, has, account, view_of, newcomers, mine, cut_off, left_over, Fits}
 use Rattle.bc_base.specs.Lists.{At, AllAt, EachFrom}
-use Rattle.bc_turn.specs.Parts.{Part, Pass, CellData, TurnsData, IsOf, IsClosed, Ends, part, part_of, part_key, cell_key, new_part, new_pass, with_part, with_cell, cut_to, account_of, accounts_from, is_caller}
+use Rattle.bc_turn.specs.PassParts.{Part, Pass, CellData, TurnsData, IsOf, IsClosed, Ends, part, seat_part, part_key, cell_key, new_part, new_pass, with_part, with_cell, cut_to, account_of, accounts_from, is_caller}
 use Rattle.bc_base.proofs.Lists.{each_at}
 
 module _ {A : Type 0} where
@@ -79,7 +79,7 @@ map-map' f g (x ∷ xs) = ap (λ l. f (g x) ∷ l) (map-map' f g xs)
 -- a cell more
 module _ {V E B : Type 0} (c : CellData B) where
   pub given_new : (m : ℕ) (rest given : Seat (Option V) (View E B)) → rest.me ≡ (view_of (Some c.base) (newcomers (m + 1)), []) → given.table_id ≡ c.id → given.me ≡ (cut_off rest.me.0, [])
-      → (given.me ≡ (view_of given.me.0.base (account (part_of given).caller [] 0 false ∷ []), [])) × (part_of given ≡ new_part m c)
+      → (given.me ≡ (view_of given.me.0.base (account (seat_part given).caller [] 0 false ∷ []), [])) × (seat_part given ≡ new_part m c)
   given_new m rest given r id g =
       let r' : rest.me ≡ (view_of (Some c.base) (newcomers (suc m)), []) = r ∙ ap (λ (k : ℕ). (view_of (Some c.base) (newcomers {E = E} k), [])) (add-one m) in
       let is : given.me ≡ (view_of (Some c.base) (account m [] 0 false ∷ []), []) = g ∙ ap (λ me. (cut_off me.0, [])) r' in (

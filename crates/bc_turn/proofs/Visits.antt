@@ -6,7 +6,7 @@ use Rattle.std.proofs.lemmas.Option.{none-some, same_Some}
 use Rattle.bc_base.specs.Lists.{Each}
 use Rattle.bc_base.specs.Story.{StartsWith, own}
 use Rattle.bc_base.specs.Lists.{At, AllAt}
-use Rattle.bc_turn.specs.Parts.{Part, Pass, Changes, part, without_turn, TakesLater, GoesOn, Visits}
+use Rattle.bc_turn.specs.PassParts.{Part, Pass, Changes, part, without_turn, TakesLater, GoesOn, Visits}
 use Rattle.bc_base.proofs.Lists.{each_at}
 use Rattle.bc_base.proofs.Stories.{own-append}
 

@@ -1,3 +1,3 @@
 pub mod Note
 pub mod Turning
-pub mod Parts
+pub mod PassParts

@@ -1,5 +1,5 @@
--- What an entry of a story says of a keyslot, where it says something: the entries of a slot journal do, those of a shard
--- don't.
+-- What an entry of a story says of a keyslot, where it says something: the entries of a slot
+-- journal do, those of a shard don't.
 use Rattle.std.specs.Prelude.{ℕ}
 
 -- what one entry says of a slot

@@ -1,5 +1,5 @@
--- The rule of one turn word, and what each step tells.
--- The word is twice the number of entries of the value last given, and 1 more while a caller has the turn.
+-- The rule of one turn word, and what each step tells. The word is twice the number of entries of
+-- the value last given, and 1 more while a caller has the turn.
 use Rattle.std.specs.Prelude.{◌≡◌, ◌≢◌, ◌⊎◌, ℕ, zero, suc, ◌+◌, ◌*◌, ◌%◌, ◌<◌, ◌≤◌, ◌^◌, ◌==◌, Bool, true, false, if◌then◌else◌, List, [], ◌∷◌, ◌++◌, length, slice_index, ◌/◌, Option, Some, None, IfSome}
 use mathlib.Core.Option as maybe
 use Rattle.atomic_table.specs.Table.{State, Me, Step, rest}
@@ -51,7 +51,8 @@ newcomers zero = []
 newcomers (suc n) = account n [] 0 false ∷ newcomers n
 
 module _ {E : Type 0} (by : E → ℕ) where
-  -- the account begins the story, has all of its caller's entries, and the whole story while it has the turn
+  -- the account begins the story, has all of its caller's entries, and the whole story while it has
+  -- the turn
   abbrev pub Fits : List E → Account E → Type 0
   Fits story a = StartsWith story a.seen × (own by a.number story ≡ own by a.number a.seen)
       × (a.has ≡ true → a.seen ≡ story)
@@ -83,13 +84,13 @@ module _ {V E B : Type 0} (entries : V → List E) (kept : B → V → Type 0) (
     pub strangers : (c : ℕ) → callers ≤ c → own by c story ≡ []
 
 -- the account of a seat that stands for one caller
-abbrev pub first_of : {E : Type 0} → List (Account E) → Account E
-first_of [] = account 0 [] 0 false
-first_of (a ∷ others) = a
+abbrev pub first_account : {E : Type 0} → List (Account E) → Account E
+first_account [] = account 0 [] 0 false
+first_account (a ∷ others) = a
 
 -- the account of the caller that a seat stands for
 abbrev pub mine : {E B : Type 0} → View E B → Account E
-mine v = first_of v.accounts
+mine v = first_account v.accounts
 
 -- the seat stands for one caller
 abbrev pub Alone : {E B : Type 0} → View E B → Type 0
@@ -114,8 +115,8 @@ abbrev pub left_over : {E B : Type 0} → View E B → View E B
 left_over v = view_of v.base (others_of v.accounts)
 
 -- the view of a seat that takes in another's callers
-abbrev pub joined : {E B : Type 0} → View E B → View E B → View E B
-joined v w = view_of v.base (v.accounts ++ w.accounts)
+abbrev pub joined_view : {E B : Type 0} → View E B → View E B → View E B
+joined_view v w = view_of v.base (v.accounts ++ w.accounts)
 
 module _ {V E B : Type 0} (entries : V → List E) (kept : B → V → Type 0) (by : E → ℕ) where
   -- what a seat knows and carries
@@ -180,12 +181,12 @@ module _ {V E B : Type 0} where
   Stayed m m' k = AtRest m' × ((mine m'.0).seen ≡ (mine m.0).seen) × ((mine m'.0).missed ≡ (mine m.0).missed + k)
 
 -- the value was taken, and its story is what the seat has seen
-abbrev pub Took : {V E B : Type 0} → (V → List E) → (B → V → Type 0) → (E → ℕ) → Me (Option V) (View E B) → V
+abbrev pub ViewTook : {V E B : Type 0} → (V → List E) → (B → V → Type 0) → (E → ℕ) → Me (Option V) (View E B) → V
     → Me (Option V) (View E B) → Type 0
-Took entries kept by m v m' = Holding m' × Follows entries kept by m.0 v × ((mine m'.0).seen ≡ entries v)
+ViewTook entries kept by m v m' = Holding m' × Follows entries kept by m.0 v × ((mine m'.0).seen ≡ entries v)
     × ((mine m.0).missed ≤ (mine m'.0).missed)
 
 -- the value goes on from what the seat has seen by entries of its caller, and its base is unchanged
-abbrev pub GoesOn : {V E B : Type 0} → (V → List E) → (B → V → Type 0) → (E → ℕ) → View E B → V → Type 0
-GoesOn {E = E} entries kept by w v = ((new : List E) × (entries v ≡ (mine w).seen ++ new)
+abbrev pub ViewGoesOn : {V E B : Type 0} → (V → List E) → (B → V → Type 0) → (E → ℕ) → View E B → V → Type 0
+ViewGoesOn {E = E} entries kept by w v = ((new : List E) × (entries v ≡ (mine w).seen ++ new)
     × Each (λ x. by x ≡ (mine w).number) new) × IfSome w.base (λ b. kept b v) × (length (entries v) < 2 ^ 62)

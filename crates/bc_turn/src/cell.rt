@@ -1,13 +1,14 @@
-//! One value behind one turn: a table of one word and one slot, under a rule with three kinds of step.
+//! One value behind one turn: a table of one word and one slot, under a rule with three kinds of
+//! step.
 //!
-//! The word is twice the number of entries of the value that was given last, and one more while a caller has the value. A
-//! fetch that sets the lowest bit takes the turn where the bit was clear, a store gives it, and a load counts. The slot
-//! has the value while nobody holds it.
+//! The word is twice the number of entries of the value that was given last, and one more while a
+//! caller has the value. A fetch that sets the lowest bit takes the turn where the bit was clear, a
+//! store gives it, and a load counts. The slot has the value while nobody holds it.
 ghost use Rattle.std.specs.Prelude.{◌≡◌, ℕ, ◌+◌, ◌*◌, ◌^◌, ◌<◌, ◌≤◌, List, [], ◌∷◌, ◌++◌, length, true, false, Some, IfOk, IfErr, IfSome, IfNone};
 ghost use Rattle.atomic_table.specs.Seated.{TableId};
 ghost use Rattle.bc_base.specs.Lists.{Each};
 ghost use Rattle.bc_base.specs.Story.{own};
-ghost use Rattle.bc_turn.specs.Turning.{sum_of, names, has, AtRest, Holding, Took, GoesOn, Stayed, Counted, SameSeat, Alone, Fits, mine, left_over, cut_off, joined, view_of, newcomers};
+ghost use Rattle.bc_turn.specs.Turning.{sum_of, names, has, AtRest, Holding, ViewTook, ViewGoesOn, Stayed, Counted, SameSeat, Alone, Fits, mine, left_over, cut_off, joined_view, view_of, newcomers};
 
 use crate::story::Story;
 use crate::view::View;
@@ -17,7 +18,7 @@ use std::marker::PhantomData;
 use std::sync::Wait;
 use std::thread;
 
-/// What a cell is told when it is made: the base, and how many callers it has.
+/// What a cell is given when it is made: the base, and how many callers it has.
 #[derive(Drop)]
 pub struct About<V: Story> {
     pub base: V::Base,
@@ -63,10 +64,10 @@ impl<E, B> Split<View<E, B>> for Off {
 struct In;
 
 impl<E, B> Join<View<E, B>> for In {
-    ghost use Rattle.bc_turn.specs.Turning.{joined, view_of};
+    ghost use Rattle.bc_turn.specs.Turning.{joined_view, view_of};
     ghost use Rattle.std.specs.Prelude.{None, []};
 
-    ghost both = { joined };
+    ghost both = { joined_view };
 
     ghost spent = { view_of None [] };
 }
@@ -110,7 +111,7 @@ impl<V: Story> Cell<V> {
         requires own { place.old.table_id ≡ self.now.table.shared.table_id }
         requires rest { AtRest place.old.me }
         ensures seat { SameSeat place.old place.new }
-        ensures some { IfSome result (λ v. Took V.entries_of V.keeps V.by place.old.me v place.new.me) }
+        ensures some { IfSome result (λ v. ViewTook V.entries_of V.keeps V.by place.old.me v place.new.me) }
         ensures once { IfSome result (λ v. (mine place.new.me.0).missed ≡ (mine place.old.me.0).missed) }
         ensures none { IfNone result (Stayed place.old.me place.new.me 1) }
     {
@@ -127,7 +128,7 @@ impl<V: Story> Cell<V> {
         requires own { place.old.table_id ≡ self.now.table.shared.table_id }
         requires rest { AtRest place.old.me }
         ensures seat { SameSeat place.old place.new }
-        ensures took { Took V.entries_of V.keeps V.by place.old.me result place.new.me }
+        ensures took { ViewTook V.entries_of V.keeps V.by place.old.me result place.new.me }
     {
         for _ in rt.forever() {
             if let Some(value) = self.try_take(place) {
@@ -142,7 +143,7 @@ impl<V: Story> Cell<V> {
     pub fn give(&self, place: &mut Place<V>, value: V)
         requires own { place.old.table_id ≡ self.now.table.shared.table_id }
         requires held { Holding place.old.me }
-        requires story { GoesOn V.entries_of V.keeps V.by place.old.me.0 value }
+        requires story { ViewGoesOn V.entries_of V.keeps V.by place.old.me.0 value }
         ensures seat { SameSeat place.old place.new }
         ensures gave { AtRest place.new.me × ((mine place.new.me.0).seen ≡ V.entries_of value)
             × ((mine place.new.me.0).missed ≡ (mine place.old.me.0).missed) }
@@ -179,7 +180,7 @@ impl<V: Story> Cell<V> {
             × (other.table_id ≡ self.now.table.shared.table_id) }
         requires rest { (other.me.1 ≡ []) × (0 < length place.old.me.0.accounts) }
         ensures { (place.new.table_id ≡ place.old.table_id)
-            × (place.new.me ≡ (joined place.old.me.0 other.me.0, place.old.me.1)) }
+            × (place.new.me ≡ (joined_view place.old.me.0 other.me.0, place.old.me.1)) }
     {
         self.table.shared.join_seat::<In>(place, other);
     }
@@ -206,6 +207,10 @@ impl<V: Story> Cell<V> {
 
 impl<V: Story + Drop> Cell<V> {
     /// A cell, and the seat that stands for all its callers.
+    ///
+    /// # Errors
+    ///
+    /// `AllocError` where there is no memory for the cell, its word or its seats. The value is dropped.
     pub fn open(
         alloc: Global,
         value: V,

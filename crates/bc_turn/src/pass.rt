@@ -2,16 +2,16 @@
 ghost use Rattle.std.specs.Prelude.{◌≡◌, ℕ, ◌+◌, ◌<◌, ◌≤◌, [], ◌∷◌, drop, length, OnOk};
 ghost use Rattle.bc_base.specs.Story.{own};
 ghost use Rattle.bc_base.specs.Lists.{AllAt};
-ghost use Rattle.bc_turn.specs.Parts.{with_part, cut_to};
+ghost use Rattle.bc_turn.specs.PassParts.{with_part, cut_to};
 
 use crate::post::Post;
 use crate::story::Story;
 use std::alloc::{AllocError, Global};
 use std::marker::Model;
 
-/// The pass of one caller of a [`Turns`](crate::Turns): its number, and of each cell how far it has seen the story, how
-/// often it found the turn with another, and whether it holds the value. Contracts see it as a `Pass`, with a `Part` for
-/// each cell.
+/// The pass of one caller of a [`Turns`](crate::Turns): its number, and of each cell how far it has
+/// seen the story, how often it found the turn with another, and whether it holds the value.
+/// Contracts see it as a `Pass`, with a `Part` for each cell.
 #[derive(Drop)]
 pub struct TurnPass<V: Story> {
     pub(crate) number: u16,
@@ -21,7 +21,7 @@ pub struct TurnPass<V: Story> {
 impl<V: Story> Model for TurnPass<V> {
     ghost use Rattle.std.specs.Prelude.{◌≡◌, ℕ, List};
     ghost use Rattle.bc_base.specs.Lists.{Each};
-    ghost use Rattle.bc_turn.specs.Parts.{Pass};
+    ghost use Rattle.bc_turn.specs.PassParts.{Pass};
 
     ghost Value = { Pass V.Item V.Base };
 
@@ -38,8 +38,8 @@ impl<V: Story> TurnPass<V> {
         self.number
     }
 
-    /// How many entries of a cell's story are the caller's own. A crate that gives each caller room for so many subtracts
-    /// this from it.
+    /// How many entries of a cell's story are the caller's own. A crate that gives each caller room
+    /// for so many subtracts this from it.
     pub fn made(&self, cell: u16) -> u64
         requires { cell < length self.now.parts }
         ensures { AllAt self.now.parts cell (λ q. result ≡ length (own V.by self.now.caller q.seen)) }

@@ -2,7 +2,7 @@
 ghost use Rattle.std.specs.Prelude.{◌≡◌, ℕ, ◌+◌, ◌<◌, ◌≤◌, [], ◌∷◌, length, true, false, IfSome, IfNone};
 ghost use Rattle.bc_base.specs.Story.{own};
 ghost use Rattle.bc_turn.specs.Turning.{account, view_of};
-ghost use Rattle.bc_turn.specs.Parts.{part_of, account_of, with_miss, without_turn, Takes, TakesLater, GoesOn, Counts};
+ghost use Rattle.bc_turn.specs.PassParts.{seat_part, account_of, with_miss, without_turn, Takes, TakesLater, GoesOn, Counts};
 
 use crate::cell::{Cell, Place};
 use crate::story::Story;
@@ -19,11 +19,11 @@ pub(crate) struct Post<V: Story> {
 }
 
 impl<V: Story> Model for Post<V> {
-    ghost use Rattle.bc_turn.specs.Parts.{Part, part_of, IsPost};
+    ghost use Rattle.bc_turn.specs.PassParts.{Part, seat_part, IsPost};
 
     ghost Value = { Part V.Item V.Base };
 
-    ghost view = { λ p. part_of p.seat };
+    ghost view = { λ p. seat_part p.seat };
 
     ghost invariant = { λ p. IsPost V.by p.seat p.made p.held };
 }
@@ -31,8 +31,8 @@ impl<V: Story> Model for Post<V> {
 impl<V: Story> Post<V> {
     /// Of a seat for one caller that has seen nothing.
     pub(crate) fn new(seat: Place<V>) -> Post<V>
-        requires { seat.me ≡ (view_of seat.me.0.base (account (part_of seat).caller [] 0 false ∷ []), []) }
-        ensures { result ≡ part_of seat }
+        requires { seat.me ≡ (view_of seat.me.0.base (account (seat_part seat).caller [] 0 false ∷ []), []) }
+        ensures { result ≡ seat_part seat }
     {
         Post {
             seat,

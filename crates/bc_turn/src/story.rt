@@ -2,12 +2,12 @@
 ghost use Rattle.std.specs.Prelude.{◌≡◌, ℕ, List, length};
 ghost use Rattle.bc_turn.specs.Note.{Note};
 
-/// A value that counts its history: a list of entries that only grows, each of which names the caller that made it, and a
-/// base that no call changes.
+/// A value that counts its history: a list of entries that only grows, each of which names the
+/// caller that made it, and a base that no call changes.
 ///
-/// A value keeps to its base: `keeps base value` says what holds between what stood at opening and what stands now, for
-/// instance that a shard's sectors are what its entries leave of the sectors at opening. So no copy of what was at
-/// opening is kept behind the turn.
+/// A value keeps to its base: `keeps base value` says what holds between what stood at opening and
+/// what stands now, for instance that a shard's sectors are what its entries leave of the sectors
+/// at opening. So no copy of what was at opening is kept behind the turn.
 pub trait Story {
     /// What is known of the value since opening.
     type Base: Drop;

@@ -4,7 +4,7 @@ ghost use Rattle.std.specs.List.{range_with_len};
 ghost use Rattle.bc_base.specs.Lists.{Each};
 ghost use Rattle.bc_turn.specs.Turning.{sum_of, newcomers, view_of};
 ghost use Rattle.bc_base.specs.Lists.{AllAt, EachFrom};
-ghost use Rattle.bc_turn.specs.Parts.{IsOf, Changes, with_miss, without_turn, Takes, TakesLater, GoesOn, Counts, IsClosed, accounts_from, is_caller, cut_to, new_pass, with_cell};
+ghost use Rattle.bc_turn.specs.PassParts.{IsOf, Changes, with_miss, without_turn, Takes, TakesLater, GoesOn, Counts, IsClosed, accounts_from, is_caller, cut_to, new_pass, with_cell};
 
 use crate::cell::{Cell, Place};
 use crate::pass::TurnPass;
@@ -14,7 +14,8 @@ use std::alloc::{AllocError, Global};
 use std::marker::Model;
 use std::sync::Wait;
 
-/// Values behind turns, one in each cell. Contracts see how many callers there are, and each cell with its value's base.
+/// Values behind turns, one in each cell. Contracts see how many callers there are, and each cell
+/// with its value's base.
 #[derive(Drop)]
 pub struct Turns<V: Story> {
     pub(crate) alloc: Global,
@@ -25,7 +26,7 @@ pub struct Turns<V: Story> {
 impl<V: Story> Model for Turns<V> {
     ghost use Rattle.std.specs.Prelude.{◌≡◌, ◌≤◌, ℕ, List, map};
     ghost use Rattle.bc_base.specs.Lists.{Each};
-    ghost use Rattle.bc_turn.specs.Parts.{TurnsData, CellData};
+    ghost use Rattle.bc_turn.specs.PassParts.{TurnsData, CellData};
 
     ghost Value = { TurnsData V.Base };
 
@@ -38,11 +39,12 @@ impl<V: Story> Model for Turns<V> {
 }
 
 impl<V: Story> Turns<V> {
-    /// Takes the value of a cell, if nobody has it: exactly where its one fetch found the turn free. The pass doesn't hold
-    /// the cell. Paired with [`Turns::give`].
+    /// Takes the value of a cell, if nobody has it: exactly where its one fetch found the turn
+    /// free. The pass doesn't hold the cell. Paired with [`Turns::give`].
     ///
-    /// The value begins with all that the pass had seen, keeps to its base, and has of this caller the pass's own entries
-    /// alone; its story is then what the pass has seen. Without a value the pass has missed the turn once more.
+    /// The value begins with all that the pass had seen, keeps to its base, and has of this caller
+    /// the pass's own entries alone; its story is then what the pass has seen. Without a value the
+    /// pass has missed the turn once more.
     pub fn try_take(&self, pass: &mut TurnPass<V>, cell: u16) -> Option<V>
         requires pass { IsOf self.now pass.old }
         requires cell { cell < length self.now.cells }
@@ -55,8 +57,8 @@ impl<V: Story> Turns<V> {
         pass.posts[usize::from(cell)].try_take(&self.cells[usize::from(cell)])
     }
 
-    /// Takes the value of a cell, as [`Turns::try_take`], and waits while another caller has it. The pass doesn't hold the
-    /// cell. Paired with [`Turns::give`].
+    /// Takes the value of a cell, as [`Turns::try_take`], and waits while another caller has it.
+    /// The pass doesn't hold the cell. Paired with [`Turns::give`].
     pub fn take<R: Wait>(&self, rt: &R, pass: &mut TurnPass<V>, cell: u16) -> V
         requires pass { IsOf self.now pass.old }
         requires cell { cell < length self.now.cells }
@@ -67,8 +69,9 @@ impl<V: Story> Turns<V> {
         pass.posts[usize::from(cell)].take(rt, &self.cells[usize::from(cell)])
     }
 
-    /// Gives the value of a cell back, with the entries that this caller added. The pass holds the cell, and the value is
-    /// the taken one followed by entries of this caller, fewer than 2^62 in all.
+    /// Gives the value of a cell back, with the entries that this caller added. The pass holds the
+    /// cell, and the value is the taken one followed by entries of this caller, fewer than 2^62 in
+    /// all.
     pub fn give(&self, pass: &mut TurnPass<V>, cell: u16, value: V)
         requires pass { IsOf self.now pass.old }
         requires cell { cell < length self.now.cells }
@@ -79,8 +82,8 @@ impl<V: Story> Turns<V> {
         pass.posts[usize::from(cell)].give(&self.cells[usize::from(cell)], value);
     }
 
-    /// How many entries the value has that was given last, by one load: at least as many as the pass had seen, which then
-    /// has seen so many. Waits for nobody.
+    /// How many entries the value has that was given last, by one load: at least as many as the
+    /// pass had seen, which then has seen so many. Waits for nobody.
     pub fn entries(&self, pass: &mut TurnPass<V>, cell: u16) -> u64
         requires pass { IsOf self.now pass.old }
         requires cell { cell < length self.now.cells }
@@ -90,10 +93,12 @@ impl<V: Story> Turns<V> {
         pass.posts[usize::from(cell)].entries(&self.cells[usize::from(cell)])
     }
 
-    /// The values at the end, in the order of the cells. All passes are here, and none holds a cell.
+    /// The values at the end, in the order of the cells. All passes are here, and none holds a
+    /// cell.
     ///
-    /// Each value keeps to its base; what each pass has seen is a prefix of its story; and in each story the entries of a
-    /// caller are those that its pass has seen, which are those that it made, each once, in its order.
+    /// Each value keeps to its base; what each pass has seen is a prefix of its story; and in each
+    /// story the entries of a caller are those that its pass has seen, which are those that it
+    /// made, each once, in its order.
     ///
     /// # Errors
     ///
@@ -125,8 +130,9 @@ impl<V: Story> Turns<V> {
 }
 
 impl<V: Story + Drop> Turns<V> {
-    /// Values behind turns, and a pass for each caller, whose numbers are 0 to `callers` - 1 in order. There are 1 to 65,535
-    /// values, each with its base, which it keeps to, and with no entries yet; and at least one caller.
+    /// Values behind turns, and a pass for each caller, whose numbers are 0 to `callers` - 1 in
+    /// order. There are 1 to 65,535 values, each with its base, which it keeps to, and with no
+    /// entries yet; and at least one caller.
     ///
     /// # Errors
     ///
@@ -198,7 +204,8 @@ fn seat_callers<V: Story>(
     Ok(())
 }
 
-/// One seat at a cell that stands for all callers. Each of them leaves the cell, which is its last, after `left` others.
+/// One seat at a cell that stands for all callers. Each of them leaves the cell, which is its last,
+/// after `left` others.
 fn gather<V: Story>(cell: &Cell<V>, passes: &mut Vec<TurnPass<V>>, left: usize) -> Place<V>
     requires some { 0 < length passes.old.items }
     requires parts { Each (λ p. length p.parts ≡ left + 1) passes.old.items }

@@ -1,12 +1,12 @@
--- What contracts see of the controller of a device with inline encryption, after UFSHCI; and which holds serve which data
--- units: those of the unit's own key, whose entry is in the registers.
-use Rattle.std.specs.Prelude.{◌≡◌, ℕ, true, List, Option, Some, Ok, IfSome, if◌then◌else◌}
+-- What contracts see of the controller of a device with inline encryption, after UFSHCI; and which holds serve which
+-- data units: those of the unit's own key, whose entry is in the registers.
+use Rattle.std.specs.Prelude.{◌≡◌, ℕ, true, List, Option, Some, if◌then◌else◌}
 use Rattle.std.specs.Option.{unwrap_or}
 use Rattle.bc_key.specs.KeyData.{KeyData}
 use Rattle.bc_key.specs.KeyList.{key_at}
+use Rattle.bc_modes.specs.declared.ufs_caps.Capability.{Capability}
 use Rattle.bc_modes.specs.Capabilities.{Capabilities, is_supported}
-use Rattle.bc_modes.specs.Entries.{entry_words, read_words}
-use Rattle.bc_modes.specs.UnitCipher.{CipherParts}
+use Rattle.bc_modes.specs.Entries.{entry_words}
 use Rattle.bc_bio.specs.declared.context.Context.{Context}
 use Rattle.bc_medium.specs.declared.via.Via.{Via}
 use Rattle.bc_medium.specs.declared.via.Via.TheVariants.{Inline}
@@ -23,8 +23,8 @@ pub record ControllerData : Type 0 where
 abbrev pub row_for : Capabilities → KeyData → List ℕ
 row_for caps key = if is_supported caps key.config then unwrap_or (entry_words key caps) cleared else cleared
 
--- a data unit under this context may be carried out under the hold: the hold is of the context's key, which the controller
--- supports, and the row of that key is its entry
+-- a data unit under this context may be carried out under the hold: the hold is of the context's key, which the
+-- controller supports, and the row of that key is its entry
 pub record Serves (controller : ControllerData) (keys : List KeyData) (context : Option Context) (hold : HoldFacts)
     : Type 0 where
   pub under : Context
@@ -36,14 +36,9 @@ pub record Serves (controller : ControllerData) (keys : List KeyData) (context :
   pub entry : entry_words key controller.caps ≡ Some (row_at controller.profile hold.key)
 
 -- how a unit goes that is carried out under the hold: by this device, the hold's slot, and the event that programmed it
-abbrev pub via_of : ControllerData → HoldFacts → Via
-via_of controller hold = Inline controller.device hold.slot hold.epoch
+abbrev pub via_by_device : ControllerData → HoldFacts → Via
+via_by_device controller hold = Inline controller.device hold.slot hold.epoch
 
--- words that were loaded, and the parts of the cipher that they mean
-pub record LastData : Type 0 where
-  pub words : List ℕ
-  pub parts : CipherParts
-
--- the cipher, if there is one, is what its words mean to a controller with these capabilities
-abbrev pub KeepsTo : Capabilities → Option LastData → Type 0
-KeepsTo caps last = IfSome last (λ l. read_words l.words caps ≡ Ok l.parts)
+-- Private: capabilities, of whose numbers nothing is reported.
+abbrev pub with_list : List Capability → Capabilities
+with_list list = record { list = list; max_dun_bytes = 0 }

@@ -10,20 +10,20 @@ ghost use Rattle.bc_medium.specs.KeyedDisk.{enciphered, deciphered, Written, Fau
 ghost use Rattle.bc_medium.specs.Entries.{written_entry, read_entry, failed_entry, unit_name};
 ghost use Rattle.bc_medium.specs.Medium.{Belongs, HasRoom, OwnsSectors, Accesses, AnswersSeen, FailedAsPlanned};
 ghost use Rattle.bc_profile.specs.Passes.{IsOf, row_at};
-ghost use Rattle.bc_ufs.specs.Controllers.{Serves, KeepsTo, via_of};
+ghost use Rattle.bc_ufs.specs.Controllers.{Serves, via_by_device};
 
 use crate::last_cipher::{LastCipher, is_of};
 use bc_base::{BLOCK_BYTES, Place, Store};
 use bc_bio::Context;
 use bc_key::{Key, Keys};
 use bc_medium::{Fault, Medium, MediumPass, UnitAt, Via};
-use bc_modes::{UfsCaps, cipher_of_words, entry_laws};
+use bc_modes::{UfsCaps, entry_laws};
 use bc_profile::{Hold, Profile, ROW_WORDS, Row, SlotPass};
 use std::marker::Model;
 use std::sync::Wait;
 
-/// A controller: the number of its device, the keyslots, and what its crypto engine can do. The register row of a key that it
-/// supports is the key's entry.
+/// A controller: the number of its device, the keyslots, and what its crypto engine can do. The register row of a key
+/// that it supports is the key's entry.
 #[derive(Drop)]
 pub struct Controller {
     device: u8,
@@ -76,9 +76,9 @@ impl Controller {
         self.profile
     }
 
-    /// Writes a data unit: loads the 18 registers of the hold's slot, enciphers by them what is written, in `scratch`, and
-    /// writes that to the medium. The hold is the pass's, of the context's key, which the controller supports; the row of
-    /// that key is its entry. The other conditions are those of [`Medium::write_unit`], whose promise this is.
+    /// Writes a data unit: loads the 18 registers of the hold's slot, enciphers by them what is written, in `scratch`,
+    /// and writes that to the medium. The hold is the pass's, of the context's key, which the controller supports; the
+    /// row of that key is its entry. The other conditions are those of [`Medium::write_unit`], whose promise this is.
     ///
     /// # Errors
     /// The store failed: no sector has changed. The fault has the entry's place, and comes with `plain`.
@@ -105,15 +105,16 @@ impl Controller {
         ensures pass { Belongs medium.now units.new }
         ensures caller { units.new.caller ≡ units.old.caller }
         ensures performs { IfOk result (Accesses medium.now units.old units.new
-            (written_entry at (via_of self.now hold.now) plain.items)) }
+            (written_entry at (via_by_device self.now hold.now) plain.items)) }
         ensures performs_fault { IfErr result (λ fault. Accesses medium.now units.old units.new
-            (failed_entry Access.Write at (via_of self.now hold.now)) fault.0.place) }
+            (failed_entry Access.Write at (via_by_device self.now hold.now)) fault.0.place) }
         ensures back { IfErr result (λ fault. fault.1.items ≡ plain.items) }
         ensures answer { IfOk result (AnswersSeen S.contents medium.now units.new (unit_name at) Written) }
         ensures answer_fault { IfErr result (λ fault.
             AnswersSeen S.contents medium.now units.new (unit_name at) Faulted fault.0.place) }
-        ensures planned { IfOk result (FailedAsPlanned S.told medium.now (IsErr result)) }
-        ensures planned_fault { IfErr result (λ fault. FailedAsPlanned S.told medium.now (IsErr result) fault.0.place) }
+        ensures planned { IfOk result (FailedAsPlanned S.calls medium.now (IsErr result)) }
+        ensures planned_fault { IfErr result (λ fault.
+            FailedAsPlanned S.calls medium.now (IsErr result) fault.0.place) }
     {
         let mut last = None;
         self.write_with(
@@ -121,8 +122,11 @@ impl Controller {
         )
     }
 
-    /// Writes a data unit, as [`Controller::write`]. It keeps the cipher in `last`, and takes the one that is there where the
-    /// registers still have its words.
+    /// Writes a data unit, as [`Controller::write`]. It keeps the cipher in `last`, and takes the one that is there
+    /// where the registers still have its words.
+    ///
+    /// # Errors
+    /// A fault of the store, as [`Controller::write`] has it, with the bytes.
     pub fn write_with<S: Store, R: Wait>(
         &self,
         rt: &R,
@@ -138,26 +142,26 @@ impl Controller {
         requires slots { IsOf self.now.profile slots.old }
         requires held { slots.old.hold ≡ Some hold.now }
         requires serves { Serves self.now medium.now.keys.keys at.now.context hold.now }
-        requires last { KeepsTo self.now.caps last.old }
         requires pass { Belongs medium.now units.old }
         requires caller { at.now.caller ≡ units.old.caller }
         requires length { length plain.items ≡ 512 * unit_sectors medium.now.keys.keys at.now.context }
         requires spare { HasRoom medium.now units.old at.now.sector }
-        requires sectors { OwnsSectors S.owns medium.now at.now.sector (unit_sectors medium.now.keys.keys at.now.context) }
+        requires sectors { OwnsSectors S.owns medium.now at.now.sector
+            (unit_sectors medium.now.keys.keys at.now.context) }
         ensures slots { slots.new ≡ slots.old }
-        ensures last { KeepsTo self.now.caps last.new }
         ensures pass { Belongs medium.now units.new }
         ensures caller { units.new.caller ≡ units.old.caller }
         ensures performs { IfOk result (Accesses medium.now units.old units.new
-            (written_entry at.now (via_of self.now hold.now) plain.items)) }
+            (written_entry at.now (via_by_device self.now hold.now) plain.items)) }
         ensures performs_fault { IfErr result (λ fault. Accesses medium.now units.old units.new
-            (failed_entry Access.Write at.now (via_of self.now hold.now)) fault.0.place) }
+            (failed_entry Access.Write at.now (via_by_device self.now hold.now)) fault.0.place) }
         ensures back { IfErr result (λ fault. fault.1.items ≡ plain.items) }
         ensures answer { IfOk result (AnswersSeen S.contents medium.now units.new (unit_name at.now) Written) }
         ensures answer_fault { IfErr result (λ fault.
             AnswersSeen S.contents medium.now units.new (unit_name at.now) Faulted fault.0.place) }
-        ensures planned { IfOk result (FailedAsPlanned S.told medium.now (IsErr result)) }
-        ensures planned_fault { IfErr result (λ fault. FailedAsPlanned S.told medium.now (IsErr result) fault.0.place) }
+        ensures planned { IfOk result (FailedAsPlanned S.calls medium.now (IsErr result)) }
+        ensures planned_fault { IfErr result (λ fault.
+            FailedAsPlanned S.calls medium.now (IsErr result) fault.0.place) }
     {
         let text = &mut scratch[..plain.len()];
         text.copy_from_slice(plain.as_slice());
@@ -192,22 +196,25 @@ impl Controller {
         ensures pass { Belongs medium.now units.new }
         ensures caller { units.new.caller ≡ units.old.caller }
         ensures performs { IfOk result (Accesses medium.now units.old units.new
-            (read_entry at (via_of self.now hold.now))) }
+            (read_entry at (via_by_device self.now hold.now))) }
         ensures performs_fault { IfErr result (λ fault. Accesses medium.now units.old units.new
-            (failed_entry Access.Read at (via_of self.now hold.now)) fault.place) }
+            (failed_entry Access.Read at (via_by_device self.now hold.now)) fault.place) }
         ensures length { length text.new ≡ length text.old }
         ensures answer { IfOk result (AnswersSeen S.contents medium.now units.new (unit_name at) (Text text.new)) }
         ensures answer_fault { IfErr result (λ fault.
             AnswersSeen S.contents medium.now units.new (unit_name at) Faulted fault.place) }
-        ensures planned { IfOk result (FailedAsPlanned S.told medium.now (IsErr result)) }
-        ensures planned_fault { IfErr result (λ fault. FailedAsPlanned S.told medium.now (IsErr result) fault.place) }
+        ensures planned { IfOk result (FailedAsPlanned S.calls medium.now (IsErr result)) }
+        ensures planned_fault { IfErr result (λ fault. FailedAsPlanned S.calls medium.now (IsErr result) fault.place) }
     {
         let mut last = None;
         self.read_with(rt, slots, hold, medium, units, &at, text, &mut last)
     }
 
-    /// Reads a data unit, as [`Controller::read`]. It keeps the cipher in `last`, and takes the one that is there where the
-    /// registers still have its words.
+    /// Reads a data unit, as [`Controller::read`]. It keeps the cipher in `last`, and takes the one that is there where
+    /// the registers still have its words.
+    ///
+    /// # Errors
+    /// A fault of the store, as [`Controller::read`] has it.
     pub fn read_with<S: Store, R: Wait>(
         &self,
         rt: &R,
@@ -222,26 +229,25 @@ impl Controller {
         requires slots { IsOf self.now.profile slots.old }
         requires held { slots.old.hold ≡ Some hold.now }
         requires serves { Serves self.now medium.now.keys.keys at.now.context hold.now }
-        requires last { KeepsTo self.now.caps last.old }
         requires pass { Belongs medium.now units.old }
         requires caller { at.now.caller ≡ units.old.caller }
         requires length { length text.old ≡ 512 * unit_sectors medium.now.keys.keys at.now.context }
         requires spare { HasRoom medium.now units.old at.now.sector }
-        requires sectors { OwnsSectors S.owns medium.now at.now.sector (unit_sectors medium.now.keys.keys at.now.context) }
+        requires sectors { OwnsSectors S.owns medium.now at.now.sector
+            (unit_sectors medium.now.keys.keys at.now.context) }
         ensures slots { slots.new ≡ slots.old }
-        ensures last { KeepsTo self.now.caps last.new }
         ensures pass { Belongs medium.now units.new }
         ensures caller { units.new.caller ≡ units.old.caller }
         ensures performs { IfOk result (Accesses medium.now units.old units.new
-            (read_entry at.now (via_of self.now hold.now))) }
+            (read_entry at.now (via_by_device self.now hold.now))) }
         ensures performs_fault { IfErr result (λ fault. Accesses medium.now units.old units.new
-            (failed_entry Access.Read at.now (via_of self.now hold.now)) fault.place) }
+            (failed_entry Access.Read at.now (via_by_device self.now hold.now)) fault.place) }
         ensures length { length text.new ≡ length text.old }
         ensures answer { IfOk result (AnswersSeen S.contents medium.now units.new (unit_name at.now) (Text text.new)) }
         ensures answer_fault { IfErr result (λ fault.
             AnswersSeen S.contents medium.now units.new (unit_name at.now) Faulted fault.place) }
-        ensures planned { IfOk result (FailedAsPlanned S.told medium.now (IsErr result)) }
-        ensures planned_fault { IfErr result (λ fault. FailedAsPlanned S.told medium.now (IsErr result) fault.place) }
+        ensures planned { IfOk result (FailedAsPlanned S.calls medium.now (IsErr result)) }
+        ensures planned_fault { IfErr result (λ fault. FailedAsPlanned S.calls medium.now (IsErr result) fault.place) }
     {
         match medium.read_unit(rt, units, *at, self.via(hold), text) {
             Ok(place) => {
@@ -254,7 +260,7 @@ impl Controller {
 
     /// How a data unit goes that is enciphered under the hold.
     fn via(&self, hold: &Hold) -> Via
-        ensures { result ≡ via_of self.now hold.now }
+        ensures { result ≡ via_by_device self.now hold.now }
     {
         Via::Inline {
             device: self.device,
@@ -276,10 +282,8 @@ impl Controller {
         requires slots { IsOf self.now.profile slots.old }
         requires held { slots.old.hold ≡ Some hold.now }
         requires serves { Serves self.now keys.now.keys context hold.now }
-        requires last { KeepsTo self.now.caps last.old }
         requires length { length text.old ≡ 512 * unit_sectors keys.now.keys context }
         ensures slots { slots.new ≡ slots.old }
-        ensures last { KeepsTo self.now.caps last.new }
         ensures enciphers { text.new ≡ enciphered keys.now.keys context text.old }
         ensures length { length text.new ≡ length text.old }
     {
@@ -288,7 +292,7 @@ impl Controller {
         };
         self.load_cipher(slots, hold, keys.get(context.key), last);
         match last {
-            Some(last) => last.cipher.encrypt(&context.dun, text),
+            Some(last) => last.cipher().encrypt(&context.dun, text),
             None => unreachable!(),
         }
     }
@@ -306,10 +310,8 @@ impl Controller {
         requires slots { IsOf self.now.profile slots.old }
         requires held { slots.old.hold ≡ Some hold.now }
         requires serves { Serves self.now keys.now.keys context hold.now }
-        requires last { KeepsTo self.now.caps last.old }
         requires length { length text.old ≡ 512 * unit_sectors keys.now.keys context }
         ensures slots { slots.new ≡ slots.old }
-        ensures last { KeepsTo self.now.caps last.new }
         ensures deciphers { text.new ≡ deciphered keys.now.keys context text.old }
         ensures length { length text.new ≡ length text.old }
     {
@@ -318,13 +320,13 @@ impl Controller {
         };
         self.load_cipher(slots, hold, keys.get(context.key), last);
         match last {
-            Some(last) => last.cipher.decrypt(&context.dun, text),
+            Some(last) => last.cipher().decrypt(&context.dun, text),
             None => unreachable!(),
         }
     }
 
-    /// Loads the registers of the hold's slot, and has the cipher that they mean: the one that is there, where it is that of
-    /// the same words, and else a new one.
+    /// Loads the registers of the hold's slot, and has the cipher that they mean: the one that is there, where it is
+    /// that of the same words, and else a new one.
     fn load_cipher(
         &self,
         slots: &mut SlotPass,
@@ -336,21 +338,19 @@ impl Controller {
         requires held { slots.old.hold ≡ Some hold.now }
         requires valid { IsValid key.now.config key.now.raw }
         requires entry { entry_words key.now self.now.caps ≡ Some (row_at self.now.profile hold.now.key) }
-        requires last { KeepsTo self.now.caps last.old }
         ensures slots { slots.new ≡ slots.old }
-        ensures last { KeepsTo self.now.caps last.new }
-        ensures cipher { IsSomeAnd last.new (λ l. l.parts ≡ parts_of key.now) }
+        ensures cipher { IsSomeAnd last.new (λ parts. parts ≡ parts_of key.now) }
     {
         entry_laws();
         let caps = &self.caps;
         let words = self.load(slots, hold);
-        if is_of(last, &words) {
+        if is_of(last, &words, caps) {
             return;
         }
-        let Ok(cipher) = cipher_of_words(&words, caps) else {
+        let Ok(cipher) = LastCipher::of_words(words, caps) else {
             unreachable!()
         };
-        *last = Some(LastCipher { words, cipher });
+        *last = Some(cipher);
     }
 
     /// The 18 registers of the hold's slot.

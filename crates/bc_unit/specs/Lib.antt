@@ -1,2 +1,2 @@
 pub mod Unit
-pub mod Printed
+pub mod PrintedText

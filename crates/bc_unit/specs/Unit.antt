@@ -1,5 +1,6 @@
--- What the words and the text of a call ask for: one data unit, which is enciphered or deciphered under a key and a number.
--- The key's length tells the mode, and the text's length the data unit's size.
+-- What the words and the text of a call ask for: one data unit, which is enciphered or deciphered
+-- under a key and a number. The key's length tells the mode, and the text's length the data unit's
+-- size.
 use Rattle.std.specs.Prelude.{◌≡◌, ◌≢◌, ⊤, ℕ, ◌^◌, ◌<◌, ◌==◌, List, length, Option, Some, None, MatchOption, if◌then◌else◌, Ok, Err, codes}
 use Rattle.std.specs.Str.{bytes_eq}
 use Rattle.hex.specs.Hex.{decode_of}
@@ -26,12 +27,13 @@ mode_of_size size =
     else (if size == 16 then Some Aes128CbcEssiv else None)
 
 -- what a data unit becomes, one way
-abbrev pub carried : Direction → Mode → List ℕ → ℕ → List ℕ → List ℕ
-carried Encrypt mode raw number text = encipher_unit mode raw number text
-carried Decrypt mode raw number text = decipher_unit mode raw number text
+abbrev pub converted_unit : Direction → Mode → List ℕ → ℕ → List ℕ → List ℕ
+converted_unit Encrypt mode raw number text = encipher_unit mode raw number text
+converted_unit Decrypt mode raw number text = decipher_unit mode raw number text
 
--- the words KEY and NUMBER are a key's and a number's, the text is one data unit, and this becomes of it
-pub record Carries (way : Direction) (key number text out : List ℕ) : Type 0 where
+-- the words KEY and NUMBER are a key's and a number's, the text is one data unit, and this becomes
+-- of it
+pub record ConvertsUnit (way : Direction) (key number text out : List ℕ) : Type 0 where
   pub raw : List ℕ
   pub mode : Mode
   pub place : ℕ
@@ -40,7 +42,7 @@ pub record Carries (way : Direction) (key number text out : List ℕ) : Type 0 w
   pub range : place < 2 ^ 256
   pub number_digits : number ≡ number_text place
   pub accepted : key_refusal mode raw (length text) 16 ≡ None
-  pub becomes : out ≡ carried way mode raw place text
+  pub becomes : out ≡ converted_unit way mode raw place text
 
 -- these digits stand for bytes that meet a condition
 pub record DigitsOf (digits : List ℕ) (holds : List ℕ → Type 0) : Type 0 where
@@ -52,7 +54,8 @@ pub record DigitsOf (digits : List ℕ) (holds : List ℕ → Type 0) : Type 0 w
 abbrev pub IsNoKeyFor : List ℕ → ℕ → Refusal → Type 0
 IsNoKeyFor raw size (refusals.KeySize got) = (length raw ≡ got) × (mode_of_size got ≡ None)
 IsNoKeyFor raw size (refusals.TextSize got) = (size ≡ got) × (4096 < got)
-IsNoKeyFor raw size (refusals.Key error) = MatchOption (mode_of_size (length raw)) ⊥ (λ mode. key_refusal mode raw size 16 ≡ Some error)
+IsNoKeyFor raw size (refusals.Key error) =
+    MatchOption (mode_of_size (length raw)) ⊥ (λ mode. key_refusal mode raw size 16 ≡ Some error)
 IsNoKeyFor raw size _ = ⊥
 
 -- why nothing becomes of KEY, NUMBER and a text of so many bytes

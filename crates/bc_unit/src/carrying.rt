@@ -3,22 +3,24 @@ ghost use Rattle.std.specs.Prelude.{◌≡◌, length, Some, None, IfOk, IfErr, 
 ghost use Rattle.std.specs.String.{string_bytes};
 ghost use Rattle.bc_key.specs.DataUnits.{bytes_of, unit_of};
 ghost use Rattle.bc_key.specs.KeyRefusal.{key_refusal};
-ghost use Rattle.bc_unit.specs.Unit.{carried, mode_of_size, Carries, HasReason, IsNoKeyFor};
-ghost use Rattle.bc_unit.specs.Printed.{digits_line, HasReasonInDigits, PrintsDigits};
+ghost use Rattle.bc_unit.specs.Unit.{converted_unit, mode_of_size, ConvertsUnit, HasReason, IsNoKeyFor};
+ghost use Rattle.bc_unit.specs.PrintedText.{digits_line, HasReasonInDigits, PrintsDigits};
 
 use crate::direction::Direction;
 use crate::refusal::Refusal;
+use bc_base::BLOCK_BYTES;
 use bc_key::{Dun, Key, Mode};
 use bc_modes::UnitCipher;
 use hex::FromHexError;
 use std::alloc::{AllocError, Global};
 
-/// What is printed of a data unit that is written in hexadecimal digits: the digits of what it becomes, and a line feed.
+/// What is printed of a data unit that is written in hexadecimal digits: the digits of what it
+/// becomes, and a line feed.
 ///
 /// # Errors
 ///
-/// KEY or TEXT aren't pairs of hexadecimal digits, NUMBER isn't a number's text, KEY is no key for a data unit of TEXT's
-/// length, or memory is out.
+/// KEY or TEXT aren't pairs of hexadecimal digits, NUMBER isn't a number's text, KEY is no key for
+/// a data unit of TEXT's length, or memory is out.
 pub fn in_digits(
     alloc: Global,
     way: Direction,
@@ -54,8 +56,8 @@ fn line_of(alloc: Global, bytes: &[u8]) -> Result<String, AllocError>
 ///
 /// # Errors
 ///
-/// KEY isn't pairs of hexadecimal digits, NUMBER isn't a number's text, KEY is no key for a data unit of this length, or
-/// memory is out. The text stays as it was.
+/// KEY isn't pairs of hexadecimal digits, NUMBER isn't a number's text, KEY is no key for a data
+/// unit of this length, or memory is out. The text stays as it was.
 pub fn carry(
     alloc: Global,
     way: Direction,
@@ -63,7 +65,7 @@ pub fn carry(
     number: &str,
     text: &mut [u8],
 ) -> Result<(), Refusal>
-    ensures carries { OnOk result (Carries way key.now number.now text.old text.new) }
+    ensures carries { OnOk result (ConvertsUnit way key.now number.now text.old text.new) }
     ensures refuses { IfErr result (HasReason key.now number.now (length text.old)) }
     ensures same { OnErr result (text.new ≡ text.old) }
 {
@@ -91,7 +93,7 @@ fn key_for(raw: &[u8], size: usize) -> Result<Key, Refusal>
     let Some(mode) = mode_of_size(raw.len()) else {
         return Err(Refusal::KeySize { got: raw.len() });
     };
-    if size > 4096 {
+    if size > BLOCK_BYTES {
         return Err(Refusal::TextSize { got: size });
     }
     match Key::new(mode, raw, size as u32, 16) {
@@ -114,7 +116,7 @@ fn mode_of_size(size: usize) -> Option<Mode>
 /// Takes one data unit one way under a key, in place.
 fn carry_under(way: Direction, key: &Key, dun: &Dun, text: &mut [u8])
     requires { length text.old ≡ bytes_of key.now.config.unit }
-    ensures { text.new ≡ carried way key.now.config.mode key.now.raw dun.now text.old }
+    ensures { text.new ≡ converted_unit way key.now.config.mode key.now.raw dun.now text.old }
 {
     let cipher = UnitCipher::of_key(key);
     match way {

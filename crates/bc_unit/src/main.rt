@@ -6,16 +6,18 @@
 //! | `decrypt KEY NUMBER TEXT` | the text of a data unit's raw bytes |
 //! | `encrypt KEY NUMBER`, `decrypt KEY NUMBER` | the same of the bytes of standard input, as bytes |
 //!
-//! KEY has 64 bytes for AES-256-XTS, or 16 for AES-128-CBC-ESSIV. NUMBER is the data unit's number in hexadecimal digits.
-//! A text has 512, 1024, 2048 or 4096 bytes. The process ends with 0 where the data unit is printed. Else it says why on
-//! standard error, and ends with 1 for words that are no command, 2 for a word or a text that is wrong, 3 where reading
-//! failed, 4 where writing failed, and 9 where memory is out.
+//! KEY has 64 bytes for AES-256-XTS, or 16 for AES-128-CBC-ESSIV. NUMBER is the data unit's number
+//! in hexadecimal digits. A text has 512, 1024, 2048 or 4096 bytes. The process ends with 0 where
+//! the data unit is printed. Else it says why on standard error, and ends with 1 for words that are
+//! no command, 2 for a word or a text that is wrong, 3 where reading failed, 4 where writing
+//! failed, and 9 where memory is out.
 #![tactic(auto)]
 
 mod carrying;
 mod direction;
 mod refusal;
 
+use bc_base::BLOCK_BYTES;
 use direction::Direction;
 use refusal::Refusal;
 use std::alloc::Global;
@@ -31,7 +33,7 @@ const USAGE: &str =
 A data unit has 512, 1024, 2048 or 4096 bytes.";
 
 /// No data unit has more bytes, so of standard input at most one more is read.
-const MOST_BYTES: u64 = 4096;
+const MOST_BYTES: u64 = BLOCK_BYTES as u64;
 
 /// How the process ends where a stream fails.
 const READING_FAILED: u8 = 3;

@@ -3,7 +3,7 @@ use bc_key::KeyError;
 use hex::FromHexError;
 use thiserror::Error;
 
-/// Why nothing is printed. Its text is what the user is told.
+/// Why nothing is printed. Its text is what the user reads.
 #[derive(Clone, Copy, Debug, PartialEq, Eq, Drop, Error)]
 pub enum Refusal {
     /// The words are no command.
@@ -13,10 +13,12 @@ pub enum Refusal {
     #[error("KEY is written in pairs of hexadecimal digits: {0}")]
     KeyDigits(FromHexError),
     /// No mode has keys of so many bytes.
-    #[error("KEY has {got} bytes; AES-256-XTS has keys of 64 bytes (128 digits), AES-128-CBC-ESSIV of 16 bytes (32 digits)")]
+    #[error("KEY has {got} bytes; AES-256-XTS has keys of 64 bytes (128 digits), AES-128-CBC-ESSIV of \
+         16 bytes (32 digits)")]
     KeySize { got: usize },
     /// NUMBER isn't a data unit number's text.
-    #[error("NUMBER has 1 to 64 hexadecimal digits in lower case, without 0x and without leading zeros; the first number is 0")]
+    #[error("NUMBER has 1 to 64 hexadecimal digits in lower case, without 0x and without leading zeros; \
+         the first number is 0")]
     Number,
     /// TEXT isn't pairs of hexadecimal digits.
     #[error("TEXT is written in pairs of hexadecimal digits: {0}")]

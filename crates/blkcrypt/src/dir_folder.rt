@@ -4,7 +4,7 @@ ghost use Rattle.std.specs.Prelude.{◌≡◌, ⊤};
 ghost use Rattle.bc_base.specs.Outside.{HasCause};
 
 use crate::std_source::StdSource;
-use bc_base::{Failed, Folder, GetError, PutError, ReadError, read_all};
+use bc_base::{Failed, Folder, GetError, PutError, ReadError, read_all_expecting};
 use std::alloc::Global;
 use std::fs::{File, Files, OpenFile, OpenOptions, Permissions};
 use std::io::{ErrorKind, Write};
@@ -91,6 +91,14 @@ impl<'r, R: Files + AllocGlobal> DirFolder<'r, R> {
     }
 }
 
+/// How many bytes the system says that a file has, at most so many. It may have others when it is read.
+fn expected_bytes<F: OpenFile>(file: &F, limit: u64) -> usize {
+    match file.metadata() {
+        Ok(found) => found.len().min(limit) as usize,
+        Err(_) => 0,
+    }
+}
+
 /// Writes all the bytes to a new file, with these permissions, and waits until the system has stored them.
 fn filled<F: OpenFile + Write>(
     file: &mut F,
@@ -120,7 +128,8 @@ impl<R: Files + AllocGlobal> Folder for DirFolder<'_, R> {
                 return Err(GetError::Failed);
             }
         };
-        match read_all(alloc, &mut StdSource::new(file), limit) {
+        let expected = expected_bytes(&file, limit);
+        match read_all_expecting(alloc, &mut StdSource::new(file), expected, limit) {
             Ok(bytes) => Ok(bytes),
             Err(ReadError::TooLong) => Err(GetError::TooLong),
             Err(ReadError::Memory) => Err(GetError::Memory),

@@ -5,7 +5,7 @@ use Rattle.bc_key.specs.declared.config.DataUnit.{DataUnit}
 use Rattle.bc_key.specs.declared.config.DataUnit.TheVariants.{Bytes512, Bytes1024, Bytes2048, Bytes4096}
 use Rattle.bc_key.specs.DataUnits.{bytes_of}
 use Rattle.bc_key.specs.KeyData.{KeyData, IsValid}
-use Rattle.bc_modes.specs.Laws.{DecipheringUndoes, IsText}
+use Rattle.bc_modes.specs.Laws.{DecipheringUndoes, IsWholeBlocks}
 use Rattle.bc_modes.specs.UnitCipher.{CipherParts, encipher_unit, decipher_unit, parts_of}
 
 whole_blocks : (unit : DataUnit) → bytes_of unit % 16 ≡ 0
@@ -18,7 +18,7 @@ pub undone : (key : KeyData) (number : ℕ) (text between back : List ℕ) (part
     → All (λ b. b < 256) text → length text ≡ bytes_of key.config.unit → parts ≡ parts_of key
     → between ≡ encipher_unit parts.mode parts.raw number text → back ≡ decipher_unit parts.mode parts.raw number between → back ≡ text
 undone key number text between back parts undoes valid fit long are e f =
-    let is_text : IsText text = record {
+    let is_text : IsWholeBlocks text = record {
       whole_blocks = ap (λ n. n % 16) long ∙ whole_blocks key.config.unit;
       bytes = fit;
     } in

@@ -6,14 +6,14 @@ use Rattle.std.proofs.lemmas.List.{length-map, length-replicate}
 use Rattle.std.proofs.lemmas.Option.{none-some, same_Some}
 use Rattle.std.proofs.lemmas.List.Sums.{sum_by-le, sum-map}
 use Rattle.bc_base.specs.Lists.{Each, EachFrom, At}
-use Rattle.bc_base.specs.Places.{shard_of}
+use Rattle.bc_base.specs.Layout.{shard_of}
 use Rattle.bc_base.specs.RamStores.{RamData, owns}
 use Rattle.bc_base.proofs.Lists.{at_map}
 use Rattle.bc_key.specs.KeyData.{KeyData}
 use Rattle.bc_turn.specs.Turning.{sum_of, one_if}
-use Rattle.bc_turn.specs.Parts.{Pass, CellData, is_caller, new_pass}
+use Rattle.bc_turn.specs.PassParts.{Pass, CellData, is_caller, new_pass}
 use Rattle.bc_medium.specs.declared.entry.Entry.{Entry}
-use Rattle.bc_medium.specs.Medium.{OpeningData, MediumData, Belongs, openings, column}
+use Rattle.bc_medium.specs.Medium.{OpeningData, MediumData, Belongs, openings, quotas_of_shard}
 use Rattle.uses.specs.declared.disk.Done.{Done}
 use Rattle.uses.specs.Disks.{StoresOwn, HasSectors, CameBack, IsFreshShard}
 
@@ -31,7 +31,7 @@ module _ {S : Type 0} (keys : List KeyData) (rows : List (List ℕ)) where
 
   at_openings : (k place : ℕ) (stores : List S) (b : OpeningData S) → At (openings keys rows k stores) place b → At stores place b.store
   at_openings k place [] b at = absurd (none-some b at)
-  at_openings k zero (s ∷ stores) b at = ap (λ (z : OpeningData S). Some z.store) (same_Some record { store = s; keys = keys; quotas = column k rows } b at)
+  at_openings k zero (s ∷ stores) b at = ap (λ (z : OpeningData S). Some z.store) (same_Some record { store = s; keys = keys; quotas = quotas_of_shard k rows } b at)
   at_openings k (suc place) (s ∷ stores) b at = at_openings (k + 1) place stores b at
 
   pub has_sectors : (owns : S → ℕ → Bool) (m : MediumData S) (stores : List S) (sectors : ℕ) → map (λ cell. cell.base) m.turns.cells ≡ openings keys rows 0 stores → StoresOwn owns stores sectors
@@ -119,11 +119,11 @@ column_le : {R : Type 0} (items : R → List ℕ) (n quota k : ℕ) (rows : List
 column_le items n quota k [] each = tt
 column_le items n quota k (row ∷ rows) each = (subst (λ l. slice_index_or l k 0 ≤ quota) (sym each.0) (replicated n quota k), column_le items n quota k rows each.1)
 
-pub even_fit : {R : Type 0} (items : R → List ℕ) (n quota k : ℕ) (rows : List R) → Each (λ row. items row ≡ replicate n quota) rows → sum (column k (map items rows)) ≤ length rows * quota
+pub even_fit : {R : Type 0} (items : R → List ℕ) (n quota k : ℕ) (rows : List R) → Each (λ row. items row ≡ replicate n quota) rows → sum (quotas_of_shard k (map items rows)) ≤ length rows * quota
 even_fit items n quota k rows each =
     let same = sum-map (λ (row : List ℕ). slice_index_or row k 0) (map items rows) in
     let most = sum_by-le (λ (row : List ℕ). slice_index_or row k 0) quota (map items rows) (each_all (λ row. slice_index_or row k 0 ≤ quota) (map items rows) (column_le items n quota k rows each)) in
-    subst (λ m. sum (column k (map items rows)) ≤ m * quota) (length-map rows items) (omega arith)
+    subst (λ m. sum (quotas_of_shard k (map items rows)) ≤ m * quota) (length-map rows items) (omega arith)
 
 pub row_lengths : {R : Type 0} (items : R → List ℕ) (n quota : ℕ) (rows : List R) → Each (λ row. items row ≡ replicate n quota) rows → Each (λ row. length (items row) ≡ n) rows
 row_lengths items n quota [] each = tt

@@ -1,4 +1,4 @@
--- Callers of one device: what they were told stays true, and all of them come back.
+-- Callers of one device: what they were answered stays true, and all of them come back.
 use Rattle.std.proofs.Common.{◌≡◌, ◌⊎◌, inl, inr, ⊎_elim, Some, None, ℕ, zero, suc, ◌+◌, ◌<◌, ◌≤◌, Bool, true, List, [], ◌∷◌, ◌++◌, map, length, get_or, drop, refl, sym, ap, ap₂, ◌∙◌, subst, arith, append-nil, eq-eqb}
 use Rattle.std.specs.Prelude.{◌==◌, ◌||◌, false, slice_index_or, All, IfSome, Option}
 use Rattle.std.specs.List.{list_any, range_with_len}
@@ -11,13 +11,13 @@ use Rattle.bc_profile.specs.declared.noted.Noted.{Noted}
 use Rattle.bc_profile.specs.Laws.{ProgrammingsStay}
 use Rattle.bc_profile.specs.SlotJournal.{IsLawful}
 use Rattle.bc_profile.specs.Story.{author_of, events_of, note, notes}
-use Rattle.bc_profile.specs.Passes.{ProfileData, SlotFacts, IsFree, IsOf, Noticed, AreAllHere, IsClosed, base_in, made_by, new_pass, slots_in}
+use Rattle.bc_profile.specs.Passes.{ProfileData, SlotFacts, IsFree, IsOf, Noticed, AreAllHere, IsClosedStory, base_in, made_by, new_pass, slots_in}
 use Rattle.std.specs.Option.{option_map}
 use Rattle.uses.specs.declared.keyslots.SlotCall.{SlotCall}
 use Rattle.uses.specs.declared.keyslots.SlotAnswer.{SlotAnswer}
 use Rattle.uses.specs.declared.keyslots.SlotAnswer.TheVariants as answers
 use Rattle.uses.specs.declared.keyslots.CallerDone.{CallerDone}
-use Rattle.uses.specs.Keyslots.{Adds, Answers, Asked, IsLeft, Progress, Reaches, Names, Tells, IsTold, CameBackFrom, CameBack, IsToldIn, IsFresh, IsRun, after, answers_of, progress, quota_in, start, to_the_end}
+use Rattle.uses.specs.Keyslots.{AddsToJournal, Answers, Asked, CallIsLeft, CallProgress, Reaches, Names, Tells, AreTrueAnswers, CameBackFrom, SlotCallersCameBack, IsToldIn, IsFresh, IsRun, after, answers_of_caller, progress, quota_in, start, to_the_end}
 
 -- ---- one call
 
@@ -38,12 +38,12 @@ unchanged pass = record {
   cell = refl;
 }
 
-pub left : (profile : ProfileData) (pass : SlotFacts) (call : SlotCall) → IsLeft (length profile.rows) (quota_in profile pass.caller) (progress pass) call → Tells profile pass pass call answers.Left
+pub left : (profile : ProfileData) (pass : SlotFacts) (call : SlotCall) → CallIsLeft (length profile.rows) (quota_in profile pass.caller) (progress pass) call → Tells profile pass pass call answers.Left
 left profile pass call is = record { made = []; noticed = unchanged pass; adds = refl; is_answer = is; held = refl; names = tt }
 
 -- ---- one call after the others
 
-reach_more : (keys quota : ℕ) (from to : Progress) (asked : List SlotCall) (told : List SlotAnswer) (made : List Event) (call : SlotCall) (answer : SlotAnswer) (more : List Event) → Reaches keys quota from asked told made to → Adds answer more → Answers keys quota to call answer
+reach_more : (keys quota : ℕ) (from to : CallProgress) (asked : List SlotCall) (told : List SlotAnswer) (made : List Event) (call : SlotCall) (answer : SlotAnswer) (more : List Event) → Reaches keys quota from asked told made to → AddsToJournal answer more → Answers keys quota to call answer
     → Reaches keys quota from (asked ++ call ∷ []) (told ++ answer ∷ []) (made ++ more) (after to answer more)
 reach_more keys quota from to [] [] made call answer more all adds is = (
   more,
@@ -78,9 +78,9 @@ names_more stays rows before front [] answer begins all one = (one, tt)
 names_more stays rows before front (a ∷ told) answer begins all one =
     (names_stay stays rows before front a begins all.0, names_more stays rows before front told answer begins all.1 one)
 
--- what the caller of a pass was told, and how far it is then
+-- what the caller of a pass was answered, and how far it is then
 abbrev pub ToldBy : ProfileData → ℕ → SlotFacts → List SlotCall → List SlotAnswer → Type 0
-ToldBy profile caller pass asked told = (pass.caller ≡ caller) × IsTold profile.rows (quota_in profile caller) caller pass.seen asked told (progress pass)
+ToldBy profile caller pass asked told = (pass.caller ≡ caller) × AreTrueAnswers profile.rows (quota_in profile caller) caller pass.seen asked told (progress pass)
 
 pub nothing_told : (profile : ProfileData) (pass : SlotFacts) → pass.seen ≡ [] → pass.hold ≡ None → ToldBy profile pass.caller pass [] []
 nothing_told profile pass none free = (
@@ -125,7 +125,7 @@ told_more stays profile caller old new asked told call answer by more =
 abbrev AllBack : ProfileData → List (List SlotCall) → ℕ → List CallerDone → Type 0
 AllBack profile lists first done = EachFrom (λ caller one. CameBackFrom profile caller (list_at lists caller) one) first done
 
-pub all_back : (profile : ProfileData) (lists : List (List SlotCall)) (first count : ℕ) (passes : List SlotFacts) (done : List CallerDone) → passes ≡ map (new_pass profile) (range_with_len first count) → length done ≡ length passes → CameBack profile lists passes done → AllBack profile lists first done
+pub all_back : (profile : ProfileData) (lists : List (List SlotCall)) (first count : ℕ) (passes : List SlotFacts) (done : List CallerDone) → passes ≡ map (new_pass profile) (range_with_len first count) → length done ≡ length passes → SlotCallersCameBack profile lists passes done → AllBack profile lists first done
 all_back profile lists first zero [] [] is long back = tt
 all_back profile lists first zero [] (d ∷ done) is long back = absurd (omega (arith, long))
 all_back profile lists first zero (p ∷ passes) done is long back = absurd (let l = ap length is in omega (arith, l))
@@ -149,10 +149,10 @@ pub all_fresh : (profile : ProfileData) (count : ℕ) (passes : List SlotFacts) 
 all_fresh profile count passes is free =
     each_all (IsFresh profile) passes (subst (Each (IsFresh profile)) (sym is) (new_fresh profile 0 count (subst (Each (IsFree profile)) is free)))
 
-pub as_many : (count : ℕ) (profile : ProfileData) (passes : List SlotFacts) (done : List CallerDone) (told : List (Option (List SlotAnswer))) → passes ≡ map (new_pass profile) (range_with_len 0 count) → length done ≡ length passes → told ≡ map answers_of done → (length done ≡ count) × (length told ≡ count)
+pub as_many : (count : ℕ) (profile : ProfileData) (passes : List SlotFacts) (done : List CallerDone) (told : List (Option (List SlotAnswer))) → passes ≡ map (new_pass profile) (range_with_len 0 count) → length done ≡ length passes → told ≡ map answers_of_caller done → (length done ≡ count) × (length told ≡ count)
 as_many count profile passes done told is long same =
     let a = ap length is ∙ length-map (range_with_len 0 count) (new_pass profile) ∙ length-range_with_len 0 count in
-    let b = ap length same ∙ length-map done answers_of in (omega (arith, a, long), omega (arith, a, b, long))
+    let b = ap length same ∙ length-map done answers_of_caller in (omega (arith, a, long), omega (arith, a, b, long))
 
 pub free_passes : (profile : ProfileData) (lists : List (List SlotCall)) (first : ℕ) (done : List CallerDone) → AllBack profile lists first done
     → Each (IsOf profile) (map (λ d. d.pass) done) × Each (λ pass. pass.hold ≡ None) (map (λ d. d.pass) done)
@@ -184,19 +184,19 @@ here profile lists done back long = λ caller below. here_from profile lists 0 c
 
 -- ---- the journal
 
-pub all_told : (profile : ProfileData) (asked : Asked) (story : List Noted) (first : ℕ) (done : List CallerDone) (told : List (List SlotAnswer)) → profile.rows ≡ asked.rows → (base_in profile).quotas ≡ asked.quotas → AllBack profile asked.lists first done → map (λ t. Some t) told ≡ map answers_of done
+pub all_told : (profile : ProfileData) (asked : Asked) (story : List Noted) (first : ℕ) (done : List CallerDone) (told : List (List SlotAnswer)) → profile.rows ≡ asked.rows → (base_in profile).quotas ≡ asked.quotas → AllBack profile asked.lists first done → map (λ t. Some t) told ≡ map answers_of_caller done
     → Each (λ (pass : SlotFacts). IsFront author_of pass.caller pass.seen story) (map (λ d. d.pass) done) → EachFrom (IsToldIn asked story) first told
 all_told profile asked story first done [] rows quotas back same fronts = tt
 all_told profile asked story first [] (t ∷ told) rows quotas back same fronts = absurd (let l = ap length same in omega (arith, l))
 all_told profile asked story first (d ∷ done) (t ∷ told) rows quotas back same fronts =
-    let one : Some t ≡ answers_of d = ap (λ l. get_or l 0 None) same in
-    let is = subst (λ o. IfSome o (λ told. (end : Progress) × IsTold profile.rows (quota_in profile first) first d.pass.seen (to_the_end (list_at asked.lists first)) told end)) (sym one) back.0.told in (
+    let one : Some t ≡ answers_of_caller d = ap (λ l. get_or l 0 None) same in
+    let is = subst (λ o. IfSome o (λ told. (end : CallProgress) × AreTrueAnswers profile.rows (quota_in profile first) first d.pass.seen (to_the_end (list_at asked.lists first)) told end)) (sym one) back.0.told in (
       record {
         front = d.pass.seen;
         is_front = subst (λ n. IsFront author_of n d.pass.seen story) back.0.number fronts.0;
         end = is.0;
-        is_told = subst (λ q. IsTold asked.rows (slice_index_or q first 0) first d.pass.seen (to_the_end (list_at asked.lists first)) t is.0) quotas
-            (subst (λ r. IsTold r (quota_in profile first) first d.pass.seen (to_the_end (list_at asked.lists first)) t is.0) rows is.1);
+        is_told = subst (λ q. AreTrueAnswers asked.rows (slice_index_or q first 0) first d.pass.seen (to_the_end (list_at asked.lists first)) t is.0) quotas
+            (subst (λ r. AreTrueAnswers r (quota_in profile first) first d.pass.seen (to_the_end (list_at asked.lists first)) t is.0) rows is.1);
       },
       all_told profile asked story (first + 1) done told rows quotas back.1 (ap (drop 1) same) fronts.1,
     )
@@ -206,10 +206,10 @@ some_of items [] = refl
 some_of items (v ∷ vs) = ap (λ l. Some (items v) ∷ l) (some_of items vs)
 
 pub run_of : (profile : ProfileData) (asked : Asked) (done : List CallerDone) (told : List (List SlotAnswer)) (journal : List Event) → base_in profile ≡ record { slots = asked.slots; quotas = asked.quotas } → profile.rows ≡ asked.rows → AllBack profile asked.lists 0 done → length done ≡ profile.turns.callers
-    → map (λ t. Some t) told ≡ map answers_of done → (story : List Noted) × (journal ≡ events_of story) × IsClosed profile (map (λ d. d.pass) done) story → IsRun asked journal told
+    → map (λ t. Some t) told ≡ map answers_of_caller done → (story : List Noted) × (journal ≡ events_of story) × IsClosedStory profile (map (λ d. d.pass) done) story → IsRun asked journal told
 run_of profile asked done told journal base rows back long same closed =
     let story = closed.0 in let is = closed.2 in
-    let l = sym (length-map told (λ t. Some t)) ∙ ap length same ∙ length-map done answers_of in record {
+    let l = sym (length-map told (λ t. Some t)) ∙ ap length same ∙ length-map done answers_of_caller in record {
       story = story;
       is_journal = closed.1;
       lawful = subst (λ n. IsLawful n journal) (ap (λ b. b.slots) base) (subst (IsLawful (slots_in profile)) (sym closed.1) is.lawful);

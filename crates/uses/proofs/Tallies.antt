@@ -3,10 +3,10 @@ use Rattle.std.proofs.Common.{◌≡◌, ℕ, ◌<◌, List, [], ◌∷◌, ◌+
 use Rattle.std.proofs.lemmas.Option.{none-some, same_Some}
 use Rattle.std.proofs.lemmas.List.{length-map}
 use Rattle.bc_base.specs.Lists.{Each, AllAt}
-use Rattle.bc_turn.specs.Parts.{Part, Pass, CellData, TurnsData, part_key, cell_key, new_part, new_pass}
-use Rattle.uses.specs.Tallies.{Adds, IsReady}
+use Rattle.bc_turn.specs.PassParts.{Part, Pass, CellData, TurnsData, part_key, cell_key, new_part, new_pass}
+use Rattle.uses.specs.Tallies.{AddsMarks, IsReadyPass}
 
-pub adds_one : (caller : ℕ) (old new : List ℕ) → new ≡ old ++ caller ∷ [] → length old < 1000000 → Adds caller old new
+pub adds_one : (caller : ℕ) (old new : List ℕ) → new ≡ old ++ caller ∷ [] → length old < 1000000 → AddsMarks caller old new
 adds_one caller old new is few = record {
   more = caller ∷ [];
   marks = is;
@@ -14,7 +14,7 @@ adds_one caller old new is few = record {
   few = λ small. let long = ap length is ∙ length-append old (caller ∷ []) in omega arith;
 }
 
-pub adds_none : (caller : ℕ) (old : List ℕ) → Adds caller old old
+pub adds_none : (caller : ℕ) (old : List ℕ) → AddsMarks caller old old
 adds_none caller old = record { more = []; marks = sym (append-nil old); by_caller = tt; few = λ small. small }
 
 -- ---- a new pass is ready
@@ -32,9 +32,9 @@ module _ {B : Type 0} (n : ℕ) where
   free_at [] = λ part at. absurd (none-some part at)
   free_at (cell ∷ cells) = λ part at. ap (λ (q : Part ℕ B). q.holds) (sym (same_Some (new_part n cell) part at))
 
-  pub new_is_ready : (turns : TurnsData B) (pass : Pass ℕ B) → pass ≡ new_pass turns.cells n → n < turns.callers → 0 < length turns.cells → IsReady turns pass
+  pub new_is_ready : (turns : TurnsData B) (pass : Pass ℕ B) → pass ≡ new_pass turns.cells n → n < turns.callers → 0 < length turns.cells → IsReadyPass turns pass
   new_is_ready turns pass is below some =
-      subst (IsReady turns) (sym is) ((below, keys_are turns.cells, callers_are turns.cells), some, free_at turns.cells)
+      subst (IsReadyPass turns) (sym is) ((below, keys_are turns.cells, callers_are turns.cells), some, free_at turns.cells)
 
 -- two elements that are taken off the end, one after the other
 pub two_popped : {A : Type 0} (a b y z : A) (xs ys : List A) → a ∷ b ∷ [] ≡ xs ++ y ∷ [] → xs ≡ ys ++ z ∷ [] → (z ≡ a) × (y ≡ b)

@@ -1,10 +1,10 @@
 -- When callers may carry out steps on the shards of a disk.
 use Rattle.std.specs.Prelude.{◌≡◌, ℕ, ◌<◌, Bool, List, length, slice_index_or}
 use Rattle.bc_base.specs.Lists.{AllAt}
-use Rattle.bc_base.specs.Places.{shard_of}
+use Rattle.bc_base.specs.Layout.{shard_of}
 use Rattle.bc_base.specs.Stores.{IsPiece}
 use Rattle.bc_base.specs.RamStores.{RamData, IsShardOf}
-use Rattle.bc_turn.specs.Parts.{Pass}
+use Rattle.bc_turn.specs.PassParts.{Pass}
 use Rattle.bc_medium.specs.declared.entry.Entry.{Entry}
 use Rattle.bc_medium.specs.Medium.{OpeningData, MediumData, OwnsSectors, Belongs}
 use Rattle.uses.specs.declared.disk.Done.{Done}

@@ -3,7 +3,7 @@ ghost use Rattle.std.specs.Prelude.{◌≡◌, ℕ, ◌+◌, ◌<◌, ◌≤◌,
 ghost use Rattle.std.specs.Thread.{IsSync};
 ghost use lib.ListN.{replicate};
 ghost use Rattle.bc_base.specs.Lists.{Each, EachFrom};
-ghost use Rattle.bc_medium.specs.Medium.{Belongs, shards_of, HasRoom, OwnsSectors, column};
+ghost use Rattle.bc_medium.specs.Medium.{Belongs, shards_of, HasRoom, OwnsSectors, quotas_of_shard};
 ghost use Rattle.uses.specs.Disks.{StoresOwn, HasSectors, CameBack, IsFreshShard};
 
 use bc_base::{BLOCK_SECTORS, Place, RamStore, SECTOR_BYTES, Store};
@@ -37,7 +37,7 @@ pub struct Done<S: Store> {
     pub told: Vec<Told>,
 }
 
-/// The disk at the end: the stores and the orders, by shard, and what each caller was told.
+/// The disk at the end: the stores and the orders, by shard, and what each caller was answered.
 #[derive(Drop)]
 pub struct Finished<S> {
     pub stores: Vec<S>,
@@ -174,7 +174,7 @@ fn at_once<S: Store + Drop + Send, R: Threads + Wait + Sync>(
     )
 }
 
-/// The passes and what the callers were told, in order.
+/// The passes and what the callers were answered, in order.
 fn take_apart<S: Store>(
     alloc: Global,
     mut done: Vec<Done<S>>,
@@ -215,8 +215,8 @@ pub fn run_callers<S: Store + Drop + Send, R: Threads + Wait + Sync>(
     requires callers { (1 ≤ length quotas.items) × (length quotas.items ≤ 65535) }
     requires rows { Each (λ row. length row.items ≡ length stores.items) quotas.items }
     requires fits { (shard : ℕ) → shard < length stores.items
-        → sum (column shard (map (λ row. row.items) quotas.items)) < 2 ^ 32 }
-    requires calls { Each (λ s. IfSome (S.told s) (λ told. told.calls ≡ 0)) stores.items }
+        → sum (quotas_of_shard shard (map (λ row. row.items) quotas.items)) < 2 ^ 32 }
+    requires calls { Each (λ s. IfSome (S.calls s) (λ told. told.calls ≡ 0)) stores.items }
     requires sectors { StoresOwn S.owns stores.items sectors }
     ensures shards { IfOk result (λ end. length end.stores.items ≡ length stores.items) }
 {

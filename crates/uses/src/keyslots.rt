@@ -3,7 +3,7 @@ ghost use Rattle.std.specs.Prelude.{◌≡◌, ℕ, ◌<◌, ◌≤◌, ◌+◌,
 ghost use Rattle.std.specs.Thread.{IsSync};
 ghost use Rattle.bc_profile.specs.declared.limits.TheConstants.{MAX_SLOTS, MAX_EVENTS};
 ghost use Rattle.bc_profile.specs.Passes.{IsFree, IsOf, HasSpare};
-ghost use Rattle.uses.specs.Keyslots.{IsFresh, Stands, Tells, IsTold, CameBack, CameBackFrom, IsRun, answers_of, asked_of};
+ghost use Rattle.uses.specs.Keyslots.{IsFresh, Stands, Tells, AreTrueAnswers, SlotCallersCameBack, CameBackFrom, IsRun, answers_of_caller, asked_of};
 ghost use Rattle.uses.specs.declared.keyslots.SlotCall.TheVariants as calls;
 ghost use Rattle.bc_base.specs.Lists.{list_at};
 
@@ -222,7 +222,7 @@ fn all_at_once<R: Threads + Wait + Sync>(
     requires keys { keys ≡ length profile.now.rows }
     ensures length { IfOk result (λ done. length done.items ≡ length passes.items) }
     ensures each { IfOk result (λ done.
-        CameBack profile.now (map (λ calls. calls.items) lists.now) passes.items done.items) }
+        SlotCallersCameBack profile.now (map (λ calls. calls.items) lists.now) passes.items done.items) }
 {
     thread::map_vec(
         rt,
@@ -241,13 +241,13 @@ fn all_at_once<R: Threads + Wait + Sync>(
     )
 }
 
-/// The passes and what the callers were told, in order.
+/// The passes and what the callers were answered, in order.
 fn apart(
     alloc: Global,
     mut done: Vec<CallerDone>,
 ) -> Result<(Vec<SlotPass>, Vec<Vec<SlotAnswer>>), AllocError>
     ensures passes { IfOk result (λ r. r.0.items ≡ map (λ d. d.pass) done.items) }
-    ensures told { IfOk result (λ r. map (λ told. Some told.items) r.1.items ≡ map answers_of done.items) }
+    ensures told { IfOk result (λ r. map (λ told. Some told.items) r.1.items ≡ map answers_of_caller done.items) }
 {
     let mut passes = Vec::new(alloc);
     let mut answers = Vec::new(alloc);

@@ -124,7 +124,7 @@ fn is_answered(keys: u16, told: &[SlotAnswer], calls: &[SlotCall]) -> bool {
 }
 
 /// Whether the events that the answers name stand in the journal: at the place that a hold names, its programming; and as
-/// many refused evictions and resets as callers were told.
+/// many refused evictions and resets as callers were answered.
 fn is_told(end: &DeviceDone) -> bool {
     let mut refused: u32 = 0;
     let mut resets: u32 = 0;

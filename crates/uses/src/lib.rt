@@ -25,6 +25,8 @@ pub use units::{encipher_two, there_and_back};
 #[cfg(test)]
 mod callers_tests;
 #[cfg(test)]
+mod gate_tests;
+#[cfg(test)]
 mod keyslots_tests;
 #[cfg(test)]
 mod keyslots_wait_tests;

@@ -1,6 +1,6 @@
 //! The whole program over memory.
 ghost use Rattle.std.specs.Prelude.{false, ◌≡◌, ◌∷◌, [], IfOk, Some, None, codes, map};
-ghost use Rattle.bc_base.specs.Folders.{bytes_of};
+ghost use Rattle.bc_base.specs.Folders.{file_bytes};
 ghost use Rattle.std.specs.String.{string_bytes};
 ghost use Rattle.bc_run.specs.Command.{IsCarriedOut, IsScriptAnd};
 
@@ -30,7 +30,7 @@ pub fn report_of<R: Threads + Wait + Sync>(
     text: Vec<u8>,
 ) -> Result<MemSink, Status>
     ensures { IfOk result (λ sink. IsScriptAnd (IsCarriedOut (λ report left. sink.held ≡ report)
-        (Some (bytes_of [])) (record { image = None; out = None; shards = 1; at_once = false })) (Some text.items)) }
+        (Some (file_bytes [])) (record { image = None; out = None; shards = 1; at_once = false })) (Some text.items)) }
 {
     let Ok(words) = serial_words(alloc) else {
         return Err(Status::NoMemory);

@@ -1,4 +1,4 @@
-//! A text that is read as a script, or whose first error is told.
+//! A text that is read as a script, or whose first error is reported.
 ghost use Rattle.std.specs.Prelude.{◌≡◌, is_none, IfOk};
 ghost use Rattle.bc_script.specs.ScriptErrors.{error_of};
 

@@ -1,6 +1,6 @@
 //! Two threads that count together: values behind turns.
 ghost use Rattle.std.specs.Prelude.{◌≡◌, [], IfOk};
-ghost use Rattle.uses.specs.Tallies.{Adds, IsReady};
+ghost use Rattle.uses.specs.Tallies.{AddsMarks, IsReadyPass};
 
 use bc_turn::{Story, TurnPass, Turns};
 use std::alloc::{AllocError, Global};
@@ -50,7 +50,7 @@ impl Tally {
     /// A mark by this caller, where there is room.
     #[tactic(auto, using(crate::proofs::Tallies::adds_one, crate::proofs::Tallies::adds_none))]
     pub fn mark(&mut self, caller: u16)
-        ensures { Adds caller self.old.callers.items self.new.callers.items }
+        ensures { AddsMarks caller self.old.callers.items self.new.callers.items }
     {
         if self.callers.len() < MOST && self.callers.len() < self.callers.capacity() {
             self.callers.push_reserved(caller);
@@ -68,8 +68,8 @@ impl Tally {
 
 /// Makes one mark in the first cell: takes the turn, and gives it back.
 fn visit<R: Wait>(rt: &R, turns: &Turns<Tally>, pass: &mut TurnPass<Tally>)
-    requires { IsReady turns.now pass.old }
-    ensures ready { IsReady turns.now pass.new }
+    requires { IsReadyPass turns.now pass.old }
+    ensures ready { IsReadyPass turns.now pass.new }
     ensures caller { pass.new.caller ≡ pass.old.caller }
 {
     let mut tally = turns.take(rt, pass, 0);
@@ -84,8 +84,8 @@ pub fn count<R: Wait>(
     mut pass: TurnPass<Tally>,
     marks: u32,
 ) -> TurnPass<Tally>
-    requires { IsReady turns.now pass }
-    ensures ready { IsReady turns.now result }
+    requires { IsReadyPass turns.now pass }
+    ensures ready { IsReadyPass turns.now result }
     ensures caller { result.caller ≡ pass.caller }
 {
     for _ in 0..marks {
@@ -102,20 +102,20 @@ pub fn count_both<R: Threads + Wait + Sync>(
     second: TurnPass<Tally>,
     marks: u32,
 ) -> (TurnPass<Tally>, TurnPass<Tally>)
-    requires first { IsReady turns.now first }
-    requires second { IsReady turns.now second }
-    ensures first { IsReady turns.now result.0 }
-    ensures second { IsReady turns.now result.1 }
+    requires first { IsReadyPass turns.now first }
+    requires second { IsReadyPass turns.now second }
+    ensures first { IsReadyPass turns.now result.0 }
+    ensures second { IsReadyPass turns.now result.1 }
 {
     join(
         rt,
         move || -> TurnPass<Tally>
-            requires { IsReady turns.now first }
-            ensures { IsReady turns.entry.now result }
+            requires { IsReadyPass turns.now first }
+            ensures { IsReadyPass turns.entry.now result }
         { count(rt, turns, first, marks) },
         move || -> TurnPass<Tally>
-            requires { IsReady turns.now second }
-            ensures { IsReady turns.entry.now result }
+            requires { IsReadyPass turns.now second }
+            ensures { IsReadyPass turns.entry.now result }
         { count(rt, turns, second, marks) },
     )
 }
@@ -126,8 +126,8 @@ pub fn marks_of_two<R: Wait>(
     turns: &Turns<Tally>,
     pass: &mut TurnPass<Tally>,
 ) -> (usize, usize)
-    requires { IsReady turns.now pass.old }
-    ensures { IsReady turns.now pass.new }
+    requires { IsReadyPass turns.now pass.old }
+    ensures { IsReadyPass turns.now pass.new }
 {
     let tally = turns.take(rt, pass, 0);
     let marks = (tally.marks_of(0), tally.marks_of(1));

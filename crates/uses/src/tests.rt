@@ -28,7 +28,7 @@ fn orders_tell_all(rt: HostRuntime) -> Result<(), Fail> {
     Ok(())
 }
 
-/// Whether the orders that so many callers leave tell what each of them was told.
+/// Whether the orders that so many callers leave tell what each of them was answered.
 fn at_once<R: Threads + Wait + Sync>(
     rt: &R,
     alloc: Global,
@@ -78,8 +78,8 @@ fn script(alloc: Global, caller: u32, sectors: u32) -> Result<Vec<Step>, AllocEr
     Ok(steps)
 }
 
-/// Whether each entry of a shard's order is what its caller was told, where the first bytes of the sectors are these
-/// before: a fault exactly at a planned place, and of a read the byte that was filled in last.
+/// Whether each entry of a shard's order is what its caller was answered, where the first bytes of the sectors are
+/// these before: a fault exactly at a planned place, and of a read the byte that was filled in last.
 fn replays(end: &Finished<RamStore>, shard: u16, order: &[Entry], disk: &mut [u8]) -> bool {
     let mut index = 0;
     for entry in order {
@@ -106,7 +106,7 @@ fn replays(end: &Finished<RamStore>, shard: u16, order: &[Entry], disk: &mut [u8
     true
 }
 
-/// What the caller of an entry was told at that step.
+/// What the caller of an entry was answered at that step.
 fn told_of(end: &Finished<RamStore>, entry: &Entry) -> Option<Told> {
     let told = end.told.get(usize::from(entry.at.caller))?;
     told.get(entry.at.tag as usize).copied()

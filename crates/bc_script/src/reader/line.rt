@@ -13,7 +13,7 @@ ghost use Rattle.bc_script.specs.ScriptErrors.{error_at, is_declared, is_number}
 ghost use Rattle.bc_script.specs.Progress.{IsProgress, blocks_of, is_whole, forms_read, sections_read};
 ghost use Rattle.bc_script.specs.Says.{SaysNumber};
 ghost use Rattle.bc_script.specs.Lent.{device_lent, key_lent, fault_lent, bio_lent, text_lent, form_lent};
-ghost use Rattle.bc_script.specs.Statements.{IsNext, DashesAgree, ReadsForm, Reports, Refuses, is_after};
+ghost use Rattle.bc_script.specs.Statements.{IsNextStatement, DashesAgree, ReadsForm, Reports, RefusesTest, follows_faults};
 ghost use Rattle.bc_script.specs.DeviceFields.{SaysDevice, RefusesDevice};
 ghost use Rattle.bc_script.specs.BioFields.{IsNewName, IsDeclared, SaysKey, SaysBio, RefusesBio, context_with};
 
@@ -49,7 +49,7 @@ struct BioFields {
 impl Reader {
     /// What the next line says.
     pub(super) fn statement(&self, alloc: Global, line: Parts) -> Result<Statement, Unread>
-        ensures ok { IfOk result (IsNext self.now line.entry) }
+        ensures ok { IfOk result (IsNextStatement self.now line.entry) }
         ensures bad { IfErr result (Reports (error_at (forms_read self.now) line.entry)) }
     {
         let last = self.last_sort();
@@ -146,7 +146,7 @@ impl Reader {
     fn new_name(&self, name: &[u8]) -> Result<Name, Unread>
         ensures { MatchResult result
             (IsNewName self.now name.now)
-            (Refuses (is_name name.now && not (is_declared name.now (forms_read self.now))) why.Name) }
+            (RefusesTest (is_name name.now && not (is_declared name.now (forms_read self.now))) why.Name) }
     {
         if self.keys.number_of(name).is_some() {
             return Err(Unread::Bad(ScriptWhy::Name));
@@ -258,7 +258,7 @@ impl Reader {
     fn bio_key(&self, name: &[u8]) -> Result<Option<KeyNo>, Unread>
         ensures { MatchResult result
             (SaysKey self.now name.now)
-            (Refuses (bytes_eq name.now dash || is_declared name.now (forms_read self.now)) why.Name) }
+            (RefusesTest (bytes_eq name.now dash || is_declared name.now (forms_read self.now)) why.Name) }
     {
         if name == b"-".as_slice() {
             return Ok(None);
@@ -270,7 +270,7 @@ impl Reader {
     fn declared_key(&self, name: &[u8]) -> Result<KeyNo, Unread>
         ensures { MatchResult result
             (IsDeclared self.now name.now)
-            (Refuses (is_declared name.now (forms_read self.now)) why.Name) }
+            (RefusesTest (is_declared name.now (forms_read self.now)) why.Name) }
     {
         match self.keys.number_of(name) {
             Some(key) => Ok(key),
@@ -375,7 +375,7 @@ impl Reader {
 fn disk(blocks: &[u8]) -> Result<Statement, Unread>
     ensures { MatchResult result
         (λ statement. (n : ℕ) × (statement ≡ statements.Disk n) × SaysNumber 1 max_blocks blocks.now n)
-        (Refuses (is_number 1 max_blocks blocks.now) why.Number) }
+        (RefusesTest (is_number 1 max_blocks blocks.now) why.Number) }
 {
     Ok(Statement::Disk(field::number(blocks, 1, MAX_BLOCKS)?))
 }
@@ -405,7 +405,7 @@ fn device_of(form: DeviceForm) -> Result<Target, Unread>
 
 /// Whether a fault comes after the last of these, if there is one.
 fn is_after(faults: &[(u16, u32)], fault: (u16, u32)) -> bool
-    ensures { result ≡ is_after faults.now fault }
+    ensures { result ≡ follows_faults faults.now fault }
 {
     match faults.last() {
         Some(last) => is_before(*last, fault),

@@ -1,6 +1,6 @@
 use Rattle.std.proofs.Common.{List, ℕ, ◌≡◌, ◌-◌, ◌<◌, length}
 use Rattle.bc_aes.specs.Cipher.{after_inv_round}
-use Rattle.bc_aes.specs.Slices.{slices_of, block_of}
+use Rattle.bc_aes.specs.Slices.{slices_of, sliced_block}
 use Rattle.bc_aes.specs.SlicedRounds.{raised, AreRoundKeys}
 use Rattle.bc_aes.proofs.eight.deciphered.Given as goal
 
@@ -8,4 +8,4 @@ use Rattle.bc_aes.proofs.eight.deciphered.Given as goal
 abbrev pub invariant-loop-before : goal.invariant-loop-before
 invariant-loop-before l =
     (schedule : List ℕ) → AreRoundKeys schedule l.keys → (k : ℕ) → k < 8
-    → raised (block_of (slices_of l.state) k) ≡ after_inv_round (length l.keys - 1) schedule (block_of (slices_of l.fn.q) k) l.before
+    → raised (sliced_block (slices_of l.state) k) ≡ after_inv_round (length l.keys - 1) schedule (sliced_block (slices_of l.fn.q) k) l.before

@@ -1,6 +1,6 @@
 use Rattle.std.proofs.Common.{List, ℕ, ap, ◌∙◌}
 use Rattle.bc_aes.specs.State.{add_round_key}
-use Rattle.bc_aes.specs.Slices.{slices_of, block_of}
+use Rattle.bc_aes.specs.Slices.{slices_of, sliced_block}
 use Rattle.bc_aes.specs.SlicedRounds.{bare_sub_bytes}
 use Rattle.bc_aes.proofs.FoldLemmas.{last_round-raised}
 use Rattle.bc_aes.proofs.eight.last_round.Goals as goal
@@ -9,8 +9,8 @@ pub returns : goal.returns
 returns c = record {
   ends = record {
     each = λ k h. c.add.ensures.adds.each k h
-        ∙ ap (λ (s : List ℕ). add_round_key s (block_of (slices_of c.args.key) k))
+        ∙ ap (λ (s : List ℕ). add_round_key s (sliced_block (slices_of c.args.key) k))
         (c.sub_bytes.ensures.substitutes.each k h ∙ ap bare_sub_bytes (c.shift_rows.ensures.shifts.each k h))
-        ∙ last_round-raised (slices_of c.args.q) k (block_of (slices_of c.args.key) k);
+        ∙ last_round-raised (slices_of c.args.q) k (sliced_block (slices_of c.args.key) k);
   };
 }

@@ -1,5 +1,4 @@
-use Rattle.std.proofs.Common.{◌*◌, ◌+◌, ◌/◌, length, ap, arith, ◌∙◌}
-use Rattle.bc_base.specs.Sectors.{bytes_at, image_sectors}
+use Rattle.std.proofs.Common.{◌*◌, ◌+◌, ◌/◌, length, arith, ◌∙◌}
 use Rattle.bc_base.proofs.Image.{part-bytes_at}
 use Rattle.bc_base.proofs.ram_store.take_sectors.Goals as goal
 

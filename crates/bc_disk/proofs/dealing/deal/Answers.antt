@@ -1,8 +1,9 @@
 use Rattle.std.proofs.Common.{rules, ◌≡◌, ◌+◌, ◌-◌, ◌<◌, ◌≤◌, [], ◌∷◌, length, map, ap, sym, ◌∙◌, arith, refl, vec_capacity, vec_len, length-append}
 use Rattle.bc_base.proofs.Lists.{at_read, at_one}
 use Rattle.bc_disk.specs.Dealing.{dealt}
-use Rattle.bc_disk.proofs.Deals.{dealt_none, dealt_last, each_weaken, room_step, room_whole, room_all, last_below, length_set}
+use Rattle.bc_disk.proofs.Deals.{dealt_none, dealt_last, room_step, room_whole, room_all, last_below, length_set}
 use Rattle.bc_disk.proofs.dealing.deal.Goals as goal
+use Rattle.bc_medium.proofs.Openings.{each_weaken}
 
 pub loop-pass-init : goal.loop-pass-init
 loop-pass-init c = record {

@@ -2,9 +2,10 @@ use Rattle.std.proofs.Common.{◌≡◌, ℕ, false, [], ◌∷◌, length, ap, 
 use Rattle.bc_base.specs.Lists.{AllAt}
 use Rattle.bc_modes.specs.UnitCipher.{CipherParts, parts_of}
 use Rattle.bc_stack.specs.Devices.{all_support}
-use Rattle.bc_disk.proofs.Joins.{all_push, there, below}
+use Rattle.bc_disk.proofs.Joins.{all_push, below}
 use Rattle.bc_disk.proofs.Known.{cipher_known}
 use Rattle.bc_disk.proofs.opening.ciphers_of.Goals as goal
+use Rattle.bc_medium.proofs.Openings.{there}
 
 pub loop-number-preserved : goal.loop-number-preserved
 loop-number-preserved c =

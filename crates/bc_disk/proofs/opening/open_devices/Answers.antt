@@ -8,10 +8,10 @@ use Rattle.bc_profile.specs.Passes.{new_pass}
 use Rattle.bc_ufs.specs.Controllers.{ControllerData}
 use Rattle.bc_disk.specs.Dealing.{dealt, new_slots}
 use Rattle.bc_disk.specs.Openings.{AreNewDevices, IsNewDevice}
-use Rattle.bc_disk.proofs.Deals.{each_weaken}
 use Rattle.bc_disk.proofs.Joins.{all_push, new_slots_push}
 use Rattle.bc_disk.proofs.Known.{device_known, no_slots}
 use Rattle.bc_disk.proofs.opening.open_devices.Goals as goal
+use Rattle.bc_medium.proofs.Openings.{each_weaken}
 
 pub loop-device-init : goal.loop-device-init
 loop-device-init c =

@@ -5,9 +5,9 @@ use mathlib.Core.List.{reverse}
 use Rattle.bc_base.specs.Lists.{Each}
 use Rattle.bc_base.proofs.Lists.{each_back, each_front, each_reverse}
 use Rattle.bc_disk.specs.Dealing.{dealt}
-use Rattle.bc_disk.proofs.Deals.{each_weaken}
 use Rattle.bc_disk.proofs.Splits.{all_dealt, slots_step, units_step, length_dealt}
 use Rattle.bc_disk.proofs.split.split_passes.Goals as goal
+use Rattle.bc_medium.proofs.Openings.{each_weaken}
 
 pub loop-pass-init : goal.loop-pass-init
 loop-pass-init g c =

@@ -3,7 +3,7 @@ use Rattle.bc_key.specs.declared.config.Mode.{Mode}
 use Rattle.bc_key.specs.declared.config.Mode.TheVariants.{Aes256Xts, Aes128CbcEssiv}
 use Rattle.bc_key.specs.KeyData.{key_size}
 use Rattle.bc_aes.specs.Laws.{DeciphermentUndoes, EnciphermentMakesBlocks}
-use Rattle.bc_modes.specs.Laws.{IsText}
+use Rattle.bc_modes.specs.Laws.{IsWholeBlocks}
 use Rattle.bc_modes.specs.UnitCipher.{encipher_unit, decipher_unit}
 use Rattle.bc_modes.proofs.Bytes.{AreBytes}
 use Rattle.bc_modes.proofs.UnitLaws.{length-encipher_unit, length-decipher_unit, xts-undone, AreBytes-xts_encipher}
@@ -11,7 +11,7 @@ use Rattle.bc_modes.proofs.EssivLaws.{essiv-undone, AreBytes-essiv_encipher}
 use Rattle.bc_modes.proofs.laws.unit_laws.Goals as goal
 
 undone : DeciphermentUndoes → EnciphermentMakesBlocks → (mode : Mode) (raw : List ℕ) (number : ℕ) (text : List ℕ)
-    → length raw ≡ key_size mode → AreBytes raw → IsText text → decipher_unit mode raw number (encipher_unit mode raw number text) ≡ text
+    → length raw ≡ key_size mode → AreBytes raw → IsWholeBlocks text → decipher_unit mode raw number (encipher_unit mode raw number text) ≡ text
 unfolding encipher_unit decipher_unit
 undone undoes makes Aes256Xts raw number text size are is = xts-undone undoes raw number text size are is.whole_blocks is.bytes
 undone undoes makes Aes128CbcEssiv raw number text size are is =

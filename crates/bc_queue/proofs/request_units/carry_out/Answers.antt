@@ -1,8 +1,8 @@
 use Rattle.std.proofs.Common.{◌≡◌, ℕ, ◌+◌, ◌<◌, ◌≤◌, List, refl, sym, ap, subst, ◌∙◌}
 use Rattle.bc_key.specs.KeyData.{KeyData}
-use Rattle.bc_medium.specs.Places.{shard_of}
+use Rattle.bc_medium.specs.Layout.{shard_of}
 use Rattle.bc_queue.specs.RequestUnits.{named_at}
-use Rattle.bc_queue.specs.Carrying.{AccessFacts, ArePerformable, IsPerformable}
+use Rattle.bc_queue.specs.Carrying.{AccessFacts, ArePerformable, IsPerformableUnit}
 use Rattle.bc_queue.proofs.Walk.{done_none, done_more, next_performable, next_spare, same_named_at}
 use Rattle.bc_queue.proofs.request_units.carry_out.Goals as goal
 
@@ -14,8 +14,8 @@ carry_out_one-requires-clause-unit g c =
     let old = g.A.UnitAccess.facts c.args.access.now c.args.pass.now in
     let can : ArePerformable old.keys (g.A.UnitAccess.takes c.args.access.now) c.args.request.now.bios c.args.first c.args.count = subst (λ (ks : List KeyData). ArePerformable ks (g.A.UnitAccess.takes c.args.access.now) c.args.request.now.bios c.args.first c.args.count) (sym c.requires.keys) c.requires.units in
     let next = next_performable old (g.A.UnitAccess.facts c.loop-done.access c.loop-done.pass) c.args.request.now c.loop-done.request c.args.first c.loop-done.done c.args.count (g.A.UnitAccess.takes c.args.access.now) c.loop-done.invariant.2 c.loop-done-test.true can in
-    subst (λ a. IsPerformable c.args.keys.now.keys (g.A.UnitAccess.takes a) c.loop-done.request.bios (c.args.first + c.loop-done.done)) (sym c.loop-done.invariant.0)
-    (subst (λ (ks : List KeyData). IsPerformable ks (g.A.UnitAccess.takes c.args.access.now) c.loop-done.request.bios (c.args.first + c.loop-done.done)) c.requires.keys next)
+    subst (λ a. IsPerformableUnit c.args.keys.now.keys (g.A.UnitAccess.takes a) c.loop-done.request.bios (c.args.first + c.loop-done.done)) (sym c.loop-done.invariant.0)
+    (subst (λ (ks : List KeyData). IsPerformableUnit ks (g.A.UnitAccess.takes c.args.access.now) c.loop-done.request.bios (c.args.first + c.loop-done.done)) c.requires.keys next)
 
 pub carry_out_one-requires-clause-spare : goal.carry_out_one-requires-clause-spare
 carry_out_one-requires-clause-spare g c =

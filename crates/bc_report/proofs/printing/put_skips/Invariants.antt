@@ -1,6 +1,6 @@
 use Rattle.std.proofs.Common.{◌≡◌, ◌++◌, take, map}
 use Rattle.bc_report.specs.ReportText.{skip_field}
-use Rattle.bc_report.specs.Spaced.{spaced}
+use Rattle.bc_report.specs.SpacedFields.{spaced}
 use Rattle.bc_report.proofs.printing.put_skips.Given as goal
 
 abbrev pub invariant-loop-skip : goal.invariant-loop-skip

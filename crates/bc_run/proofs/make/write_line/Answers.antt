@@ -1,7 +1,7 @@
 use Rattle.std.proofs.Common.{map}
 use Rattle.std.specs.String.{string_bytes}
 use Rattle.bc_run.specs.Statuses.{SinkEffects}
-use Rattle.bc_run.specs.Stages.{made_by}
+use Rattle.bc_run.specs.Stages.{options_of_making}
 use Rattle.bc_run.proofs.MakeEnds.{make_written}
 use Rattle.bc_run.proofs.make.write_line.Goals as goal
 
@@ -13,6 +13,6 @@ returns-clause-status g c =
       held_before = g.K.Sink.held c.args.out.now;
       held_after = g.K.Sink.held c.write_text.new.out;
     } in
-    make_written (map string_bytes c.args.words.now) effects (made_by c.in_ok-making.making) c.in_ok-line.line.items c.deref.result.now c.write_text.result
+    make_written (map string_bytes c.args.words.now) effects (options_of_making c.in_ok-making.making) c.in_ok-line.line.items c.deref.result.now c.write_text.result
     c.in_ok-making.ensures.taken c.in_ok-making.ensures.said c.in_ok-line.ensures.made c.deref.ensures.value
     c.write_text.ensures.ok c.write_text.ensures.prefix c.write_text.ensures.fault c.write_text.ensures.cause.rose

@@ -2,7 +2,7 @@ use Rattle.std.proofs.Common.{◌≡◌, ◌∙◌, codes, ap, refl, List, ℕ}
 use Rattle.std.specs.Option.{option_map_or}
 use Rattle.clap.specs.Words.{found_of, first_of, first_value}
 use Rattle.clap.proofs.WalkLemmas.{first_value-rows}
-use Rattle.bc_run.specs.Words.{is_set, number_of}
+use Rattle.bc_run.specs.Words.{is_set, number_of_value}
 use Rattle.bc_run.proofs.make_words.making_of_words.Goals as goal
 
 pub returns-in-Ok-clause-said : goal.returns-in-Ok-clause-said
@@ -10,8 +10,8 @@ returns-in-Ok-clause-said c =
     let rows = (c.in-Ok.ensures.found refl).0 in
     let value : (id : List ℕ) → first_value (found_of c.in-Ok.matches) id ≡ first_of id _ =
     λ id. first_value-rows (found_of c.in-Ok.matches) id ∙ ap (first_of id) rows in
-    let pairs = c.pairs_of.ensures.number ∙ ap (λ o. option_map_or number_of o 1) (value (codes "n")) in
-    let slots = c.slots_of.ensures.number ∙ ap (λ o. option_map_or number_of o 1) (value (codes "slots")) in
-    let shards = c.shards_of.ensures.number ∙ ap (λ o. option_map_or number_of o 8) (value (codes "shards")) in
+    let pairs = c.pairs_of.ensures.number ∙ ap (λ o. option_map_or number_of_value o 1) (value (codes "n")) in
+    let slots = c.slots_of.ensures.number ∙ ap (λ o. option_map_or number_of_value o 1) (value (codes "slots")) in
+    let shards = c.shards_of.ensures.number ∙ ap (λ o. option_map_or number_of_value o 8) (value (codes "shards")) in
     let at_once = c.at_once_of.ensures ∙ ap is_set (value (codes "threads")) in
     rw (pairs, slots, shards, at_once) refl

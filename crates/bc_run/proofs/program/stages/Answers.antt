@@ -1,5 +1,5 @@
 use Rattle.std.proofs.Common.{subst, IfSome}
-use Rattle.bc_run.specs.Command.{IsTextOf}
+use Rattle.bc_run.specs.Command.{IsScriptTextOf}
 use Rattle.bc_run.specs.Statuses.{Effects, ScriptEndsBy}
 use Rattle.bc_run.specs.Stages.{status_of}
 use Rattle.bc_run.specs.Words.{Options}
@@ -19,7 +19,7 @@ returns-clause-status g c =
       held_before = g.K.Sink.held c.args.out.now;
       held_after = g.K.Sink.held c.run_script.new.out;
     } in
-    let accepted : IfSome (g.S.Source.left c.args.source.now) (λ t. IsTextOf t script) =
+    let accepted : IfSome (g.S.Source.left c.args.source.now) (λ t. IsScriptTextOf t script) =
     accepted_of (g.S.Source.left c.args.source.now) (g.S.Source.left c.read_script.new.source) c.in_ok-text.text.items script
     c.in_ok-text.ensures.all c.in_ok-text.ensures.end c.in_ok-text.ensures.within (rw (← c.deref.ensures.value) c.in_ok-script.ensures.ok) in
     ends_by _ script (status_of c.run_script.result) c.in_ok-options.ensures.taken accepted

@@ -3,7 +3,7 @@ use Rattle.std.specs.Prelude.{IsSomeAnd}
 use Rattle.bc_bio.specs.declared.extent.Extent.{Extent}
 use Rattle.bc_script.specs.Bios.{bio_of, refusal_of}
 use Rattle.bc_report.specs.declared.answer.Answer.TheVariants as answers
-use Rattle.bc_section.specs.Reached.{numbered, left_of, answers_by, Reached}
+use Rattle.bc_section.specs.SectionProgress.{numbered, left_of, answers_by, Reached}
 use Rattle.bc_section.proofs.Reaching.{reached_pend, reached_quiet}
 use Rattle.bc_section.proofs.Left.{left_quiet, step_refused}
 use Rattle.bc_section.proofs.Stepping.{within, accepted, is_accepted, refused, refused_reply, key_of_bio, refusal_at}

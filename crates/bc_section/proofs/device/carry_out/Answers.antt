@@ -3,8 +3,8 @@ use Rattle.std.specs.List.{enumerate_from}
 use Rattle.std.proofs.lemmas.Option.{slice_get_read}
 use Rattle.bc_script.specs.declared.op.Op.{Op}
 use Rattle.bc_section.specs.Sections.{DeviceData}
-use Rattle.bc_section.specs.Uses.{bios_of}
-use Rattle.bc_section.specs.Reached.{Reached, WindowEnds, numbered, left_of, answers_by}
+use Rattle.bc_section.specs.Uses.{op_bios}
+use Rattle.bc_section.specs.SectionProgress.{Reached, WindowEnds, numbered, left_of, answers_by}
 use Rattle.bc_section.proofs.Left.{steps_last, ends_last}
 use Rattle.bc_section.proofs.Reaching.{reached_none, reached_all}
 use Rattle.bc_section.proofs.Told.{length_told, carries_told}
@@ -46,7 +46,7 @@ returns-clause-done g c =
 pub flush-requires-clause-ends : goal.flush-requires-clause-ends
 flush-requires-clause-ends g c =
     let start = g.D.Device.facts c.of-start.result.value in
-    let bios = bios_of (numbered c.args.section.now c.loop-op.pending) in
+    let bios = op_bios (numbered c.args.section.now c.loop-op.pending) in
     subst (WindowEnds start.script start.thread c.loop-op.plugged bios) (sym (steps_last start.script c.args.section.now))
     (ends_last start.script start.thread c.loop-op.plugged bios)
 

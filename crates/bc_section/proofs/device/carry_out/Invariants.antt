@@ -1,5 +1,5 @@
 use Rattle.std.specs.Prelude.{◌≡◌}
-use Rattle.bc_section.specs.Reached.{Reached, HoldsNone, answers_by, left_of}
+use Rattle.bc_section.specs.SectionProgress.{Reached, HoldsNone, answers_by, left_of}
 use Rattle.bc_section.proofs.device.carry_out.Given as goal
 
 abbrev pub invariant-loop-op : goal.invariant-loop-op

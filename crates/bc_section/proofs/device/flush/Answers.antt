@@ -1,7 +1,7 @@
 use Rattle.std.proofs.Common.{sym, subst, ◌≡◌, ◌∙◌, ◌++◌, ℕ, List, [], false}
 use Rattle.std.specs.Prelude.{◌==◌, slice_get}
 use Rattle.std.specs.List.{AllByRecursion, list_any}
-use Rattle.bc_section.specs.Reached.{numbered, left_of, answers_by, Submitted, Settled}
+use Rattle.bc_section.specs.SectionProgress.{numbered, left_of, answers_by, Submitted, Settled}
 use Rattle.bc_section.proofs.Reaching.{reached_flush}
 use Rattle.bc_section.proofs.Told.{length_told, get_told}
 use Rattle.bc_section.proofs.device.flush.Goals as goal

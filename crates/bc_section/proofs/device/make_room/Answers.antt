@@ -1,5 +1,5 @@
 use Rattle.std.proofs.Common.{arith}
-use Rattle.bc_section.specs.Reached.{answers_by}
+use Rattle.bc_section.specs.SectionProgress.{answers_by}
 use Rattle.bc_section.proofs.Reaching.{held_are}
 use Rattle.bc_section.proofs.Left.{ends_where_full}
 use Rattle.bc_section.proofs.device.make_room.Goals as goal

@@ -4,8 +4,8 @@ use Rattle.bc_script.specs.declared.op.Op.{Op}
 use Rattle.bc_script.specs.declared.op.Op.TheVariants as ops
 use Rattle.bc_report.specs.declared.answer.Answer.TheVariants as report_answers
 use Rattle.bc_script.specs.Windows as turns
-use Rattle.bc_section.specs.Uses.{bios_of}
-use Rattle.bc_section.specs.Reached.{Reached, numbered, left_of, answers_by, steps_from}
+use Rattle.bc_section.specs.Uses.{op_bios}
+use Rattle.bc_section.specs.SectionProgress.{Reached, numbered, left_of, answers_by, steps_from}
 use Rattle.bc_section.proofs.Left.{left_before, ends_before, ends_evict, ends_reset, ends_plug, ends_unplug, next_plug, next_unplug}
 use Rattle.bc_section.proofs.Reaching.{reached_quiet, reached_evict, reached_reset}
 use Rattle.bc_section.proofs.Stepping.{within, at_place, rules_at}
@@ -40,7 +40,7 @@ pub flush-requires-clause-ends : goal.flush-requires-clause-ends
 flush-requires-clause-ends g c =
     let start = g.D.Device.facts c.args.start.now.value in
     let at = c.requires.operation ∙ ap (λ (o : Op). Some o) c.in-Evict.is in
-    let bios = bios_of (numbered c.args.section.now c.args.pending.now) in
+    let bios = op_bios (numbered c.args.section.now c.args.pending.now) in
     ends_before start c.args.section.now c.args.op (ops.Evict c.in-Evict.key) at (turns.Evicts c.in-Evict.key) c.args.plugged bios refl
     (ends_evict start.script start.thread c.args.plugged bios c.in-Evict.key (steps_from start.script c.args.section.now (c.args.op + 1)))
 
@@ -91,7 +91,7 @@ pub flush-requires-in-Reset-clause-ends : goal.flush-requires-in-Reset-clause-en
 flush-requires-in-Reset-clause-ends g c =
     let start = g.D.Device.facts c.args.start.now.value in
     let at = c.requires.operation ∙ ap (λ (o : Op). Some o) c.in-Reset.is in
-    let bios = bios_of (numbered c.args.section.now c.args.pending.now) in
+    let bios = op_bios (numbered c.args.section.now c.args.pending.now) in
     ends_before start c.args.section.now c.args.op (ops.Reset c.in-Reset.number) at (turns.Resets c.in-Reset.number) c.args.plugged bios refl
     (ends_reset start.script start.thread c.args.plugged bios c.in-Reset.number (steps_from start.script c.args.section.now (c.args.op + 1)))
 
@@ -143,7 +143,7 @@ pub flush-requires-in-Plug-clause-ends : goal.flush-requires-in-Plug-clause-ends
 flush-requires-in-Plug-clause-ends g c =
     let start = g.D.Device.facts c.args.start.now.value in
     let at = c.requires.operation ∙ ap (λ (o : Op). Some o) c.in-Plug.is in
-    let bios = bios_of (numbered c.args.section.now c.args.pending.now) in
+    let bios = op_bios (numbered c.args.section.now c.args.pending.now) in
     ends_before start c.args.section.now c.args.op ops.Plug at turns.Plugs c.args.plugged bios refl
     (ends_plug start.script start.thread c.args.plugged bios (steps_from start.script c.args.section.now (c.args.op + 1)))
 
@@ -193,7 +193,7 @@ pub flush-requires-in-Unplug-clause-ends : goal.flush-requires-in-Unplug-clause-
 flush-requires-in-Unplug-clause-ends g c =
     let start = g.D.Device.facts c.args.start.now.value in
     let at = c.requires.operation ∙ ap (λ (o : Op). Some o) c.in-Unplug.is in
-    let bios = bios_of (numbered c.args.section.now c.args.pending.now) in
+    let bios = op_bios (numbered c.args.section.now c.args.pending.now) in
     ends_before start c.args.section.now c.args.op ops.Unplug at turns.Unplugs c.args.plugged bios refl
     (ends_unplug start.script start.thread c.args.plugged bios (steps_from start.script c.args.section.now (c.args.op + 1)))
 

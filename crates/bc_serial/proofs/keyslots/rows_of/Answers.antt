@@ -2,8 +2,8 @@ use Rattle.std.proofs.Common.{◌∙◌, map, sym, ap, arith}
 use Rattle.std.proofs.lemmas.List.{take_all}
 use Rattle.bc_script.specs.declared.named_key.NamedKey.{NamedKey}
 use Rattle.bc_serial.specs.Keyslots.{row_of_key}
-use Rattle.bc_section.proofs.Lists.{map-map}
 use Rattle.bc_serial.proofs.keyslots.rows_of.Goals as goal
+use Rattle.bc_base.proofs.Members.{map-map}
 
 pub returns : goal.returns
 returns c =

@@ -5,8 +5,8 @@ use Rattle.bc_script.specs.declared.op.Op.{Op}
 use Rattle.bc_script.specs.Script.{Script, IsScriptSection, max_ops, max_threads}
 use Rattle.bc_report.specs.declared.answer.Answer.{Answer}
 use Rattle.bc_section.specs.Sections.{SectionsDone, cost_of_section}
-use Rattle.bc_section.specs.Reached.{CarriesSection}
-use Rattle.bc_serial.specs.Standing.{CourseData, HasBegun, device_of}
+use Rattle.bc_section.specs.SectionProgress.{CarriesSection}
+use Rattle.bc_serial.specs.Standing.{CourseData, HasBegun, own_device}
 use Rattle.bc_section.proofs.Lists.{all_read}
 use Rattle.bc_serial.proofs.Turns.{new_thread, length-taken, sections_none, sections_more, left_more, left_next, few_ops}
 use Rattle.bc_serial.proofs.one_caller.carry_sections_out.Goals as goal
@@ -16,7 +16,7 @@ loop-thread-init c =
     let d : CourseData = c.args.direct.now in
     let begun : HasBegun d.begun d.journals = subst (λ (v : CourseData). HasBegun v.begun v.journals) c.direct.view_is c.has_begun.ensures in
     record {
-      done = subst (λ (l : List (List Answer)). SectionsDone (device_of d) (device_of d) [] l) (sym c.in_ok-answers.ensures.items) (sections_none d begun c.requires.untouched c.requires.unused);
+      done = subst (λ (l : List (List Answer)). SectionsDone (own_device d) (own_device d) [] l) (sym c.in_ok-answers.ensures.items) (sections_none d begun c.requires.untouched c.requires.unused);
       begun = begun;
       left = omega arith;
     }
@@ -26,10 +26,10 @@ loop-thread-preserved c =
     let b : CourseData = c.loop-thread.direct in
     let d : CourseData = c.carry_section_out.new.direct in
     let section = c.index-sections-thread.result in
-    let start = device_of (record b { thread = c.loop-thread.thread; begun = b.journals; opened = None }) in
+    let start = own_device (record b { thread = c.loop-thread.thread; begun = b.journals; opened = None }) in
     let begun : HasBegun d.begun d.journals = subst (λ (v : CourseData). HasBegun v.begun v.journals) c.direct-in-loop-thread.view_is c.has_begun-in-loop-thread.ensures in
-    let carried : CarriesSection start (device_of d) section c.in_ok-answered.answered =
-    subst (λ (l : List Op). CarriesSection start (device_of d) l c.in_ok-answered.answered) c.as_slice.ensures c.in_ok-answered.ensures in
+    let carried : CarriesSection start (own_device d) section c.in_ok-answered.answered =
+    subst (λ (l : List Op). CarriesSection start (own_device d) l c.in_ok-answered.answered) c.as_slice.ensures c.in_ok-answered.ensures in
     record {
       done = sections_more c.args.direct.now b d c.loop-thread.thread c.args.sections.now c.loop-thread.thread c.loop-thread.answers.items c.push.new.self.items section c.in_ok-answered.answered
           c.loop-thread.invariant.begun begun refl c.loop-thread-test.true c.index-sections-thread.is c.in_ok-push.ensures.items c.loop-thread.invariant.done carried;
@@ -50,7 +50,7 @@ carry_section_out-requires c =
       rules = subst (λ (s : Script). IsScriptSection s c.as_slice.result.now) (sym script)
           (subst (IsScriptSection c.args.direct.now.script) (sym c.as_slice.ensures)
           (all_read (IsScriptSection c.args.direct.now.script) c.args.sections.now c.loop-thread.thread section all c.loop-thread-test.true c.index-sections-thread.is));
-      new = λ shard. new_thread (device_of c.args.direct.now) (device_of c.loop-thread.direct) (take c.loop-thread.thread c.args.sections.now) c.loop-thread.answers.items c.loop-thread.thread shard
+      new = λ shard. new_thread (own_device c.args.direct.now) (own_device c.loop-thread.direct) (take c.loop-thread.thread c.args.sections.now) c.loop-thread.answers.items c.loop-thread.thread shard
           (sym (length-taken c.args.sections.now c.loop-thread.thread c.loop-thread-test.true)) c.loop-thread.invariant.done;
       few = omega (arith, ap length c.as_slice.ensures);
       spare = omega (

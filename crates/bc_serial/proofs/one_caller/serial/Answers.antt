@@ -3,22 +3,23 @@ use Rattle.std.specs.Prelude.{sum_by}
 use Rattle.bc_base.specs.Lists.{AllAt, Each}
 use Rattle.bc_base.specs.RamStores.{HaveAllSectors, contents}
 use Rattle.bc_medium.specs.declared.entry.Entry.{Entry}
-use Rattle.bc_medium.specs.Places.{shard_of}
+use Rattle.bc_medium.specs.Layout.{shard_of}
 use Rattle.bc_medium.specs.KeyedDisk.{image_sectors}
 use Rattle.bc_script.specs.Script.{IsScript, max_ops, max_units, unit_count_of_section}
 use Rattle.bc_report.specs.Report.{Report, IsEvent, IsPart, IsReport}
 use Rattle.bc_report.specs.LawfulRun.{LawfulRun}
 use Rattle.bc_report.specs.RunOf.{run_of}
 use Rattle.bc_report.specs.SerialRun.{IsSerial}
-use Rattle.bc_compose.specs.Closed.{line_of}
+use Rattle.bc_compose.specs.ClosedOrders.{report_line_of}
 use Rattle.bc_serial.specs.Keyslots.{KeyslotsData}
 use Rattle.bc_section.specs.Sections.{SectionsDone}
-use Rattle.bc_serial.specs.Standing.{CourseData, HasBegun, device_of}
-use Rattle.bc_section.proofs.Lists.{map-map, each_of_map}
+use Rattle.bc_serial.specs.Standing.{CourseData, HasBegun, own_device}
+use Rattle.bc_section.proofs.Lists.{each_of_map}
 use Rattle.bc_serial.proofs.Beginning.{no_event}
 use Rattle.bc_serial.proofs.Turns.{cost_all}
 use Rattle.bc_serial.proofs.Ending.{have_all, orders_few, made_of, are_sections, follow, uses, is_report}
 use Rattle.bc_serial.proofs.one_caller.serial.Goals as goal
+use Rattle.bc_base.proofs.Members.{map-map}
 
 pub carry_sections_out-requires-clause-unused : goal.carry_sections_out-requires-clause-unused
 carry_sections_out-requires-clause-unused c = no_event c.args.script.now c.in_ok-direct.direct.journals c.in_ok-direct.ensures.unused
@@ -30,8 +31,8 @@ carry_sections_out-requires-clause-spare c =
     let ops : sum_by length c.threads.result.now ≤ max_ops = subst (λ l. sum_by length l ≤ max_ops) (sym c.threads.ensures.value) c.threads.ensures.rules.threads.few_ops in
     omega (arith, c.in_ok-direct.ensures.left)
 
-pub join-requires : goal.join-requires
-join-requires c =
+pub into_image-requires : goal.into_image-requires
+into_image-requires c =
     let script = c.args.script.now in
     let rules : IsScript script = c.blocks-2.ensures.rules in
     let v0 = c.in_ok-direct.direct in
@@ -46,12 +47,12 @@ join-requires c =
       opened = keyslots.opened;
     } in
     let is : v1 ≡ c.carry_sections_out.new.direct = c.course.view_is ∙ c.direct.view_is in
-    let done : SectionsDone (device_of v0) (device_of v1) script.threads c.in_ok-answers.answers =
-    subst (λ (v : CourseData). SectionsDone (device_of v0) (device_of v) script.threads c.in_ok-answers.answers) (sym is)
-    (subst (λ l. SectionsDone (device_of v0) (device_of c.carry_sections_out.new.direct) l c.in_ok-answers.answers) c.threads.ensures.value c.in_ok-answers.ensures.done) in
+    let done : SectionsDone (own_device v0) (own_device v1) script.threads c.in_ok-answers.answers =
+    subst (λ (v : CourseData). SectionsDone (own_device v0) (own_device v) script.threads c.in_ok-answers.answers) (sym is)
+    (subst (λ l. SectionsDone (own_device v0) (own_device c.carry_sections_out.new.direct) l c.in_ok-answers.answers) c.threads.ensures.value c.in_ok-answers.ensures.done) in
     let has : HasBegun v1.begun v1.journals = subst (λ (v : CourseData). HasBegun v.begun v.journals) (sym is) c.in_ok-answers.ensures.begun in
     let orders : List (List Entry) = map (λ o. o.items) c.close-stores.result.1.items in
-    subst (λ b. HaveAllSectors b c.deref.result.now) (sym c.blocks-2.ensures.value) (subst (HaveAllSectors script.blocks) (sym c.deref.ensures.value) (have_all script rules c.args.image.items c.args.shards c.requires.shards.0 c.requires.shards.1 c.requires.length v0 v1 c.in_ok-direct.ensures c.in_ok-answers.answers done has c.course.inside.ciphers keyslots c.course.invariant c.close-stores.result.0.items orders c.close-stores.ensures.stores c.close-stores.ensures.entries c.close-stores.ensures.orders c.close-stores.ensures.left))
+    subst (λ b. HaveAllSectors b c.close-stores.result.0.items) (sym c.blocks-2.ensures.value) (have_all script rules c.args.image.items c.args.shards c.requires.shards.0 c.requires.shards.1 c.requires.length v0 v1 c.in_ok-direct.ensures c.in_ok-answers.answers done has c.course.inside.ciphers keyslots c.course.invariant c.close-stores.result.0.items orders c.close-stores.ensures.stores c.close-stores.ensures.entries c.close-stores.ensures.orders c.close-stores.ensures.left)
 
 pub lines_of_shards-requires : goal.lines_of_shards-requires
 lines_of_shards-requires c =
@@ -69,9 +70,9 @@ lines_of_shards-requires c =
       opened = keyslots.opened;
     } in
     let is : v1 ≡ c.carry_sections_out.new.direct = c.course.view_is ∙ c.direct.view_is in
-    let done : SectionsDone (device_of v0) (device_of v1) script.threads c.in_ok-answers.answers =
-    subst (λ (v : CourseData). SectionsDone (device_of v0) (device_of v) script.threads c.in_ok-answers.answers) (sym is)
-    (subst (λ l. SectionsDone (device_of v0) (device_of c.carry_sections_out.new.direct) l c.in_ok-answers.answers) c.threads.ensures.value c.in_ok-answers.ensures.done) in
+    let done : SectionsDone (own_device v0) (own_device v1) script.threads c.in_ok-answers.answers =
+    subst (λ (v : CourseData). SectionsDone (own_device v0) (own_device v) script.threads c.in_ok-answers.answers) (sym is)
+    (subst (λ l. SectionsDone (own_device v0) (own_device c.carry_sections_out.new.direct) l c.in_ok-answers.answers) c.threads.ensures.value c.in_ok-answers.ensures.done) in
     let has : HasBegun v1.begun v1.journals = subst (λ (v : CourseData). HasBegun v.begun v.journals) (sym is) c.in_ok-answers.ensures.begun in
     let orders : List (List Entry) = map (λ o. o.items) c.close-stores.result.1.items in
     record {
@@ -95,18 +96,18 @@ new-requires c =
       opened = keyslots.opened;
     } in
     let is : v1 ≡ c.carry_sections_out.new.direct = c.course.view_is ∙ c.direct.view_is in
-    let done : SectionsDone (device_of v0) (device_of v1) script.threads c.in_ok-answers.answers =
-    subst (λ (v : CourseData). SectionsDone (device_of v0) (device_of v) script.threads c.in_ok-answers.answers) (sym is)
-    (subst (λ l. SectionsDone (device_of v0) (device_of c.carry_sections_out.new.direct) l c.in_ok-answers.answers) c.threads.ensures.value c.in_ok-answers.ensures.done) in
+    let done : SectionsDone (own_device v0) (own_device v1) script.threads c.in_ok-answers.answers =
+    subst (λ (v : CourseData). SectionsDone (own_device v0) (own_device v) script.threads c.in_ok-answers.answers) (sym is)
+    (subst (λ l. SectionsDone (own_device v0) (own_device c.carry_sections_out.new.direct) l c.in_ok-answers.answers) c.threads.ensures.value c.in_ok-answers.ensures.done) in
     let has : HasBegun v1.begun v1.journals = subst (λ (v : CourseData). HasBegun v.begun v.journals) (sym is) c.in_ok-answers.ensures.begun in
     let orders : List (List Entry) = map (λ o. o.items) c.close-stores.result.1.items in
     let left = c.in_ok-image.image.items in
     let long : length left ≡ 4096 * script.blocks = c.in_ok-image.ensures.length ∙ ap (λ n. 4096 * n) c.blocks-2.ensures.value in
     let sectors : (s : ℕ) → s < 8 * script.blocks → AllAt c.close-stores.result.0.items (shard_of (length c.close-stores.result.0.items) s) (λ store. image_sectors left s ≡ contents store s) =
     subst (λ b. (s : ℕ) → s < 8 * b → AllAt c.close-stores.result.0.items (shard_of (length c.close-stores.result.0.items) s) (λ store. image_sectors left s ≡ contents store s)) c.blocks-2.ensures.value
-    (subst (λ l. (s : ℕ) → s < 8 * c.blocks-2.result → AllAt l (shard_of (length l) s) (λ store. image_sectors left s ≡ contents store s)) c.deref.ensures.value c.in_ok-image.ensures.sectors) in
-    let lines : c.in_ok-lines.lines ≡ map (map line_of) orders =
-    c.in_ok-lines.ensures.lines ∙ ap (map (λ (o : Vec Entry Global). map line_of o.items)) c.as_slice.ensures.value ∙ sym (map-map (λ (o : Vec Entry Global). o.items) (map line_of) c.close-stores.result.1.items) in
+    c.in_ok-image.ensures.sectors in
+    let lines : c.in_ok-lines.lines ≡ map (map report_line_of) orders =
+    c.in_ok-lines.ensures.lines ∙ ap (map (λ (o : Vec Entry Global). map report_line_of o.items)) c.as_slice.ensures.value ∙ sym (map-map (λ (o : Vec Entry Global). o.items) (map report_line_of) c.close-stores.result.1.items) in
     let devices : c.in_ok-devices.devices ≡ v1.journals = c.in_ok-devices.ensures.journals in
     let fit : Each (IsPart IsEvent) v1.journals = subst (Each (IsPart IsEvent)) devices c.in_ok-devices.ensures.ranges in
     subst (λ d. IsReport (record { threads = c.in_ok-answers.answers; shards = c.in_ok-lines.lines; devices = d })) (sym devices) (is_report script rules c.args.image.items c.args.shards c.requires.shards.0 c.requires.shards.1 c.requires.length v0 v1 c.in_ok-direct.ensures c.in_ok-answers.answers done has c.course.inside.ciphers keyslots c.course.invariant c.close-stores.result.0.items orders c.close-stores.ensures.stores c.close-stores.ensures.entries c.close-stores.ensures.orders c.close-stores.ensures.left left long sectors c.in_ok-lines.lines lines c.in_ok-lines.ensures.ranges c.in_ok-devices.ensures.lawful fit)
@@ -127,18 +128,18 @@ returns-clause-lawful c =
       opened = keyslots.opened;
     } in
     let is : v1 ≡ c.carry_sections_out.new.direct = c.course.view_is ∙ c.direct.view_is in
-    let done : SectionsDone (device_of v0) (device_of v1) script.threads c.in_ok-answers.answers =
-    subst (λ (v : CourseData). SectionsDone (device_of v0) (device_of v) script.threads c.in_ok-answers.answers) (sym is)
-    (subst (λ l. SectionsDone (device_of v0) (device_of c.carry_sections_out.new.direct) l c.in_ok-answers.answers) c.threads.ensures.value c.in_ok-answers.ensures.done) in
+    let done : SectionsDone (own_device v0) (own_device v1) script.threads c.in_ok-answers.answers =
+    subst (λ (v : CourseData). SectionsDone (own_device v0) (own_device v) script.threads c.in_ok-answers.answers) (sym is)
+    (subst (λ l. SectionsDone (own_device v0) (own_device c.carry_sections_out.new.direct) l c.in_ok-answers.answers) c.threads.ensures.value c.in_ok-answers.ensures.done) in
     let has : HasBegun v1.begun v1.journals = subst (λ (v : CourseData). HasBegun v.begun v.journals) (sym is) c.in_ok-answers.ensures.begun in
     let orders : List (List Entry) = map (λ o. o.items) c.close-stores.result.1.items in
     let left = c.in_ok-image.image.items in
     let long : length left ≡ 4096 * script.blocks = c.in_ok-image.ensures.length ∙ ap (λ n. 4096 * n) c.blocks-2.ensures.value in
     let sectors : (s : ℕ) → s < 8 * script.blocks → AllAt c.close-stores.result.0.items (shard_of (length c.close-stores.result.0.items) s) (λ store. image_sectors left s ≡ contents store s) =
     subst (λ b. (s : ℕ) → s < 8 * b → AllAt c.close-stores.result.0.items (shard_of (length c.close-stores.result.0.items) s) (λ store. image_sectors left s ≡ contents store s)) c.blocks-2.ensures.value
-    (subst (λ l. (s : ℕ) → s < 8 * c.blocks-2.result → AllAt l (shard_of (length l) s) (λ store. image_sectors left s ≡ contents store s)) c.deref.ensures.value c.in_ok-image.ensures.sectors) in
-    let lines : c.in_ok-lines.lines ≡ map (map line_of) orders =
-    c.in_ok-lines.ensures.lines ∙ ap (map (λ (o : Vec Entry Global). map line_of o.items)) c.as_slice.ensures.value ∙ sym (map-map (λ (o : Vec Entry Global). o.items) (map line_of) c.close-stores.result.1.items) in
+    c.in_ok-image.ensures.sectors in
+    let lines : c.in_ok-lines.lines ≡ map (map report_line_of) orders =
+    c.in_ok-lines.ensures.lines ∙ ap (map (λ (o : Vec Entry Global). map report_line_of o.items)) c.as_slice.ensures.value ∙ sym (map-map (λ (o : Vec Entry Global). o.items) (map report_line_of) c.close-stores.result.1.items) in
     let devices : c.in_ok-devices.devices ≡ v1.journals = c.in_ok-devices.ensures.journals in
     let fit : Each (IsPart IsEvent) v1.journals = subst (Each (IsPart IsEvent)) devices c.in_ok-devices.ensures.ranges in
     let report : Report = record { threads = c.in_ok-answers.answers; shards = c.in_ok-lines.lines; devices = v1.journals } in
@@ -166,18 +167,18 @@ returns-clause-serial c =
       opened = keyslots.opened;
     } in
     let is : v1 ≡ c.carry_sections_out.new.direct = c.course.view_is ∙ c.direct.view_is in
-    let done : SectionsDone (device_of v0) (device_of v1) script.threads c.in_ok-answers.answers =
-    subst (λ (v : CourseData). SectionsDone (device_of v0) (device_of v) script.threads c.in_ok-answers.answers) (sym is)
-    (subst (λ l. SectionsDone (device_of v0) (device_of c.carry_sections_out.new.direct) l c.in_ok-answers.answers) c.threads.ensures.value c.in_ok-answers.ensures.done) in
+    let done : SectionsDone (own_device v0) (own_device v1) script.threads c.in_ok-answers.answers =
+    subst (λ (v : CourseData). SectionsDone (own_device v0) (own_device v) script.threads c.in_ok-answers.answers) (sym is)
+    (subst (λ l. SectionsDone (own_device v0) (own_device c.carry_sections_out.new.direct) l c.in_ok-answers.answers) c.threads.ensures.value c.in_ok-answers.ensures.done) in
     let has : HasBegun v1.begun v1.journals = subst (λ (v : CourseData). HasBegun v.begun v.journals) (sym is) c.in_ok-answers.ensures.begun in
     let orders : List (List Entry) = map (λ o. o.items) c.close-stores.result.1.items in
     let left = c.in_ok-image.image.items in
     let long : length left ≡ 4096 * script.blocks = c.in_ok-image.ensures.length ∙ ap (λ n. 4096 * n) c.blocks-2.ensures.value in
     let sectors : (s : ℕ) → s < 8 * script.blocks → AllAt c.close-stores.result.0.items (shard_of (length c.close-stores.result.0.items) s) (λ store. image_sectors left s ≡ contents store s) =
     subst (λ b. (s : ℕ) → s < 8 * b → AllAt c.close-stores.result.0.items (shard_of (length c.close-stores.result.0.items) s) (λ store. image_sectors left s ≡ contents store s)) c.blocks-2.ensures.value
-    (subst (λ l. (s : ℕ) → s < 8 * c.blocks-2.result → AllAt l (shard_of (length l) s) (λ store. image_sectors left s ≡ contents store s)) c.deref.ensures.value c.in_ok-image.ensures.sectors) in
-    let lines : c.in_ok-lines.lines ≡ map (map line_of) orders =
-    c.in_ok-lines.ensures.lines ∙ ap (map (λ (o : Vec Entry Global). map line_of o.items)) c.as_slice.ensures.value ∙ sym (map-map (λ (o : Vec Entry Global). o.items) (map line_of) c.close-stores.result.1.items) in
+    c.in_ok-image.ensures.sectors in
+    let lines : c.in_ok-lines.lines ≡ map (map report_line_of) orders =
+    c.in_ok-lines.ensures.lines ∙ ap (map (λ (o : Vec Entry Global). map report_line_of o.items)) c.as_slice.ensures.value ∙ sym (map-map (λ (o : Vec Entry Global). o.items) (map report_line_of) c.close-stores.result.1.items) in
     let devices : c.in_ok-devices.devices ≡ v1.journals = c.in_ok-devices.ensures.journals in
     let fit : Each (IsPart IsEvent) v1.journals = subst (Each (IsPart IsEvent)) devices c.in_ok-devices.ensures.ranges in
     let report : Report = record { threads = c.in_ok-answers.answers; shards = c.in_ok-lines.lines; devices = v1.journals } in

@@ -1,6 +1,6 @@
 use Rattle.std.proofs.Common.{◌≡◌, ℕ, length}
 use Rattle.bc_base.specs.Lists.{AllAt}
-use Rattle.bc_threads.specs.Prepared.{IsMadeFor}
+use Rattle.bc_threads.specs.PreparedBios.{IsMadeFor}
 use Rattle.bc_threads.proofs.prepared.bios_of.Given as goal
 
 abbrev pub invariant-loop-op : goal.invariant-loop-op

@@ -1,6 +1,6 @@
 use Rattle.std.proofs.Common.{◌∙◌, ℕ, ap, arith, cond}
 use Rattle.std.specs.Prelude.{◌==◌}
-use Rattle.bc_medium.specs.Places.{shard_of}
+use Rattle.bc_medium.specs.Layout.{shard_of}
 use Rattle.bc_threads.proofs.Counting.{counted_more, place_is}
 use Rattle.bc_threads.proofs.quotas.units_from.Goals as goal
 

@@ -2,13 +2,15 @@ use Rattle.std.proofs.Common.{◌≡◌, ◌∙◌, ℕ, ◌+◌, ◌<◌, ◌++
 use Rattle.std.specs.Prelude.{slice_set}
 use Rattle.std.specs.List.{AllByRecursion}
 use Rattle.bc_bio.specs.declared.reply.Reply.{Reply}
-use Rattle.bc_section.proofs.Lists.{all_append, all_read, take_next}
+use Rattle.bc_section.proofs.Lists.{all_read, take_next}
 use Rattle.bc_threads.specs.declared.outcome.Outcome.TheVariants as outcomes
 use Rattle.bc_report.specs.Report.{IsAnswer}
 use Rattle.bc_threads.specs.Outcomes.{answer_of_reply}
 use Rattle.bc_threads.specs.Plugging.{AreNoted, SameBeside}
-use Rattle.bc_threads.proofs.Noting.{beside_more, length_set, next_reply, not_before, noted_more, read_within}
+use Rattle.bc_threads.proofs.Noting.{beside_more, next_reply, not_before, noted_more, read_within}
 use Rattle.bc_threads.proofs.sharing.note_all.Goals as goal
+use Rattle.bc_base.proofs.Members.{all_append}
+use Rattle.bc_section.proofs.Reaching.{length_set}
 
 pub loop-op-preserved : goal.loop-op-preserved
 loop-op-preserved g c =

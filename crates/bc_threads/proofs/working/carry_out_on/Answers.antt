@@ -4,7 +4,7 @@ use Rattle.std.specs.List.{enumerate_from}
 use Rattle.bc_disk.specs.Disks.{DiskData}
 use Rattle.bc_script.specs.declared.op.Op.{Op}
 use Rattle.bc_script.specs.Script.{Script}
-use Rattle.bc_threads.specs.Shared.{CanCarryOut}
+use Rattle.bc_threads.specs.SharedDevice.{CanCarryOut}
 use Rattle.bc_threads.proofs.Worked.{has_worked, read_at}
 use Rattle.bc_threads.proofs.working.carry_out_on.Goals as goal
 

@@ -1,7 +1,7 @@
 use Rattle.std.proofs.Common.{rules, ◌≡◌, ◌+◌, ◌<◌, ◌++◌, ◌∷◌, [], ap, ◌∙◌, subst, arith, length, length-append, refl}
 use Rattle.bc_base.proofs.Lists.{at_read}
 use Rattle.bc_base.specs.Lists.{At}
-use Rattle.bc_turn.specs.Parts.{cut_to, account_of}
+use Rattle.bc_turn.specs.PassParts.{cut_to, account_of}
 use Rattle.bc_base.proofs.Lists.{each_at}
 use Rattle.bc_turn.proofs.Rounds.{leaves, gathered, at_back}
 use Rattle.bc_turn.proofs.turns.gather.Goals as goal

@@ -1,7 +1,7 @@
 use Rattle.std.proofs.Common.{◌≡◌, ◌+◌, length, sym, ◌∙◌, ap, subst, arith, length-append, [], ◌∷◌, ◌++◌, take, rules}
 use Rattle.std.proofs.lemmas.List.{take_all, take_more}
 use Rattle.uses.specs.declared.keyslots.SlotCall.TheVariants as calls
-use Rattle.uses.specs.Keyslots.{IsTold, progress, quota_in, to_the_end}
+use Rattle.uses.specs.Keyslots.{AreTrueAnswers, progress, quota_in, to_the_end}
 use Rattle.uses.proofs.SlotLemmas.{ToldBy, told_more}
 use Rattle.uses.proofs.keyslots.carry_out_calls.Goals as goal
 
@@ -28,8 +28,8 @@ returns g c =
         number = more.0;
         told = (
           progress c.put.new.caller.pass,
-          subst (λ l. IsTold p.rows (quota_in p c.args.pass.caller) c.args.pass.caller c.put.new.caller.pass.seen (to_the_end c.args.calls.now) l (progress c.put.new.caller.pass)) (sym push)
-              (subst (λ l. IsTold p.rows (quota_in p c.args.pass.caller) c.args.pass.caller c.put.new.caller.pass.seen (l ++ calls.Put ∷ []) (c.loop-call.told.items ++ c.put.result ∷ []) (progress c.put.new.caller.pass)) all more.1),
+          subst (λ l. AreTrueAnswers p.rows (quota_in p c.args.pass.caller) c.args.pass.caller c.put.new.caller.pass.seen (to_the_end c.args.calls.now) l (progress c.put.new.caller.pass)) (sym push)
+              (subst (λ l. AreTrueAnswers p.rows (quota_in p c.args.pass.caller) c.args.pass.caller c.put.new.caller.pass.seen (l ++ calls.Put ∷ []) (c.loop-call.told.items ++ c.put.result ∷ []) (progress c.put.new.caller.pass)) all more.1),
         );
       };
     }

@@ -1,5 +1,5 @@
 use Rattle.std.proofs.Common.{sym, ◌∙◌, arith}
-use Rattle.bc_turn.specs.Parts.{new_pass}
+use Rattle.bc_turn.specs.PassParts.{new_pass}
 use Rattle.uses.proofs.Tallies.{as_many, new_is_ready, two_popped}
 use Rattle.uses.proofs.tally.add_up.Goals as goal
 

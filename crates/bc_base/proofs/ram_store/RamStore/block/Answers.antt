@@ -1,4 +1,4 @@
-use Rattle.std.proofs.Common.{◌≡◌, ◌/◌, ap, ap₂, sym, ◌∙◌, ℕ, List}
+use Rattle.std.proofs.Common.{◌/◌, ap, ap₂, ◌∙◌, ℕ, List}
 use Rattle.bc_base.specs.RamStores.{block_at, RamData}
 use Rattle.bc_base.proofs.ram_store.RamStore.block.Goals as goal
 

@@ -1,6 +1,5 @@
-use Rattle.std.proofs.Common.{◌≡◌, ℕ, arith, refl, ap, sym, ◌∙◌, subst, ◌≤◌}
-use Rattle.std.proofs.Common.{◌+◌, ◌*◌, ◌%◌, ◌/◌, ◌<◌, List, length}
-use Rattle.bc_base.specs.RamStores.{block_at}
+use Rattle.std.proofs.Common.{◌≡◌, ℕ, arith, sym, subst}
+use Rattle.std.proofs.Common.{◌+◌, ◌*◌, ◌%◌, ◌/◌, List, length}
 use Rattle.bc_base.proofs.Lists.{at_read}
 use Rattle.bc_base.specs.Lists.{At}
 use Rattle.bc_base.proofs.Shards.{IsJoined, owns_block, joined_more, joined_sectors, joined_back}

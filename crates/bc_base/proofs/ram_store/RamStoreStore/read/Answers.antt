@@ -1,8 +1,7 @@
-use Rattle.std.proofs.Common.{◌≡◌, ◌<◌, ◌≤◌, ◌+◌, ◌*◌, ◌/◌, length, sym, ap, ◌∙◌, subst, arith, ℕ, List}
-use Rattle.bc_base.specs.Memory.{Calls}
+use Rattle.std.proofs.Common.{◌≡◌, ◌<◌, ◌/◌, length, sym, ap, ◌∙◌, subst, arith, ℕ, List}
 use Rattle.bc_base.specs.Sectors.{image_sectors, bytes_at}
 use Rattle.bc_base.specs.Stores.{IsPiece}
-use Rattle.bc_base.specs.RamStores.{RamData, owns, contents, sector_within}
+use Rattle.bc_base.specs.RamStores.{RamData, owns, contents}
 use Rattle.bc_base.proofs.Shards.{piece_within, read_is}
 use Rattle.bc_base.proofs.ram_store.RamStoreStore.read.Goals as goal
 

@@ -1,7 +1,6 @@
-use Rattle.std.proofs.Common.{◌≡◌, ◌<◌, ◌≤◌, ◌+◌, ◌*◌, ◌/◌, length, sym, ap, ap₂, ◌∙◌, subst, arith, ℕ, List, take, drop, ◌++◌}
+use Rattle.std.proofs.Common.{◌≡◌, ◌<◌, ◌/◌, length, sym, ap, ap₂, ◌∙◌, subst, arith, ℕ, List, take, drop, ◌++◌}
 use Rattle.std.proofs.Math.Seq.{take-append_seam}
-use Rattle.bc_base.specs.Memory.{Calls}
-use Rattle.bc_base.specs.Sectors.{Sectors, image_sectors, bytes_at, with_bytes}
+use Rattle.bc_base.specs.Sectors.{image_sectors, with_bytes}
 use Rattle.bc_base.specs.Stores.{IsPiece}
 use Rattle.bc_base.specs.RamStores.{RamData, owns, contents, sector_within}
 use Rattle.bc_base.proofs.Shards.{piece_within, write_is}

@@ -2,7 +2,7 @@ use Rattle.std.proofs.Common.{rules, ◌≡◌, length, map, ap, sym, ◌∙◌,
 use Rattle.std.specs.List.{range_with_len}
 use Rattle.std.proofs.lemmas.List.{length-map}
 use Rattle.std.proofs.lemmas.List.FromFn.{length-map-range_with_len}
-use Rattle.bc_turn.specs.Parts.{new_pass}
+use Rattle.bc_turn.specs.PassParts.{new_pass}
 use Rattle.bc_medium.specs.Medium.{shards_of}
 use Rattle.bc_queue.specs.Queues.{AreControllers, QueueData}
 use Rattle.bc_disk.specs.Dealing.{new_slots}

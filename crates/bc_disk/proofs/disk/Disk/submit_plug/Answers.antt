@@ -2,7 +2,7 @@ use Rattle.std.proofs.Common.{◌≡◌, arith, map, None, refl}
 use Rattle.bc_bio.specs.declared.marked_bio.MarkedBio.{MarkedBio}
 use Rattle.bc_bio.specs.Requests.{RequestParts, reply_of, tagged_bios}
 use Rattle.bc_bio.specs.Windows.{IsRequest}
-use Rattle.bc_queue.specs.Plugs.{IsWaiting, bios_of}
+use Rattle.bc_queue.specs.Plugs.{IsWaiting, bios_in}
 use Rattle.bc_disk.specs.Disks.{keys_in, pass_by}
 use Rattle.bc_disk.specs.Submissions.{IsTaken}
 use Rattle.bc_disk.proofs.Plugged.{events_all, next_entries, next_events, next_has, next_taken, no_faults, sending_more, sending_start, sent_all, window_events}
@@ -51,11 +51,11 @@ loop-n-preserved g c = (
 
 pub returns-clause-submits : goal.returns-clause-submits
 returns-clause-submits g c = (
-  map reply_of (bios_of c.loop-n.plug.requests),
+  map reply_of (bios_in c.loop-n.plug.requests),
   c.drain.ensures.replies,
   sent_all g.S.Store.contents c.args.self.now c.args.pass.now c.args.plug.now.requests c.requires.window (pass_by c.loop-n.pass-inside.queue.caller c.loop-n.pass-inside.queue.slots.items c.loop-n.pass-inside.queue.units) c.loop-n.plug.requests c.loop-n.n c.loop-n.invariant.0
       (omega (arith, c.loop-n-test.false, c.loop-n.auto.n-end, c.requests-n-end.ensures))
-      (no_faults g.S.Store.contents c.args.self.now c.args.pass.now (bios_of c.args.plug.now.requests) c.requires.taken),
+      (no_faults g.S.Store.contents c.args.self.now c.args.pass.now (bios_in c.args.plug.now.requests) c.requires.taken),
 )
 
 pub returns-clause-events : goal.returns-clause-events

@@ -21,5 +21,5 @@ returns-in-Ok-close-clause-closed g c =
     let i = c.loop-device.invariant in let count = i.count in
     let none : c.loop-device.devices.items ≡ [] = search rules in
     let zero = ap length none in let mapped = length-map c.loop-device.journals.items (λ journal. journal.items) in
-    all_closed g.S.Store.owns g.S.Store.contents g.S.Store.told g.S.Store.faults c.args.disk.now.value c.args.passes.now.value.items c.self.inside.medium c.self.inside.units.items c.in-Ok-close.stores.items (λ order. order.items) c.in-Ok-close.shards.items (map (λ journal. journal.items) c.loop-device.journals.items)
+    all_closed g.S.Store.owns g.S.Store.contents g.S.Store.calls g.S.Store.faults c.args.disk.now.value c.args.passes.now.value.items c.self.inside.medium c.self.inside.units.items c.in-Ok-close.stores.items (λ order. order.items) c.in-Ok-close.shards.items (map (λ journal. journal.items) c.loop-device.journals.items)
     (ap (λ s. s.medium) c.self.view_is ∙ c.requires.left.medium) (ap (λ s. s.units) c.self.view_is ∙ c.requires.left.units) c.in-Ok-close.ensures.length c.in-Ok-close.ensures.ends (omega (arith, count, zero, mapped)) i.journals

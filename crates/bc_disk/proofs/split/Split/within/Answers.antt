@@ -4,9 +4,9 @@ use Rattle.std.proofs.lemmas.List.FromFn.{length-map-range_with_len}
 use Rattle.std.specs.List.{range_with_len}
 use Rattle.bc_disk.specs.Disks.{IsDisk}
 use Rattle.bc_disk.specs.Closings.{passes_on}
-use Rattle.bc_disk.proofs.Deals.{each_weaken}
 use Rattle.bc_disk.proofs.Splits.{as_many, rooms_count, devices_count, taken_apart}
 use Rattle.bc_disk.proofs.split.Split.within.Goals as goal
+use Rattle.bc_medium.proofs.Openings.{each_weaken}
 
 pub split_passes-requires-clause-one_for_each : goal.split_passes-requires-clause-one_for_each
 split_passes-requires-clause-one_for_each g c =

@@ -4,7 +4,7 @@ use Rattle.std.proofs.lemmas.List.{reverse-reverse, length-map}
 use mathlib.Core.List.{reverse}
 use Rattle.bc_base.specs.Lists.{Each}
 use Rattle.bc_base.proofs.Lists.{each_back, each_front, each_append, each_reverse}
-use Rattle.bc_medium.specs.Medium.{openings, column, Belongs, Keeps}
+use Rattle.bc_medium.specs.Medium.{openings, quotas_of_shard, Belongs, Keeps}
 use Rattle.bc_medium.proofs.Orders.{order_new}
 use Rattle.bc_medium.proofs.Quotas.{keeps_new}
 use Rattle.bc_medium.proofs.Openings.{each_weaken, each_of_mapped, more_openings, opened_medium, all_belong}
@@ -14,8 +14,8 @@ pub loop-store-init : goal.loop-store-init
 loop-store-init g c =
     let none : c.in_ok-values.values.items ≡ [] = c.in_ok-values.ensures.items in let r = c.turn_round.ensures.items in (
       ap₂ (λ l ss. map (λ v. v.1) l ++ openings c.args.keys.keys (map (λ row. row.items) c.args.quotas.items) (length l) (reverse ss)) none r ∙ ap (openings c.args.keys.keys (map (λ row. row.items) c.args.quotas.items) 0) (reverse-reverse c.args.stores.items),
-      subst (Each (λ v. (v.0.entries ≡ []) × Keeps g.S.Store.owns g.S.Store.contents g.S.Store.told g.S.Store.faults v.1 v.0)) (sym none) tt,
-      subst (Each (λ s. IfSome (g.S.Store.told s) (λ told. told.calls ≡ 0))) (sym r) (each_reverse (λ s. IfSome (g.S.Store.told s) (λ told. told.calls ≡ 0)) c.args.stores.items c.requires.calls),
+      subst (Each (λ v. (v.0.entries ≡ []) × Keeps g.S.Store.owns g.S.Store.contents g.S.Store.calls g.S.Store.faults v.1 v.0)) (sym none) tt,
+      subst (Each (λ s. IfSome (g.S.Store.calls s) (λ told. told.calls ≡ 0))) (sym r) (each_reverse (λ s. IfSome (g.S.Store.calls s) (λ told. told.calls ≡ 0)) c.args.stores.items c.requires.calls),
       search rules,
       search rules,
     )
@@ -33,16 +33,16 @@ pub loop-store-preserved : goal.loop-store-preserved
 loop-store-preserved g c =
     let i = c.loop-store.invariant in let n : c.len-in-Some.result ≡ length c.loop-store.values.items = search rules in
     let push = c.push_reserved.ensures.items in let pop = c.in-Some.ensures.items in let v = c.in_ok-value.ensures in
-    let calls = (each_back (λ s. IfSome (g.S.Store.told s) (λ told. told.calls ≡ 0)) c.pop.new.self.items (c.in-Some.store ∷ []) (subst (Each (λ s. IfSome (g.S.Store.told s) (λ told. told.calls ≡ 0))) pop i.2)).0 in
-    let quotas = c.in_ok-column.ensures.column ∙ ap (λ k. column k (map (λ row. row.items) c.args.quotas.items)) n in
+    let calls = (each_back (λ s. IfSome (g.S.Store.calls s) (λ told. told.calls ≡ 0)) c.pop.new.self.items (c.in-Some.store ∷ []) (subst (Each (λ s. IfSome (g.S.Store.calls s) (λ told. told.calls ≡ 0))) pop i.2)).0 in
+    let quotas = c.in_ok-column.ensures.column ∙ ap (λ k. quotas_of_shard k (map (λ row. row.items) c.args.quotas.items)) n in
     let is = c.of-base.ensures ∙ ap (λ q. record { store = c.in-Some.store; keys = c.args.keys.keys; quotas = q }) quotas in
-    let keeps : Keeps g.S.Store.owns g.S.Store.contents g.S.Store.told g.S.Store.faults c.of-base.result c.in_ok-value.value =
-    subst (λ b. Keeps g.S.Store.owns g.S.Store.contents g.S.Store.told g.S.Store.faults b c.in_ok-value.value) (sym c.of-base.ensures) (subst (λ s. Keeps g.S.Store.owns g.S.Store.contents g.S.Store.told g.S.Store.faults record { store = c.in-Some.store; keys = c.args.keys.keys; quotas = c.in_ok-column.column.items } s) (sym v)
-    (keeps_new g.S.Store.owns g.S.Store.contents g.S.Store.told g.S.Store.faults _ _ (order_new g.S.Store.owns g.S.Store.contents g.S.Store.told g.S.Store.faults c.in-Some.store (Some c.args.keys.keys) calls) refl (let s = c.in_ok-column.ensures.room in let z = ap sum c.in_ok-column.ensures.column in omega arith))) in (
+    let keeps : Keeps g.S.Store.owns g.S.Store.contents g.S.Store.calls g.S.Store.faults c.of-base.result c.in_ok-value.value =
+    subst (λ b. Keeps g.S.Store.owns g.S.Store.contents g.S.Store.calls g.S.Store.faults b c.in_ok-value.value) (sym c.of-base.ensures) (subst (λ s. Keeps g.S.Store.owns g.S.Store.contents g.S.Store.calls g.S.Store.faults record { store = c.in-Some.store; keys = c.args.keys.keys; quotas = c.in_ok-column.column.items } s) (sym v)
+    (keeps_new g.S.Store.owns g.S.Store.contents g.S.Store.calls g.S.Store.faults _ _ (order_new g.S.Store.owns g.S.Store.contents g.S.Store.calls g.S.Store.faults c.in-Some.store (Some c.args.keys.keys) calls) refl (let s = c.in_ok-column.ensures.room in let z = ap sum c.in_ok-column.ensures.column in omega arith))) in (
       ap (λ l. map (λ v. v.1) l ++ openings c.args.keys.keys (map (λ row. row.items) c.args.quotas.items) (length l) (reverse c.pop.new.self.items)) push
           ∙ more_openings c.args.keys.keys (map (λ row. row.items) c.args.quotas.items) c.loop-store.values.items (c.in_ok-value.value, c.of-base.result) c.pop.new.self.items c.loop-store.stores.items c.in-Some.store _ i.0 pop is,
-      subst (Each (λ z. (z.0.entries ≡ []) × Keeps g.S.Store.owns g.S.Store.contents g.S.Store.told g.S.Store.faults z.1 z.0)) (sym push) (each_append (λ z. (z.0.entries ≡ []) × Keeps g.S.Store.owns g.S.Store.contents g.S.Store.told g.S.Store.faults z.1 z.0) c.loop-store.values.items ((c.in_ok-value.value, c.of-base.result) ∷ []) i.1 ((ap (λ s. s.entries) v, keeps), tt)),
-      each_front (λ s. IfSome (g.S.Store.told s) (λ told. told.calls ≡ 0)) c.pop.new.self.items (c.in-Some.store ∷ []) (subst (Each (λ s. IfSome (g.S.Store.told s) (λ told. told.calls ≡ 0))) pop i.2),
+      subst (Each (λ z. (z.0.entries ≡ []) × Keeps g.S.Store.owns g.S.Store.contents g.S.Store.calls g.S.Store.faults z.1 z.0)) (sym push) (each_append (λ z. (z.0.entries ≡ []) × Keeps g.S.Store.owns g.S.Store.contents g.S.Store.calls g.S.Store.faults z.1 z.0) c.loop-store.values.items ((c.in_ok-value.value, c.of-base.result) ∷ []) i.1 ((ap (λ s. s.entries) v, keeps), tt)),
+      each_front (λ s. IfSome (g.S.Store.calls s) (λ told. told.calls ≡ 0)) c.pop.new.self.items (c.in-Some.store ∷ []) (subst (Each (λ s. IfSome (g.S.Store.calls s) (λ told. told.calls ≡ 0))) pop i.2),
       search rules,
       search rules,
     )

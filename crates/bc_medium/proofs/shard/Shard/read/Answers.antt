@@ -10,15 +10,15 @@ pub returns-clause-order : goal.returns-clause-order
 returns-clause-order g c = λ start given order.
     let i = c.self.invariant in let e = c.read.ensures in
     let small : length c.self.inside.entries.items < 2 ^ 32 = let a = i.0 in let b = i.1 in omega arith in
-    order_read g.S.Store.owns g.S.Store.contents g.S.Store.told g.S.Store.faults start given c.self.inside.store c.read.new.self c.self.inside.entries.items _ c.args.at c.args.via c.is_err-failed.result (IsErr c.read.result)
-    (subst (λ s. IsOrder g.S.Store.owns g.S.Store.contents g.S.Store.told g.S.Store.faults start given s.store s.entries) (sym c.self.view_is) order) small c.push_reserved.ensures.items e.owns e.same
+    order_read g.S.Store.owns g.S.Store.contents g.S.Store.calls g.S.Store.faults start given c.self.inside.store c.read.new.self c.self.inside.entries.items _ c.args.at c.args.via c.is_err-failed.result (IsErr c.read.result)
+    (subst (λ s. IsOrder g.S.Store.owns g.S.Store.contents g.S.Store.calls g.S.Store.faults start given s.store s.entries) (sym c.self.view_is) order) small c.push_reserved.ensures.items e.owns e.same
     (search rules) (search rules) e.calls e.cause
 
 pub returns-clause-stands : goal.returns-clause-stands
 returns-clause-stands g c =
-    let all : OnOk c.read.result (StandsInOrder g.S.Store.owns g.S.Store.contents g.S.Store.told g.S.Store.faults c.args.self.now c.args.at.sector c.read.new.into) =
+    let all : OnOk c.read.result (StandsInOrder g.S.Store.owns g.S.Store.contents g.S.Store.calls g.S.Store.faults c.args.self.now c.args.at.sector c.read.new.into) =
     on_ok c.read.result _ _ (λ reads start given keys same order.
-    let here = subst (λ s. IsOrder g.S.Store.owns g.S.Store.contents g.S.Store.told g.S.Store.faults start given s.store s.entries) (sym c.self.view_is) order in
+    let here = subst (λ s. IsOrder g.S.Store.owns g.S.Store.contents g.S.Store.calls g.S.Store.faults start given s.store s.entries) (sym c.self.view_is) order in
     subst (λ s. Stand keys (g.S.Store.contents start) s.entries c.args.at.sector c.read.new.into) c.self.view_is
-    (stands_in_order g.S.Store.owns g.S.Store.contents g.S.Store.told g.S.Store.faults c.self.inside.store c.self.inside.entries.items c.args.at.sector c.read.new.into reads start given keys same here)) c.read.ensures.reads in
+    (stands_in_order g.S.Store.owns g.S.Store.contents g.S.Store.calls g.S.Store.faults c.self.inside.store c.self.inside.entries.items c.args.at.sector c.read.new.into reads start given keys same here)) c.read.ensures.reads in
     elim c.if-failed.branch [ then-failed w ↦ search rules | else-failed w ↦ search rules ]

@@ -13,13 +13,13 @@ pub loop-store-init : goal.loop-store-init
 loop-store-init g c =
     let none : c.in_ok-shards.shards.items ≡ [] = c.in_ok-shards.ensures.items in let r = c.turn_round.ensures.items in (
       ap₂ (λ l ss. l ++ opened_with (reverse ss) (drop (length l) c.args.quotas.items)) none r ∙ ap (λ ss. opened_with ss c.args.quotas.items) (reverse-reverse c.args.stores.items),
-      subst (Each (λ s. IfSome (g.S.Store.told s) (λ told. told.calls ≡ 0))) (sym r) (each_reverse (λ s. IfSome (g.S.Store.told s) (λ told. told.calls ≡ 0)) c.args.stores.items c.requires.calls),
+      subst (Each (λ s. IfSome (g.S.Store.calls s) (λ told. told.calls ≡ 0))) (sym r) (each_reverse (λ s. IfSome (g.S.Store.calls s) (λ told. told.calls ≡ 0)) c.args.stores.items c.requires.calls),
       search rules,
       search rules,
     )
 
 pub open-requires : goal.open-requires
-open-requires g c = record { calls = (each_back (λ s. IfSome (g.S.Store.told s) (λ told. told.calls ≡ 0)) c.pop.new.self.items (c.in-Some.store ∷ []) (subst (Each (λ s. IfSome (g.S.Store.told s) (λ told. told.calls ≡ 0))) c.in-Some.ensures.items c.loop-store.invariant.1)).0 }
+open-requires g c = record { calls = (each_back (λ s. IfSome (g.S.Store.calls s) (λ told. told.calls ≡ 0)) c.pop.new.self.items (c.in-Some.store ∷ []) (subst (Each (λ s. IfSome (g.S.Store.calls s) (λ told. told.calls ≡ 0))) c.in-Some.ensures.items c.loop-store.invariant.1)).0 }
 
 pub loop-store-preserved : goal.loop-store-preserved
 loop-store-preserved g c =
@@ -29,7 +29,7 @@ loop-store-preserved g c =
     let inside : length c.loop-store.shards.items < length c.args.quotas.items = search rules in (
       ap (λ l. l ++ opened_with (reverse c.pop.new.self.items) (drop (length l) c.args.quotas.items)) push
           ∙ more_opened c.loop-store.shards.items c.pop.new.self.items c.loop-store.stores.items c.args.quotas.items c.in-Some.store c.index-quota.result.now _ i.0 pop inside (subst (λ m. c.index-quota.result.now ≡ Rattle.std.proofs.Common.get_or c.args.quotas.items m c.index-quota.result.now) n c.index-quota.ensures),
-      each_front (λ s. IfSome (g.S.Store.told s) (λ told. told.calls ≡ 0)) c.pop.new.self.items (c.in-Some.store ∷ []) (subst (Each (λ s. IfSome (g.S.Store.told s) (λ told. told.calls ≡ 0))) pop i.1),
+      each_front (λ s. IfSome (g.S.Store.calls s) (λ told. told.calls ≡ 0)) c.pop.new.self.items (c.in-Some.store ∷ []) (subst (Each (λ s. IfSome (g.S.Store.calls s) (λ told. told.calls ≡ 0))) pop i.1),
       search rules,
       search rules,
     )

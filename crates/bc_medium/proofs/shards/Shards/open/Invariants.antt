@@ -8,7 +8,7 @@ use Rattle.bc_medium.proofs.shards.Shards.open.Given as goal
 abbrev pub invariant-loop-store : goal.invariant-loop-store
 invariant-loop-store g l =
     (l.shards.items ++ opened_with (reverse l.stores.items) (drop (length l.shards.items) l.fn.quotas.items) ≡ opened_with l.fn.stores.items l.fn.quotas.items)
-    × Each (λ s. IfSome (g.S.Store.told s) (λ told. told.calls ≡ 0)) l.stores.items
+    × Each (λ s. IfSome (g.S.Store.calls s) (λ told. told.calls ≡ 0)) l.stores.items
     × (vec_len l.shards + vec_len l.stores ≡ vec_len l.fn.stores)
     × (vec_len l.fn.stores ≤ vec_capacity l.shards)
 

@@ -1,6 +1,6 @@
 use Rattle.std.proofs.Common.{rules, ◌≡◌, ◌/◌, ◌%◌, ◌≤◌, length, true, false, refl, ap, sym, ◌∙◌, subst}
 use Rattle.bc_bio.specs.declared.access.Access.TheVariants.{Read}
-use Rattle.bc_medium.specs.Places.{shard_of}
+use Rattle.bc_medium.specs.Layout.{shard_of}
 use Rattle.bc_medium.specs.Entries.{read_entry, failed_entry, Stand}
 use Rattle.bc_base.specs.Lists.{At}
 use Rattle.bc_base.proofs.Lists.{at_one}
@@ -38,13 +38,13 @@ pub returns-in-Ok-clause-planned : goal.returns-in-Ok-clause-planned
 returns-in-Ok-clause-planned g c =
     let n : c.len.result ≡ length c.self.inside.shards.items = search rules in let some : 1 ≤ length c.self.inside.shards.items = let i = c.self.invariant.0 in search rules in
     let i : c.from.result ≡ shard_of (length c.self.inside.shards.items) c.args.at.sector = c.from.ensures ∙ ap (λ m. c.args.at.sector / 8 % m) n in
-    planned_at g.S.Store.told c.args.self.now _ c.index_mut.result.now (false ≡ true) (chosen c.args.self.now c.self.inside.shards.items c.from.result c.args.at.sector c.index_mut.result.now c.self.view_is i some c.index_mut.ensures.value) c.in-Ok.ensures.planned
+    planned_at g.S.Store.calls c.args.self.now _ c.index_mut.result.now (false ≡ true) (chosen c.args.self.now c.self.inside.shards.items c.from.result c.args.at.sector c.index_mut.result.now c.self.view_is i some c.index_mut.ensures.value) c.in-Ok.ensures.planned
 
 pub returns-in-Err-clause-planned : goal.returns-in-Err-clause-planned
 returns-in-Err-clause-planned g c =
     let n : c.len.result ≡ length c.self.inside.shards.items = search rules in let some : 1 ≤ length c.self.inside.shards.items = let i = c.self.invariant.0 in search rules in
     let i : c.from.result ≡ shard_of (length c.self.inside.shards.items) c.args.at.sector = c.from.ensures ∙ ap (λ m. c.args.at.sector / 8 % m) n in
-    planned_at g.S.Store.told c.args.self.now _ c.index_mut.result.now (true ≡ true) (chosen c.args.self.now c.self.inside.shards.items c.from.result c.args.at.sector c.index_mut.result.now c.self.view_is i some c.index_mut.ensures.value) c.in-Err.ensures.planned
+    planned_at g.S.Store.calls c.args.self.now _ c.index_mut.result.now (true ≡ true) (chosen c.args.self.now c.self.inside.shards.items c.from.result c.args.at.sector c.index_mut.result.now c.self.view_is i some c.index_mut.ensures.value) c.in-Err.ensures.planned
 
 pub returns-in-Ok-clause-performs : goal.returns-in-Ok-clause-performs
 returns-in-Ok-clause-performs g c =

@@ -1,7 +1,7 @@
 use Rattle.std.proofs.Common.{◌≡◌, length, ◌∙◌, sym, ap, subst}
 use Rattle.bc_key.specs.KeyData.{key_size}
 use Rattle.bc_modes.specs.declared.unit_cipher.Schedules.{Schedules}
-use Rattle.bc_modes.specs.Schedules.{mode_of, raw_of}
+use Rattle.bc_modes.specs.Schedules.{mode_of_schedules, raw_of}
 use Rattle.bc_modes.specs.UnitCipher.{CipherParts, encipher_unit}
 use Rattle.bc_modes.proofs.unit_cipher.UnitCipher.encrypt.Goals as goal
 
@@ -13,7 +13,7 @@ returns-in-Xts c =
     record {
       size = subst (λ (parts : CipherParts). length parts.raw ≡ key_size parts.mode) c.self.view_is c.self.invariant;
       enciphers =
-          c.encrypt.ensures ∙ ap (λ (s : Schedules). encipher_unit (mode_of s) (raw_of s) dun text) (sym c.in-Xts.is)
+          c.encrypt.ensures ∙ ap (λ (s : Schedules). encipher_unit (mode_of_schedules s) (raw_of s) dun text) (sym c.in-Xts.is)
           ∙ ap (λ (parts : CipherParts). encipher_unit parts.mode parts.raw dun text) c.self.view_is;
     }
 
@@ -25,6 +25,6 @@ returns-in-Essiv c =
     record {
       size = subst (λ (parts : CipherParts). length parts.raw ≡ key_size parts.mode) c.self.view_is c.self.invariant;
       enciphers =
-          c.encrypt-in-Essiv.ensures ∙ ap (λ (s : Schedules). encipher_unit (mode_of s) (raw_of s) dun text) (sym c.in-Essiv.is)
+          c.encrypt-in-Essiv.ensures ∙ ap (λ (s : Schedules). encipher_unit (mode_of_schedules s) (raw_of s) dun text) (sym c.in-Essiv.is)
           ∙ ap (λ (parts : CipherParts). encipher_unit parts.mode parts.raw dun text) c.self.view_is;
     }

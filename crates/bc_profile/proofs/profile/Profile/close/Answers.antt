@@ -2,10 +2,10 @@ use Rattle.std.proofs.Common.{◌≡◌, ◌∙◌, ◌<◌, ◌==◌, true, sym
 use Rattle.std.specs.Prelude.{sum}
 use Rattle.std.specs.List.{list_any}
 use Rattle.bc_base.specs.Lists.{Each}
-use Rattle.bc_turn.specs.Parts as parts
+use Rattle.bc_turn.specs.PassParts as parts
 use Rattle.bc_profile.specs.declared.limits.TheConstants.{MAX_EVENTS}
 use Rattle.bc_profile.specs.Story.{author_of, events_of}
-use Rattle.bc_profile.specs.Passes.{KeepsTo, IsOf, IsClosed, SlotFacts}
+use Rattle.bc_profile.specs.Passes.{KeepsTo, IsOf, IsClosedStory, SlotFacts}
 use Rattle.bc_profile.proofs.Visits.{story_of}
 use Rattle.bc_profile.proofs.ProfileLemmas.{are_of, all_free, some_here, is_closed, one_book}
 use Rattle.bc_profile.proofs.profile.Profile.close.Goals as goal
@@ -36,6 +36,6 @@ returns-in-Some-clause-closed c =
     let closed = one_book (parts.IsClosed story_of KeepsTo author_of c.self.inside.turns seats) c.in-Ok-close.books.items c.pop.new.self.items book one values.1 c.in-Some.ensures.items in (
       book.story,
       c.take_events.ensures ∙ ap events_of c.close-in-Ok-close.ensures.story,
-      subst (λ t. IsClosed t c.args.passes.items book.story) c.self.view_is
+      subst (λ t. IsClosedStory t c.args.passes.items book.story) c.self.view_is
           (is_closed _ book c.self.inside.quotas.items seats c.args.passes.items c.self.invariant c.unseat.ensures.rest c.unseat.ensures.same closed c.close-in-Ok-close.ensures.lawful),
     )

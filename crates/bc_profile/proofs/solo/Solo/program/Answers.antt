@@ -6,7 +6,7 @@ use Rattle.std.proofs.lemmas.List.{get_or-set_same, get_or_default}
 use Rattle.bc_profile.specs.declared.event.Event.TheVariants.{Program}
 use Rattle.bc_profile.specs.Programmings.{Holds}
 use Rattle.bc_profile.specs.Rows.{cleared}
-use Rattle.bc_profile.specs.OneCaller.{is_key, first_idle, slot_with}
+use Rattle.bc_profile.specs.OneCaller.{has_key, first_idle, slot_with}
 use Rattle.bc_profile.proofs.KeyLemmas.{in_no_slot}
 use Rattle.bc_profile.proofs.SoloLemmas.{free_parts, keeps_program, is_first_idle, told_holds}
 use Rattle.bc_profile.proofs.solo.Solo.program.Goals as goal
@@ -19,7 +19,7 @@ invariant_of-self c =
     omega (arith, c.least-slot.ensures.place, ap length c.as_slice.ensures.value, c.self.invariant.stamped.as_many, ap length c.self.invariant.told.keys_left) in
     let lower = subst (λ l. (k : ℕ) → k < length l → get_or l c.least-slot.result 0 ≤ get_or l k 0) c.as_slice.ensures.value c.least-slot.ensures.least in
     let nowhere = in_no_slot c.args.key.0 c.self.inside.keys.items
-    (ap (position (is_key c.args.key.0)) c.self.invariant.told.keys_left ∙ ap (λ (o : SoloData). slot_with (slots_of o) c.args.key.0) c.self.view_is ∙ c.requires.nowhere) in
+    (ap (position (has_key c.args.key.0)) c.self.invariant.told.keys_left ∙ ap (λ (o : SoloData). slot_with (slots_of o) c.args.key.0) c.self.view_is ∙ c.requires.nowhere) in
     let numbered = subst (λ (o : SoloData). c.args.key.0 < length o.rows) (sym c.self.view_is) c.requires.key in
     let row = c.index.ensures ∙ ap (λ k. get_or c.self.inside.rows.items k c.index.result.now) c.from.ensures ∙ get_or_default c.self.inside.rows.items c.args.key.0 c.index.result.now cleared numbered in
     let event : c.len-event.result ≡ length c.self.inside.journal.items = c.len-event.ensures ∙ c.self.inside.journal.ok.0 in
@@ -46,7 +46,7 @@ returns-clause-holds c =
     omega (arith, c.least-slot.ensures.place, ap length c.as_slice.ensures.value, c.self.invariant.stamped.as_many, ap length c.self.invariant.told.keys_left) in
     let lower = subst (λ l. (k : ℕ) → k < length l → get_or l c.least-slot.result 0 ≤ get_or l k 0) c.as_slice.ensures.value c.least-slot.ensures.least in
     let nowhere = in_no_slot c.args.key.0 c.self.inside.keys.items
-    (ap (position (is_key c.args.key.0)) c.self.invariant.told.keys_left ∙ ap (λ (o : SoloData). slot_with (slots_of o) c.args.key.0) c.self.view_is ∙ c.requires.nowhere) in
+    (ap (position (has_key c.args.key.0)) c.self.invariant.told.keys_left ∙ ap (λ (o : SoloData). slot_with (slots_of o) c.args.key.0) c.self.view_is ∙ c.requires.nowhere) in
     let numbered = subst (λ (o : SoloData). c.args.key.0 < length o.rows) (sym c.self.view_is) c.requires.key in
     let row = c.index.ensures ∙ ap (λ k. get_or c.self.inside.rows.items k c.index.result.now) c.from.ensures ∙ get_or_default c.self.inside.rows.items c.args.key.0 c.index.result.now cleared numbered in
     let event : c.len-event.result ≡ length c.self.inside.journal.items = c.len-event.ensures ∙ c.self.inside.journal.ok.0 in

@@ -3,8 +3,9 @@ use Rattle.bc_base.proofs.Lists.{at_read}
 use Rattle.bc_profile.specs.Passes.{SlotFacts, IsOf, HasSpare}
 use Rattle.bc_ufs.specs.Controllers.{ControllerData}
 use Rattle.bc_queue.specs.Queues.{HasGot}
-use Rattle.bc_queue.proofs.Queues.{zip_length, inside, Chosen, chosen, got}
+use Rattle.bc_queue.proofs.Queues.{inside, Chosen, chosen, got}
 use Rattle.bc_queue.proofs.queue.Queue.get.Goals as goal
+use Rattle.bc_base.proofs.Members.{zip_length}
 
 pub index_mut-requires : goal.index_mut-requires
 index_mut-requires g c =

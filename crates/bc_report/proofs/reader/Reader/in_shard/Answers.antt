@@ -1,5 +1,5 @@
 use Rattle.std.proofs.Common.{◌≡◌, ◌≤◌, subst, arith}
-use Rattle.bc_report.specs.Progress.{Progress, Took, Refuses}
+use Rattle.bc_report.specs.Progress.{Progress, TookReportLine, RefusesLine}
 use Rattle.bc_report.proofs.Taken.{took_entry}
 use Rattle.bc_report.proofs.Stuck.{took_after_shard, refuses_after_shard, map_ok, map_err}
 use Rattle.bc_report.proofs.reader.Reader.in_shard.Goals as goal
@@ -8,15 +8,15 @@ pub returns-then-self-eq0-clause-ok : goal.returns-then-self-eq0-clause-ok
 returns-then-self-eq0-clause-ok c =
     let none : c.args.self.now.owed ≡ 0 = rw (← c.self.view_is) c.if-self-eq0.true in
     map_ok c.next_part.result
-    (λ (t : Took c.close_shard.new.self c.args.line c.next_part.new.self).
-    took_after_shard c.args.self.now c.next_part.new.self c.args.line c.requires none (subst (λ (q : Progress). Took q c.args.line c.next_part.new.self) c.in_ok-close_shard.ensures t))
+    (λ (t : TookReportLine c.close_shard.new.self c.args.line c.next_part.new.self).
+    took_after_shard c.args.self.now c.next_part.new.self c.args.line c.requires none (subst (λ (q : Progress). TookReportLine q c.args.line c.next_part.new.self) c.in_ok-close_shard.ensures t))
     c.next_part.ensures.ok
 
 pub returns-then-self-eq0-clause-bad : goal.returns-then-self-eq0-clause-bad
 returns-then-self-eq0-clause-bad c =
     let none : c.args.self.now.owed ≡ 0 = rw (← c.self.view_is) c.if-self-eq0.true in
-    map_err (Refuses c.close_shard.new.self c.args.line) (Refuses c.args.self.now c.args.line) c.next_part.result
-    (λ e r. refuses_after_shard c.args.self.now c.args.line e c.requires none (subst (λ (q : Progress). Refuses q c.args.line e) c.in_ok-close_shard.ensures r))
+    map_err (RefusesLine c.close_shard.new.self c.args.line) (RefusesLine c.args.self.now c.args.line) c.next_part.result
+    (λ e r. refuses_after_shard c.args.self.now c.args.line e c.requires none (subst (λ (q : Progress). RefusesLine q c.args.line e) c.in_ok-close_shard.ensures r))
     c.next_part.ensures.bad
 
 pub returns-clause-ok : goal.returns-clause-ok

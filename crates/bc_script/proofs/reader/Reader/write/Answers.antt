@@ -1,6 +1,6 @@
 use Rattle.std.proofs.lemmas.Result.{err_from_is_err_and}
 use Rattle.bc_script.specs.declared.script_error.ScriptWhy.TheVariants as why
-use Rattle.bc_script.specs.ScriptErrors.{first_of, is_text, size_of, bio_limits}
+use Rattle.bc_script.specs.ScriptErrors.{first_why, is_text, size_of, bio_limits}
 use Rattle.bc_script.specs.Lent.{bio_lent, text_lent}
 use Rattle.bc_script.specs.Progress.{forms_read}
 use Rattle.bc_script.proofs.Refusals.{text_refused, write_without_room}
@@ -12,7 +12,7 @@ returns-in_err-context c =
     let p = err_from_is_err_and c.from_residual.result c.from_residual.ensures.1 in
     let above = forms_read c.args.self.now in
     let bio = bio_lent c.args.form in
-    rw (p.1, p.2) (c.in_err-context.ensures (first_of (is_text (size_of above bio) (text_lent c.args.text)) why.Hex (bio_limits above bio)))
+    rw (p.1, p.2) (c.in_err-context.ensures (first_why (is_text (size_of above bio) (text_lent c.args.text)) why.Hex (bio_limits above bio)))
 
 pub returns-in_err-text : goal.returns-in_err-text
 returns-in_err-text c =

@@ -11,7 +11,7 @@ use Rattle.bc_script.specs.Script.{Script, keys_of}
 use Rattle.bc_script.specs.Bios.{bio_of}
 use Rattle.bc_script.specs.Plan.{unit_at}
 use Rattle.bc_serial.specs.InTurn.{GoesOver}
-use Rattle.bc_serial.specs.Standing.{CourseData, answer_of_read, device_of, first_units}
+use Rattle.bc_serial.specs.Standing.{CourseData, answer_of_read, own_device, first_units}
 use Rattle.bc_serial.proofs.EqualParts.{next_part, part_starts}
 use Rattle.bc_serial.proofs.Attempting.{NoneMet, met_read, none_met}
 use Rattle.bc_serial.proofs.Performing.{GoneOver, gone_over_more, gone_over_none, performs_bio, performs_fault}
@@ -26,9 +26,9 @@ loop-unit-init c =
     let operation = ops.Read bio.context bio.sector bio.units in record {
       room = refl;
       gone_over = gone_over_none c.args.self.now access.Read c.args.op operation bio (Bytes (take (0 * c.unit_bytes-size.result) c.args.room.now)) c.requires.performable.accepted.some
-          (subst (λ (l : List ℕ). NoneMet (device_of c.args.self.now) (device_of c.args.self.now) access.Read [] (Bytes l) [])
+          (subst (λ (l : List ℕ). NoneMet (own_device c.args.self.now) (own_device c.args.self.now) access.Read [] (Bytes l) [])
           (sym (ap (λ (n : ℕ). take n c.args.room.now) (zero_of c.unit_bytes-size.result)))
-          (none_met (device_of c.args.self.now) access.Read (Bytes []) (refl, [], tt, refl)));
+          (none_met (own_device c.args.self.now) access.Read (Bytes []) (refl, [], tt, refl)));
     }
 
 pub loop-unit-preserved : goal.loop-unit-preserved
@@ -60,8 +60,8 @@ loop-unit-preserved c =
       gone_over = gone_over_more old b new c.args.op operation bio i c.requires.performable c.loop-unit-test.true stays (answer_of_read part) refl refl access.Read
           (Bytes (take (i * size) room)) (Bytes (take ((i + 1) * size) _)) c.loop-unit.fault c.read_next-fault.result
           (λ m d made p reached q went none.
-          subst (λ (l : List ℕ). NoneMet (device_of old) d access.Read (us ++ v ∷ []) (Bytes l) (made ++ q.entry ∷ [])) (sym joined)
-          (met_read (device_of old) (device_of b) m made p reached stays d v (Text part) q us went (take (i * size) room) part refl none)) gone over;
+          subst (λ (l : List ℕ). NoneMet (own_device old) d access.Read (us ++ v ∷ []) (Bytes l) (made ++ q.entry ∷ [])) (sym joined)
+          (met_read (own_device old) (own_device b) m made p reached stays d v (Text part) q us went (take (i * size) room) part refl none)) gone over;
     }
 
 pub returns-in-Some-clause-performs : goal.returns-in-Some-clause-performs

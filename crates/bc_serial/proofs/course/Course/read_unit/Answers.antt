@@ -10,7 +10,7 @@ use Rattle.bc_script.specs.declared.op.Op.TheVariants as ops
 use Rattle.bc_script.specs.Script.{keys_of}
 use Rattle.bc_script.specs.Plan.{unit_at}
 use Rattle.bc_serial.specs.InTurn.{AttemptsOn, HasOpenAt, via_in}
-use Rattle.bc_serial.specs.Standing.{AllStand, CourseData, IsPerformable, at_of, answer_of_read, entry_of_read}
+use Rattle.bc_serial.specs.Standing.{AllStand, CourseData, IsPerformableBio, unit_place_of, answer_of_read, entry_of_read}
 use Rattle.bc_serial.proofs.Ready.{attempts, course_more, have_keys, key_at, open_at, own, sectors_at, spare, whole_sectors}
 use Rattle.bc_serial.proofs.Placing.{read_failed, read_is_its, read_via}
 use Rattle.bc_serial.proofs.course.Course.read_unit.Goals as goal
@@ -29,8 +29,8 @@ via-via-requires-clause-key c =
       begun = c.self.inside.keyslots.begun;
       opened = c.self.inside.keyslots.opened;
     } in
-    let at_is : c.unit_of_bio-at.result ≡ at_of here.thread (unit_at keys c.args.op operation bio c.args.unit) =
-    c.unit_of_bio-at.ensures operation ∙ ap (λ (k : List KeyData). at_of here.thread (unit_at k c.args.op operation bio c.args.unit)) c.keys.ensures in
+    let at_is : c.unit_of_bio-at.result ≡ unit_place_of here.thread (unit_at keys c.args.op operation bio c.args.unit) =
+    c.unit_of_bio-at.ensures operation ∙ ap (λ (k : List KeyData). unit_place_of here.thread (unit_at k c.args.op operation bio c.args.unit)) c.keys.ensures in
     let context : c.unit_of_bio-at.result.context ≡ context_after c.args.unit bio.context = ap (λ (a : UnitAt). a.context) at_is in
     key_at (keys_of c.args.self.now.script) c.args.unit bio.context c.unit_of_bio-at.result.context context c.requires.performable.accepted.placed.key
 
@@ -48,8 +48,8 @@ via-via-requires-clause-opened c =
       begun = c.self.inside.keyslots.begun;
       opened = c.self.inside.keyslots.opened;
     } in
-    let at_is : c.unit_of_bio-at.result ≡ at_of here.thread (unit_at keys c.args.op operation bio c.args.unit) =
-    c.unit_of_bio-at.ensures operation ∙ ap (λ (k : List KeyData). at_of here.thread (unit_at k c.args.op operation bio c.args.unit)) c.keys.ensures in
+    let at_is : c.unit_of_bio-at.result ≡ unit_place_of here.thread (unit_at keys c.args.op operation bio c.args.unit) =
+    c.unit_of_bio-at.ensures operation ∙ ap (λ (k : List KeyData). unit_place_of here.thread (unit_at k c.args.op operation bio c.args.unit)) c.keys.ensures in
     let context : c.unit_of_bio-at.result.context ≡ context_after c.args.unit bio.context = ap (λ (a : UnitAt). a.context) at_is in
     open_at c.args.self.now c.args.unit bio.context c.unit_of_bio-at.result.context (sector_at (keys_of c.args.self.now.script) bio c.args.unit) context c.requires.opened
 
@@ -67,9 +67,9 @@ read_unit-requires-clause-sectors c =
       begun = c.self.inside.keyslots.begun;
       opened = c.self.inside.keyslots.opened;
     } in
-    let performable : IsPerformable here.script bio = subst (λ (v : CourseData). IsPerformable v.script bio) (sym c.self.view_is) c.requires.performable in
-    let at_is : c.unit_of_bio-at.result ≡ at_of here.thread (unit_at keys c.args.op operation bio c.args.unit) =
-    c.unit_of_bio-at.ensures operation ∙ ap (λ (k : List KeyData). at_of here.thread (unit_at k c.args.op operation bio c.args.unit)) c.keys.ensures in
+    let performable : IsPerformableBio here.script bio = subst (λ (v : CourseData). IsPerformableBio v.script bio) (sym c.self.view_is) c.requires.performable in
+    let at_is : c.unit_of_bio-at.result ≡ unit_place_of here.thread (unit_at keys c.args.op operation bio c.args.unit) =
+    c.unit_of_bio-at.ensures operation ∙ ap (λ (k : List KeyData). unit_place_of here.thread (unit_at k c.args.op operation bio c.args.unit)) c.keys.ensures in
     let context : c.unit_of_bio-at.result.context ≡ context_after c.args.unit bio.context = ap (λ (a : UnitAt). a.context) at_is in
     let long : length c.args.place.now ≡ 512 * unit_sectors keys c.unit_of_bio-at.result.context =
     c.requires.length
@@ -93,7 +93,7 @@ read_unit-requires-clause-spare c =
       begun = c.self.inside.keyslots.begun;
       opened = c.self.inside.keyslots.opened;
     } in
-    let performable : IsPerformable here.script bio = subst (λ (v : CourseData). IsPerformable v.script bio) (sym c.self.view_is) c.requires.performable in
+    let performable : IsPerformableBio here.script bio = subst (λ (v : CourseData). IsPerformableBio v.script bio) (sym c.self.view_is) c.requires.performable in
     let more : AllStand here.script (here.left + 1) here.shards = subst (λ (v : CourseData). AllStand v.script (v.left + 1) v.shards) (sym c.self.view_is) c.requires.spare in
     spare c.bio_laws.ensures.sizes c.bio_laws.ensures.blocks here.script keys here.shards c.self.inside.keyslots here.left c.self.invariant here.thread c.args.op operation bio performable c.args.unit c.requires.unit c.unit_of_bio-at.result more
 
@@ -111,10 +111,10 @@ invariant_of-self c =
       begun = c.self.inside.keyslots.begun;
       opened = c.self.inside.keyslots.opened;
     } in
-    let performable : IsPerformable here.script bio = subst (λ (v : CourseData). IsPerformable v.script bio) (sym c.self.view_is) c.requires.performable in
+    let performable : IsPerformableBio here.script bio = subst (λ (v : CourseData). IsPerformableBio v.script bio) (sym c.self.view_is) c.requires.performable in
     let more : AllStand here.script (here.left + 1) here.shards = subst (λ (v : CourseData). AllStand v.script (v.left + 1) v.shards) (sym c.self.view_is) c.requires.spare in
-    let at_is : c.unit_of_bio-at.result ≡ at_of here.thread (unit_at keys c.args.op operation bio c.args.unit) =
-    c.unit_of_bio-at.ensures operation ∙ ap (λ (k : List KeyData). at_of here.thread (unit_at k c.args.op operation bio c.args.unit)) c.keys.ensures in
+    let at_is : c.unit_of_bio-at.result ≡ unit_place_of here.thread (unit_at keys c.args.op operation bio c.args.unit) =
+    c.unit_of_bio-at.ensures operation ∙ ap (λ (k : List KeyData). unit_place_of here.thread (unit_at k c.args.op operation bio c.args.unit)) c.keys.ensures in
     let context : c.unit_of_bio-at.result.context ≡ context_after c.args.unit bio.context = ap (λ (a : UnitAt). a.context) at_is in
     let long : length c.args.place.now ≡ 512 * unit_sectors keys c.unit_of_bio-at.result.context =
     c.requires.length
@@ -139,12 +139,12 @@ returns-then-not-read_unit-clause-attempts c =
       begun = c.self.inside.keyslots.begun;
       opened = c.self.inside.keyslots.opened;
     } in
-    let performable : IsPerformable here.script bio = subst (λ (v : CourseData). IsPerformable v.script bio) (sym c.self.view_is) c.requires.performable in
+    let performable : IsPerformableBio here.script bio = subst (λ (v : CourseData). IsPerformableBio v.script bio) (sym c.self.view_is) c.requires.performable in
     let more : AllStand here.script (here.left + 1) here.shards = subst (λ (v : CourseData). AllStand v.script (v.left + 1) v.shards) (sym c.self.view_is) c.requires.spare in
     let opened : HasOpenAt here bio.context (sector_at (keys_of here.script) bio c.args.unit) =
     subst (λ (v : CourseData). HasOpenAt v bio.context (sector_at (keys_of v.script) bio c.args.unit)) (sym c.self.view_is) c.requires.opened in
-    let at_is : c.unit_of_bio-at.result ≡ at_of here.thread (unit_at keys c.args.op operation bio c.args.unit) =
-    c.unit_of_bio-at.ensures operation ∙ ap (λ (k : List KeyData). at_of here.thread (unit_at k c.args.op operation bio c.args.unit)) c.keys.ensures in
+    let at_is : c.unit_of_bio-at.result ≡ unit_place_of here.thread (unit_at keys c.args.op operation bio c.args.unit) =
+    c.unit_of_bio-at.ensures operation ∙ ap (λ (k : List KeyData). unit_place_of here.thread (unit_at k c.args.op operation bio c.args.unit)) c.keys.ensures in
     let context : c.unit_of_bio-at.result.context ≡ context_after c.args.unit bio.context = ap (λ (a : UnitAt). a.context) at_is in
     let long : length c.args.place.now ≡ 512 * unit_sectors keys c.unit_of_bio-at.result.context =
     c.requires.length
@@ -155,8 +155,8 @@ returns-then-not-read_unit-clause-attempts c =
     let u = unit_at (keys_of here.script) c.args.op operation bio c.args.unit in
     let e = entry_of_read c.unit_of_bio-at.result c.via-via.result c.read_unit.result in
     let text = deciphered keys c.unit_of_bio-at.result.context c.read_unit.new.place in
-    let mine : c.unit_of_bio-at.result ≡ at_of here.thread u =
-    at_is ∙ ap (λ (k : List KeyData). at_of here.thread (unit_at k c.args.op operation bio c.args.unit)) c.self.invariant.keys_are in
+    let mine : c.unit_of_bio-at.result ≡ unit_place_of here.thread u =
+    at_is ∙ ap (λ (k : List KeyData). unit_place_of here.thread (unit_at k c.args.op operation bio c.args.unit)) c.self.invariant.keys_are in
     let its : IsEntryOf here.thread u e =
     subst (λ (a : UnitAt). IsEntryOf here.thread u (entry_of_read a c.via-via.result c.read_unit.result)) (sym mine)
     (read_is_its here.thread u c.via-via.result c.read_unit.result c.requires.access) in
@@ -183,10 +183,10 @@ invariant_of-self-2 c =
       begun = c.self.inside.keyslots.begun;
       opened = c.self.inside.keyslots.opened;
     } in
-    let performable : IsPerformable here.script bio = subst (λ (v : CourseData). IsPerformable v.script bio) (sym c.self.view_is) c.requires.performable in
+    let performable : IsPerformableBio here.script bio = subst (λ (v : CourseData). IsPerformableBio v.script bio) (sym c.self.view_is) c.requires.performable in
     let more : AllStand here.script (here.left + 1) here.shards = subst (λ (v : CourseData). AllStand v.script (v.left + 1) v.shards) (sym c.self.view_is) c.requires.spare in
-    let at_is : c.unit_of_bio-at.result ≡ at_of here.thread (unit_at keys c.args.op operation bio c.args.unit) =
-    c.unit_of_bio-at.ensures operation ∙ ap (λ (k : List KeyData). at_of here.thread (unit_at k c.args.op operation bio c.args.unit)) c.keys.ensures in
+    let at_is : c.unit_of_bio-at.result ≡ unit_place_of here.thread (unit_at keys c.args.op operation bio c.args.unit) =
+    c.unit_of_bio-at.ensures operation ∙ ap (λ (k : List KeyData). unit_place_of here.thread (unit_at k c.args.op operation bio c.args.unit)) c.keys.ensures in
     let context : c.unit_of_bio-at.result.context ≡ context_after c.args.unit bio.context = ap (λ (a : UnitAt). a.context) at_is in
     let long : length c.args.place.now ≡ 512 * unit_sectors keys c.unit_of_bio-at.result.context =
     c.requires.length
@@ -211,9 +211,9 @@ decipher-requires-clause-key c =
       begun = c.self.inside.keyslots.begun;
       opened = c.self.inside.keyslots.opened;
     } in
-    let performable : IsPerformable here.script bio = subst (λ (v : CourseData). IsPerformable v.script bio) (sym c.self.view_is) c.requires.performable in
-    let at_is : c.unit_of_bio-at.result ≡ at_of here.thread (unit_at keys c.args.op operation bio c.args.unit) =
-    c.unit_of_bio-at.ensures operation ∙ ap (λ (k : List KeyData). at_of here.thread (unit_at k c.args.op operation bio c.args.unit)) c.keys.ensures in
+    let performable : IsPerformableBio here.script bio = subst (λ (v : CourseData). IsPerformableBio v.script bio) (sym c.self.view_is) c.requires.performable in
+    let at_is : c.unit_of_bio-at.result ≡ unit_place_of here.thread (unit_at keys c.args.op operation bio c.args.unit) =
+    c.unit_of_bio-at.ensures operation ∙ ap (λ (k : List KeyData). unit_place_of here.thread (unit_at k c.args.op operation bio c.args.unit)) c.keys.ensures in
     let context : c.unit_of_bio-at.result.context ≡ context_after c.args.unit bio.context = ap (λ (a : UnitAt). a.context) at_is in
     key_at (keys_of here.script) c.args.unit bio.context c.unit_of_bio-at.result.context context performable.accepted.placed.key
 
@@ -233,8 +233,8 @@ decipher-requires-clause-opened c =
     } in
     let opened : HasOpenAt here bio.context (sector_at (keys_of here.script) bio c.args.unit) =
     subst (λ (v : CourseData). HasOpenAt v bio.context (sector_at (keys_of v.script) bio c.args.unit)) (sym c.self.view_is) c.requires.opened in
-    let at_is : c.unit_of_bio-at.result ≡ at_of here.thread (unit_at keys c.args.op operation bio c.args.unit) =
-    c.unit_of_bio-at.ensures operation ∙ ap (λ (k : List KeyData). at_of here.thread (unit_at k c.args.op operation bio c.args.unit)) c.keys.ensures in
+    let at_is : c.unit_of_bio-at.result ≡ unit_place_of here.thread (unit_at keys c.args.op operation bio c.args.unit) =
+    c.unit_of_bio-at.ensures operation ∙ ap (λ (k : List KeyData). unit_place_of here.thread (unit_at k c.args.op operation bio c.args.unit)) c.keys.ensures in
     let context : c.unit_of_bio-at.result.context ≡ context_after c.args.unit bio.context = ap (λ (a : UnitAt). a.context) at_is in
     open_at (record here { shards = c.read_unit.new.shards }) c.args.unit bio.context c.unit_of_bio-at.result.context (sector_at (keys_of here.script) bio c.args.unit) context opened
 
@@ -252,8 +252,8 @@ decipher-requires-clause-length c =
       begun = c.self.inside.keyslots.begun;
       opened = c.self.inside.keyslots.opened;
     } in
-    let at_is : c.unit_of_bio-at.result ≡ at_of here.thread (unit_at keys c.args.op operation bio c.args.unit) =
-    c.unit_of_bio-at.ensures operation ∙ ap (λ (k : List KeyData). at_of here.thread (unit_at k c.args.op operation bio c.args.unit)) c.keys.ensures in
+    let at_is : c.unit_of_bio-at.result ≡ unit_place_of here.thread (unit_at keys c.args.op operation bio c.args.unit) =
+    c.unit_of_bio-at.ensures operation ∙ ap (λ (k : List KeyData). unit_place_of here.thread (unit_at k c.args.op operation bio c.args.unit)) c.keys.ensures in
     let context : c.unit_of_bio-at.result.context ≡ context_after c.args.unit bio.context = ap (λ (a : UnitAt). a.context) at_is in
     let long : length c.args.place.now ≡ 512 * unit_sectors keys c.unit_of_bio-at.result.context =
     c.requires.length
@@ -276,12 +276,12 @@ returns-clause-attempts c =
       begun = c.self.inside.keyslots.begun;
       opened = c.self.inside.keyslots.opened;
     } in
-    let performable : IsPerformable here.script bio = subst (λ (v : CourseData). IsPerformable v.script bio) (sym c.self.view_is) c.requires.performable in
+    let performable : IsPerformableBio here.script bio = subst (λ (v : CourseData). IsPerformableBio v.script bio) (sym c.self.view_is) c.requires.performable in
     let more : AllStand here.script (here.left + 1) here.shards = subst (λ (v : CourseData). AllStand v.script (v.left + 1) v.shards) (sym c.self.view_is) c.requires.spare in
     let opened : HasOpenAt here bio.context (sector_at (keys_of here.script) bio c.args.unit) =
     subst (λ (v : CourseData). HasOpenAt v bio.context (sector_at (keys_of v.script) bio c.args.unit)) (sym c.self.view_is) c.requires.opened in
-    let at_is : c.unit_of_bio-at.result ≡ at_of here.thread (unit_at keys c.args.op operation bio c.args.unit) =
-    c.unit_of_bio-at.ensures operation ∙ ap (λ (k : List KeyData). at_of here.thread (unit_at k c.args.op operation bio c.args.unit)) c.keys.ensures in
+    let at_is : c.unit_of_bio-at.result ≡ unit_place_of here.thread (unit_at keys c.args.op operation bio c.args.unit) =
+    c.unit_of_bio-at.ensures operation ∙ ap (λ (k : List KeyData). unit_place_of here.thread (unit_at k c.args.op operation bio c.args.unit)) c.keys.ensures in
     let context : c.unit_of_bio-at.result.context ≡ context_after c.args.unit bio.context = ap (λ (a : UnitAt). a.context) at_is in
     let long : length c.args.place.now ≡ 512 * unit_sectors keys c.unit_of_bio-at.result.context =
     c.requires.length
@@ -292,8 +292,8 @@ returns-clause-attempts c =
     let u = unit_at (keys_of here.script) c.args.op operation bio c.args.unit in
     let e = entry_of_read c.unit_of_bio-at.result c.via-via.result c.read_unit.result in
     let text = deciphered keys c.unit_of_bio-at.result.context c.read_unit.new.place in
-    let mine : c.unit_of_bio-at.result ≡ at_of here.thread u =
-    at_is ∙ ap (λ (k : List KeyData). at_of here.thread (unit_at k c.args.op operation bio c.args.unit)) c.self.invariant.keys_are in
+    let mine : c.unit_of_bio-at.result ≡ unit_place_of here.thread u =
+    at_is ∙ ap (λ (k : List KeyData). unit_place_of here.thread (unit_at k c.args.op operation bio c.args.unit)) c.self.invariant.keys_are in
     let its : IsEntryOf here.thread u e =
     subst (λ (a : UnitAt). IsEntryOf here.thread u (entry_of_read a c.via-via.result c.read_unit.result)) (sym mine)
     (read_is_its here.thread u c.via-via.result c.read_unit.result c.requires.access) in

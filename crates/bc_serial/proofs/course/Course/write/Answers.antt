@@ -8,7 +8,7 @@ use Rattle.bc_script.specs.Script.{Script, keys_of}
 use Rattle.bc_script.specs.Bios.{bio_of}
 use Rattle.bc_script.specs.Plan.{unit_at}
 use Rattle.bc_serial.specs.InTurn.{GoesOver}
-use Rattle.bc_serial.specs.Standing.{CourseData, answer_of_write, device_of, first_units}
+use Rattle.bc_serial.specs.Standing.{CourseData, answer_of_write, own_device, first_units}
 use Rattle.bc_serial.proofs.Attempting.{met_wrote, none_met}
 use Rattle.bc_serial.proofs.Performing.{GoneOver, gone_over_more, gone_over_none, performs_bio, performs_fault}
 use Rattle.bc_serial.proofs.course.Course.write.Goals as goal
@@ -19,7 +19,7 @@ loop-unit-init c =
     let operation = ops.Write bio.context bio.sector bio.units c.args.text.now in record {
       room = refl;
       gone_over = gone_over_none c.args.self.now access.Write c.args.op operation bio Wrote c.requires.performable.accepted.some
-          (none_met (device_of c.args.self.now) access.Write Wrote (refl, tt));
+          (none_met (own_device c.args.self.now) access.Write Wrote (refl, tt));
     }
 
 pub loop-unit-preserved : goal.loop-unit-preserved
@@ -40,7 +40,7 @@ loop-unit-preserved c =
       room = c.in_ok-fault.ensures.room ∙ c.loop-unit.invariant.room;
       gone_over = gone_over_more old b new c.args.op operation bio i c.requires.performable c.loop-unit-test.true stays answer_of_write refl refl access.Write Wrote Wrote
           c.loop-unit.fault c.in_ok-fault.fault
-          (λ m d made p reached q went none. met_wrote (device_of old) (device_of b) m made p reached stays d v Written q us went refl none) gone over;
+          (λ m d made p reached q went none. met_wrote (own_device old) (own_device b) m made p reached stays d v Written q us went refl none) gone over;
     }
 
 pub returns-in-Some-clause-performs : goal.returns-in-Some-clause-performs

@@ -8,12 +8,13 @@ use Rattle.bc_bio.specs.Conditions.{HasKey}
 use Rattle.bc_medium.specs.Shards.{HaveKeys, Own}
 use Rattle.bc_script.specs.declared.op.Op.TheVariants as ops
 use Rattle.bc_script.specs.Script.{keys_of}
-use Rattle.bc_script.specs.Plan.{text_at, unit_at}
+use Rattle.bc_script.specs.Plan.{text_at, unit_at, HasUnit}
 use Rattle.bc_serial.specs.InTurn.{AttemptsOn, HasOpenAt, via_in}
-use Rattle.bc_serial.specs.Standing.{AllStand, Attempted, CourseData, HasUnit, IsPerformable, at_of, answer_of_write, entry_of_write}
-use Rattle.bc_serial.proofs.Ready.{attempts, course_more, has_unit, have_keys, key_at, open_at, own, sectors_at, spare, text_length}
+use Rattle.bc_serial.specs.Standing.{AllStand, Attempted, CourseData, IsPerformableBio, unit_place_of, answer_of_write, entry_of_write}
+use Rattle.bc_serial.proofs.Ready.{attempts, course_more, have_keys, key_at, open_at, own, sectors_at, spare, text_length}
 use Rattle.bc_serial.proofs.Placing.{write_failed, write_is_its, write_via}
 use Rattle.bc_serial.proofs.course.Course.write_unit.Goals as goal
+use Rattle.bc_section.proofs.Numbered.{has_unit}
 
 pub text_of_unit-requires : goal.text_of_unit-requires
 text_of_unit-requires c =
@@ -51,8 +52,8 @@ encipher-requires-clause-key c =
       begun = c.self.inside.keyslots.begun;
       opened = c.self.inside.keyslots.opened;
     } in
-    let at_is : c.unit_of_bio-at.result ≡ at_of here.thread (unit_at keys c.args.op operation bio c.args.unit) =
-    c.unit_of_bio-at.ensures operation ∙ ap (λ (k : List KeyData). at_of here.thread (unit_at k c.args.op operation bio c.args.unit)) c.keys-keys.ensures in
+    let at_is : c.unit_of_bio-at.result ≡ unit_place_of here.thread (unit_at keys c.args.op operation bio c.args.unit) =
+    c.unit_of_bio-at.ensures operation ∙ ap (λ (k : List KeyData). unit_place_of here.thread (unit_at k c.args.op operation bio c.args.unit)) c.keys-keys.ensures in
     let context : c.unit_of_bio-at.result.context ≡ context_after c.args.unit bio.context = ap (λ (a : UnitAt). a.context) at_is in
     key_at (keys_of c.args.self.now.script) c.args.unit bio.context c.unit_of_bio-at.result.context context c.requires.performable.accepted.placed.key
 
@@ -70,8 +71,8 @@ encipher-requires-clause-opened c =
       begun = c.self.inside.keyslots.begun;
       opened = c.self.inside.keyslots.opened;
     } in
-    let at_is : c.unit_of_bio-at.result ≡ at_of here.thread (unit_at keys c.args.op operation bio c.args.unit) =
-    c.unit_of_bio-at.ensures operation ∙ ap (λ (k : List KeyData). at_of here.thread (unit_at k c.args.op operation bio c.args.unit)) c.keys-keys.ensures in
+    let at_is : c.unit_of_bio-at.result ≡ unit_place_of here.thread (unit_at keys c.args.op operation bio c.args.unit) =
+    c.unit_of_bio-at.ensures operation ∙ ap (λ (k : List KeyData). unit_place_of here.thread (unit_at k c.args.op operation bio c.args.unit)) c.keys-keys.ensures in
     let context : c.unit_of_bio-at.result.context ≡ context_after c.args.unit bio.context = ap (λ (a : UnitAt). a.context) at_is in
     open_at c.args.self.now c.args.unit bio.context c.unit_of_bio-at.result.context (sector_at (keys_of c.args.self.now.script) bio c.args.unit) context c.requires.opened
 
@@ -92,8 +93,8 @@ encipher-requires-clause-length c =
     let keys_are : keys_of c.args.self.now.script ≡ keys = sym (c.self.invariant.keys_are ∙ ap (λ (v : CourseData). keys_of v.script) c.self.view_is) in
     let size_is : c.unit_bytes-size.result ≡ 512 * unit_sectors keys bio.context =
     c.unit_bytes-size.ensures.bytes ∙ ap (λ (k : List KeyData). 512 * unit_sectors k bio.context) c.keys-keys.ensures in
-    let at_is : c.unit_of_bio-at.result ≡ at_of here.thread (unit_at keys c.args.op operation bio c.args.unit) =
-    c.unit_of_bio-at.ensures operation ∙ ap (λ (k : List KeyData). at_of here.thread (unit_at k c.args.op operation bio c.args.unit)) c.keys-keys.ensures in
+    let at_is : c.unit_of_bio-at.result ≡ unit_place_of here.thread (unit_at keys c.args.op operation bio c.args.unit) =
+    c.unit_of_bio-at.ensures operation ∙ ap (λ (k : List KeyData). unit_place_of here.thread (unit_at k c.args.op operation bio c.args.unit)) c.keys-keys.ensures in
     let context : c.unit_of_bio-at.result.context ≡ context_after c.args.unit bio.context = ap (λ (a : UnitAt). a.context) at_is in
     let unit : 512 * unit_sectors keys bio.context ≡ 512 * unit_sectors keys c.unit_of_bio-at.result.context =
     ap (λ n. 512 * n) (sym (sectors_at keys c.args.unit bio.context c.unit_of_bio-at.result.context context)) in
@@ -114,8 +115,8 @@ via-via-requires-clause-key c =
       begun = c.self.inside.keyslots.begun;
       opened = c.self.inside.keyslots.opened;
     } in
-    let at_is : c.unit_of_bio-at.result ≡ at_of here.thread (unit_at keys c.args.op operation bio c.args.unit) =
-    c.unit_of_bio-at.ensures operation ∙ ap (λ (k : List KeyData). at_of here.thread (unit_at k c.args.op operation bio c.args.unit)) c.keys-keys.ensures in
+    let at_is : c.unit_of_bio-at.result ≡ unit_place_of here.thread (unit_at keys c.args.op operation bio c.args.unit) =
+    c.unit_of_bio-at.ensures operation ∙ ap (λ (k : List KeyData). unit_place_of here.thread (unit_at k c.args.op operation bio c.args.unit)) c.keys-keys.ensures in
     let context : c.unit_of_bio-at.result.context ≡ context_after c.args.unit bio.context = ap (λ (a : UnitAt). a.context) at_is in
     key_at (keys_of c.args.self.now.script) c.args.unit bio.context c.unit_of_bio-at.result.context context c.requires.performable.accepted.placed.key
 
@@ -133,8 +134,8 @@ via-via-requires-clause-opened c =
       begun = c.self.inside.keyslots.begun;
       opened = c.self.inside.keyslots.opened;
     } in
-    let at_is : c.unit_of_bio-at.result ≡ at_of here.thread (unit_at keys c.args.op operation bio c.args.unit) =
-    c.unit_of_bio-at.ensures operation ∙ ap (λ (k : List KeyData). at_of here.thread (unit_at k c.args.op operation bio c.args.unit)) c.keys-keys.ensures in
+    let at_is : c.unit_of_bio-at.result ≡ unit_place_of here.thread (unit_at keys c.args.op operation bio c.args.unit) =
+    c.unit_of_bio-at.ensures operation ∙ ap (λ (k : List KeyData). unit_place_of here.thread (unit_at k c.args.op operation bio c.args.unit)) c.keys-keys.ensures in
     let context : c.unit_of_bio-at.result.context ≡ context_after c.args.unit bio.context = ap (λ (a : UnitAt). a.context) at_is in
     open_at c.args.self.now c.args.unit bio.context c.unit_of_bio-at.result.context (sector_at (keys_of c.args.self.now.script) bio c.args.unit) context c.requires.opened
 
@@ -152,9 +153,9 @@ write_unit-requires-clause-key c =
       begun = c.self.inside.keyslots.begun;
       opened = c.self.inside.keyslots.opened;
     } in
-    let performable : IsPerformable here.script bio = subst (λ (v : CourseData). IsPerformable v.script bio) (sym c.self.view_is) c.requires.performable in
-    let at_is : c.unit_of_bio-at.result ≡ at_of here.thread (unit_at keys c.args.op operation bio c.args.unit) =
-    c.unit_of_bio-at.ensures operation ∙ ap (λ (k : List KeyData). at_of here.thread (unit_at k c.args.op operation bio c.args.unit)) c.keys-keys.ensures in
+    let performable : IsPerformableBio here.script bio = subst (λ (v : CourseData). IsPerformableBio v.script bio) (sym c.self.view_is) c.requires.performable in
+    let at_is : c.unit_of_bio-at.result ≡ unit_place_of here.thread (unit_at keys c.args.op operation bio c.args.unit) =
+    c.unit_of_bio-at.ensures operation ∙ ap (λ (k : List KeyData). unit_place_of here.thread (unit_at k c.args.op operation bio c.args.unit)) c.keys-keys.ensures in
     let context : c.unit_of_bio-at.result.context ≡ context_after c.args.unit bio.context = ap (λ (a : UnitAt). a.context) at_is in
     subst (λ (k : List KeyData). HasKey k c.unit_of_bio-at.result.context) (sym c.keys.ensures)
     (key_at keys c.args.unit bio.context c.unit_of_bio-at.result.context context
@@ -174,7 +175,7 @@ write_unit-requires-clause-keys c =
       begun = c.self.inside.keyslots.begun;
       opened = c.self.inside.keyslots.opened;
     } in
-    let performable : IsPerformable here.script bio = subst (λ (v : CourseData). IsPerformable v.script bio) (sym c.self.view_is) c.requires.performable in
+    let performable : IsPerformableBio here.script bio = subst (λ (v : CourseData). IsPerformableBio v.script bio) (sym c.self.view_is) c.requires.performable in
     subst (λ (k : List KeyData). HaveKeys k here.shards) (sym c.keys.ensures) (have_keys c.bio_laws.ensures.sizes c.bio_laws.ensures.blocks here.script keys here.shards c.self.inside.keyslots here.left c.self.invariant here.thread c.args.op operation bio performable c.args.unit c.requires.unit)
 
 pub write_unit-requires-clause-length : goal.write_unit-requires-clause-length
@@ -197,8 +198,8 @@ write_unit-requires-clause-length c =
     let has : HasUnit c.args.text.now c.unit_bytes-size.result c.args.unit =
     subst (λ n. HasUnit c.args.text.now n c.args.unit) (sym size_is) (subst (λ (k : List KeyData). HasUnit c.args.text.now (512 * unit_sectors k bio.context) c.args.unit) keys_are
     (has_unit (keys_of c.args.self.now.script) bio.context bio.units c.args.text.now c.args.unit c.requires.text c.requires.unit)) in
-    let at_is : c.unit_of_bio-at.result ≡ at_of here.thread (unit_at keys c.args.op operation bio c.args.unit) =
-    c.unit_of_bio-at.ensures operation ∙ ap (λ (k : List KeyData). at_of here.thread (unit_at k c.args.op operation bio c.args.unit)) c.keys-keys.ensures in
+    let at_is : c.unit_of_bio-at.result ≡ unit_place_of here.thread (unit_at keys c.args.op operation bio c.args.unit) =
+    c.unit_of_bio-at.ensures operation ∙ ap (λ (k : List KeyData). unit_place_of here.thread (unit_at k c.args.op operation bio c.args.unit)) c.keys-keys.ensures in
     let context : c.unit_of_bio-at.result.context ≡ context_after c.args.unit bio.context = ap (λ (a : UnitAt). a.context) at_is in
     let unit : 512 * unit_sectors keys bio.context ≡ 512 * unit_sectors keys c.unit_of_bio-at.result.context =
     ap (λ n. 512 * n) (sym (sectors_at keys c.args.unit bio.context c.unit_of_bio-at.result.context context)) in
@@ -222,8 +223,8 @@ write_unit-requires-clause-whole c =
     let keys_are : keys_of c.args.self.now.script ≡ keys = sym (c.self.invariant.keys_are ∙ ap (λ (v : CourseData). keys_of v.script) c.self.view_is) in
     let size_is : c.unit_bytes-size.result ≡ 512 * unit_sectors keys bio.context =
     c.unit_bytes-size.ensures.bytes ∙ ap (λ (k : List KeyData). 512 * unit_sectors k bio.context) c.keys-keys.ensures in
-    let at_is : c.unit_of_bio-at.result ≡ at_of here.thread (unit_at keys c.args.op operation bio c.args.unit) =
-    c.unit_of_bio-at.ensures operation ∙ ap (λ (k : List KeyData). at_of here.thread (unit_at k c.args.op operation bio c.args.unit)) c.keys-keys.ensures in
+    let at_is : c.unit_of_bio-at.result ≡ unit_place_of here.thread (unit_at keys c.args.op operation bio c.args.unit) =
+    c.unit_of_bio-at.ensures operation ∙ ap (λ (k : List KeyData). unit_place_of here.thread (unit_at k c.args.op operation bio c.args.unit)) c.keys-keys.ensures in
     let context : c.unit_of_bio-at.result.context ≡ context_after c.args.unit bio.context = ap (λ (a : UnitAt). a.context) at_is in
     let unit : 512 * unit_sectors keys bio.context ≡ 512 * unit_sectors keys c.unit_of_bio-at.result.context =
     ap (λ n. 512 * n) (sym (sectors_at keys c.args.unit bio.context c.unit_of_bio-at.result.context context)) in
@@ -244,9 +245,9 @@ write_unit-requires-clause-sectors c =
       begun = c.self.inside.keyslots.begun;
       opened = c.self.inside.keyslots.opened;
     } in
-    let performable : IsPerformable here.script bio = subst (λ (v : CourseData). IsPerformable v.script bio) (sym c.self.view_is) c.requires.performable in
-    let at_is : c.unit_of_bio-at.result ≡ at_of here.thread (unit_at keys c.args.op operation bio c.args.unit) =
-    c.unit_of_bio-at.ensures operation ∙ ap (λ (k : List KeyData). at_of here.thread (unit_at k c.args.op operation bio c.args.unit)) c.keys-keys.ensures in
+    let performable : IsPerformableBio here.script bio = subst (λ (v : CourseData). IsPerformableBio v.script bio) (sym c.self.view_is) c.requires.performable in
+    let at_is : c.unit_of_bio-at.result ≡ unit_place_of here.thread (unit_at keys c.args.op operation bio c.args.unit) =
+    c.unit_of_bio-at.ensures operation ∙ ap (λ (k : List KeyData). unit_place_of here.thread (unit_at k c.args.op operation bio c.args.unit)) c.keys-keys.ensures in
     subst (λ (k : List KeyData). Own owns here.shards c.unit_of_bio-at.result.sector (unit_sectors k c.unit_of_bio-at.result.context)) (sym c.keys.ensures)
     (own c.bio_laws.ensures.sizes c.bio_laws.ensures.blocks here.script keys here.shards c.self.inside.keyslots here.left c.self.invariant here.thread c.args.op operation bio performable c.args.unit c.requires.unit c.unit_of_bio-at.result at_is)
 
@@ -264,7 +265,7 @@ write_unit-requires-clause-spare c =
       begun = c.self.inside.keyslots.begun;
       opened = c.self.inside.keyslots.opened;
     } in
-    let performable : IsPerformable here.script bio = subst (λ (v : CourseData). IsPerformable v.script bio) (sym c.self.view_is) c.requires.performable in
+    let performable : IsPerformableBio here.script bio = subst (λ (v : CourseData). IsPerformableBio v.script bio) (sym c.self.view_is) c.requires.performable in
     let more : AllStand here.script (here.left + 1) here.shards = subst (λ (v : CourseData). AllStand v.script (v.left + 1) v.shards) (sym c.self.view_is) c.requires.spare in
     spare c.bio_laws.ensures.sizes c.bio_laws.ensures.blocks here.script keys here.shards c.self.inside.keyslots here.left c.self.invariant here.thread c.args.op operation bio performable c.args.unit c.requires.unit c.unit_of_bio-at.result more
 
@@ -282,7 +283,7 @@ invariant_of-self c =
       begun = c.self.inside.keyslots.begun;
       opened = c.self.inside.keyslots.opened;
     } in
-    let performable : IsPerformable here.script bio = subst (λ (v : CourseData). IsPerformable v.script bio) (sym c.self.view_is) c.requires.performable in
+    let performable : IsPerformableBio here.script bio = subst (λ (v : CourseData). IsPerformableBio v.script bio) (sym c.self.view_is) c.requires.performable in
     let more : AllStand here.script (here.left + 1) here.shards = subst (λ (v : CourseData). AllStand v.script (v.left + 1) v.shards) (sym c.self.view_is) c.requires.spare in
     let tried = subst (λ (k : List KeyData). Attempted k here.shards c.write_unit.new.shards (entry_of_write c.unit_of_bio-at.result c.via-via.result c.in_ok-plain.plain.items c.write_unit.result)
     (answer_of_write c.write_unit.result)) c.keys.ensures c.write_unit.ensures in
@@ -303,11 +304,11 @@ returns-clause-attempts c =
       begun = c.self.inside.keyslots.begun;
       opened = c.self.inside.keyslots.opened;
     } in
-    let performable : IsPerformable here.script bio = subst (λ (v : CourseData). IsPerformable v.script bio) (sym c.self.view_is) c.requires.performable in
+    let performable : IsPerformableBio here.script bio = subst (λ (v : CourseData). IsPerformableBio v.script bio) (sym c.self.view_is) c.requires.performable in
     let opened : HasOpenAt here bio.context (sector_at (keys_of here.script) bio c.args.unit) =
     subst (λ (v : CourseData). HasOpenAt v bio.context (sector_at (keys_of v.script) bio c.args.unit)) (sym c.self.view_is) c.requires.opened in
-    let at_is : c.unit_of_bio-at.result ≡ at_of here.thread (unit_at keys c.args.op operation bio c.args.unit) =
-    c.unit_of_bio-at.ensures operation ∙ ap (λ (k : List KeyData). at_of here.thread (unit_at k c.args.op operation bio c.args.unit)) c.keys-keys.ensures in
+    let at_is : c.unit_of_bio-at.result ≡ unit_place_of here.thread (unit_at keys c.args.op operation bio c.args.unit) =
+    c.unit_of_bio-at.ensures operation ∙ ap (λ (k : List KeyData). unit_place_of here.thread (unit_at k c.args.op operation bio c.args.unit)) c.keys-keys.ensures in
     let context : c.unit_of_bio-at.result.context ≡ context_after c.args.unit bio.context = ap (λ (a : UnitAt). a.context) at_is in
     let size_is : c.unit_bytes-size.result ≡ 512 * unit_sectors keys bio.context =
     c.unit_bytes-size.ensures.bytes ∙ ap (λ (k : List KeyData). 512 * unit_sectors k bio.context) c.keys-keys.ensures in
@@ -316,8 +317,8 @@ returns-clause-attempts c =
     let u = unit_at (keys_of here.script) c.args.op operation bio c.args.unit in
     let plain = c.in_ok-plain.plain.items in
     let e = entry_of_write c.unit_of_bio-at.result c.via-via.result plain c.write_unit.result in
-    let mine : c.unit_of_bio-at.result ≡ at_of here.thread u =
-    at_is ∙ ap (λ (k : List KeyData). at_of here.thread (unit_at k c.args.op operation bio c.args.unit)) c.self.invariant.keys_are in
+    let mine : c.unit_of_bio-at.result ≡ unit_place_of here.thread u =
+    at_is ∙ ap (λ (k : List KeyData). unit_place_of here.thread (unit_at k c.args.op operation bio c.args.unit)) c.self.invariant.keys_are in
     let bytes : plain ≡ u.bytes =
     c.in_ok-plain.ensures ∙ ap (λ n. text_at c.args.text.now n c.args.unit) (size_is ∙ ap (λ (k : List KeyData). 512 * unit_sectors k bio.context) c.self.invariant.keys_are) in
     let its : IsEntryOf here.thread u e =

@@ -1,7 +1,7 @@
 use Rattle.std.proofs.Common.{◌<◌, ◌≤◌, ◌+◌, arith, ap, length, subst, sym}
 use Rattle.bc_script.specs.declared.op.Op.TheVariants as ops
-use Rattle.bc_section.specs.Reached.{HasReset}
-use Rattle.bc_serial.specs.Standing.{CourseData, device_of}
+use Rattle.bc_section.specs.SectionProgress.{HasReset}
+use Rattle.bc_serial.specs.Standing.{CourseData, own_device}
 use Rattle.bc_serial.proofs.Affording.{first_fits, next_fits}
 use Rattle.bc_serial.proofs.Evicting.{is_reset}
 use Rattle.bc_serial.proofs.direct.DirectDeviceUnitAnswerAllocError.reset.Goals as goal
@@ -13,7 +13,7 @@ reset-requires-clause-spare c =
 
 pub returns-clause-done : goal.returns-clause-done
 returns-clause-done c =
-    subst (λ (v : CourseData). HasReset (device_of v) (device_of c.reset.new.self) c.args._op c.args.device) c.self.view_is
+    subst (λ (v : CourseData). HasReset (own_device v) (own_device c.reset.new.self) c.args._op c.args.device) c.self.view_is
     (is_reset c.self.inside.course c.reset.new.self c.args._op c.args.device c.has_begun.ensures c.has_devices.ensures.devices (subst (λ (v : CourseData). c.args.device < length v.script.targets) (sym c.self.view_is) c.requires.rules) c.reset.ensures)
 
 pub returns-clause-room : goal.returns-clause-room

@@ -8,16 +8,16 @@ use Rattle.bc_section.specs.Sections.{DeviceData}
 use Rattle.std.specs.List.{AllByRecursion}
 use Rattle.bc_report.specs.declared.answer.Answer.{Answer}
 use Rattle.bc_section.specs.Sections.{cost_in}
-use Rattle.bc_section.specs.Reached.{MayBePlugged, Settled, Submitted, numbered}
-use Rattle.bc_serial.specs.Standing.{CourseData, HasBegun, device_of}
+use Rattle.bc_section.specs.SectionProgress.{MayBePlugged, Settled, Submitted, numbered}
+use Rattle.bc_serial.specs.Standing.{CourseData, HasBegun, own_device}
 use Rattle.bc_serial.specs.InTurn.{InWindow}
 use Rattle.bc_serial.proofs.Affording.{front_fits, after_fits, answers_as_they_are}
 use Rattle.bc_section.proofs.Lists.{all_read}
 use Rattle.bc_serial.proofs.Turning.{window_begins}
-use Rattle.bc_serial.proofs.Counting.{numbered_accepted}
 use Rattle.bc_serial.proofs.Submitting.{TurnedBy, window_submitted}
 use Rattle.bc_serial.proofs.Windowing.{window_none, window_more, spare_in_window, read_within, plugged_within, follows_none, follows_more}
 use Rattle.bc_serial.proofs.direct.DirectDeviceUnitAnswerAllocError.window.Goals as goal
+use Rattle.bc_section.proofs.Numbered.{numbered_accepted}
 
 pub loop-op-init : goal.loop-op-init
 loop-op-init c =
@@ -70,10 +70,10 @@ returns-clause-done c =
     let acts = numbered c.args.section.now c.args.window.now in
     let p = c.loop-op.invariant.done in
     let whole : take c.loop-op.op-index c.args.window.now ≡ c.args.window.now = take_all c.loop-op.op-index c.args.window.now (let no' = c.loop-op-test.false in omega arith) in
-    let same : device_of c.put-2.new.self ≡ device_of c.loop-op.self = ap device_of (c.put-2.ensures ∙ ap (λ (m : CourseData). record m { opened = None }) c.self-2.view_is) in
+    let same : own_device c.put-2.new.self ≡ own_device c.loop-op.self = ap own_device (c.put-2.ensures ∙ ap (λ (m : CourseData). record m { opened = None }) c.self-2.view_is) in
     let done = subst (λ w. TurnedBy start c.loop-op.self (numbered c.args.section.now w) p.told) whole (p.carried, p.turn) in
     let accepted = numbered_accepted c.args.self.now.script c.args.section.now c.args.window.now c.requires.bios in
-    subst (λ (d : DeviceData). Submitted (device_of start) d acts) (sym same)
+    subst (λ (d : DeviceData). Submitted (own_device start) d acts) (sym same)
     (window_submitted start c.loop-op.self acts p.told
     (subst (λ (m : CourseData). length m.journals ≡ length m.script.targets) c.self.view_is c.has_devices.ensures.devices)
     (subst (λ (m : CourseData). HasBegun m.begun m.journals) c.self.view_is c.has_begun.ensures)
@@ -83,17 +83,17 @@ pub returns-clause-told : goal.returns-clause-told
 returns-clause-told c =
     let p = c.loop-op.invariant.done in
     let whole : take c.loop-op.op-index c.args.window.now ≡ c.args.window.now = take_all c.loop-op.op-index c.args.window.now (let no' = c.loop-op-test.false in omega arith) in
-    let same : device_of c.put-2.new.self ≡ device_of c.loop-op.self = ap device_of (c.put-2.ensures ∙ ap (λ (m : CourseData). record m { opened = None }) c.self-2.view_is) in
-    subst (λ (l : List (Option Answer)). AllByRecursion (Settled (device_of c.put-2.new.self) c.args.section.now l) c.args.window.now) (sym (answers_as_they_are c.loop-op.answers))
+    let same : own_device c.put-2.new.self ≡ own_device c.loop-op.self = ap own_device (c.put-2.ensures ∙ ap (λ (m : CourseData). record m { opened = None }) c.self-2.view_is) in
+    subst (λ (l : List (Option Answer)). AllByRecursion (Settled (own_device c.put-2.new.self) c.args.section.now l) c.args.window.now) (sym (answers_as_they_are c.loop-op.answers))
     (subst (λ (d : DeviceData). AllByRecursion (Settled d c.args.section.now c.loop-op.answers) c.args.window.now) (sym same)
-    (subst (λ (w : List ℕ). AllByRecursion (Settled (device_of c.loop-op.self) c.args.section.now c.loop-op.answers) w) whole p.settled))
+    (subst (λ (w : List ℕ). AllByRecursion (Settled (own_device c.loop-op.self) c.args.section.now c.loop-op.answers) w) whole p.settled))
 
 pub returns-clause-room : goal.returns-clause-room
 returns-clause-room c = λ after fits.
     let acts = numbered c.args.section.now c.args.window.now in
     let p = c.loop-op.invariant.done in
     let whole : take c.loop-op.op-index c.args.window.now ≡ c.args.window.now = take_all c.loop-op.op-index c.args.window.now (let no' = c.loop-op-test.false in omega arith) in
-    let same : device_of c.put-2.new.self ≡ device_of c.loop-op.self = ap device_of (c.put-2.ensures ∙ ap (λ (m : CourseData). record m { opened = None }) c.self-2.view_is) in
+    let same : own_device c.put-2.new.self ≡ own_device c.loop-op.self = ap own_device (c.put-2.ensures ∙ ap (λ (m : CourseData). record m { opened = None }) c.self-2.view_is) in
     let paid : c.args.self.now.left ≤ c.loop-op.self.left + cost_in acts =
     subst (λ (w : List ℕ). c.args.self.now.left ≤ c.loop-op.self.left + cost_in (numbered c.args.section.now w)) whole p.carried.spare in
     after_fits acts after c.args.self.now.left c.put-2.new.self.left

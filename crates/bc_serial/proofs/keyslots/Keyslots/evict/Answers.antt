@@ -5,7 +5,7 @@ use Rattle.bc_profile.specs.declared.event.Event.{Event}
 use Rattle.bc_profile.specs.declared.uses.Use.TheVariants as uses
 use Rattle.bc_script.specs.Script.{keys_of}
 use Rattle.bc_serial.specs.declared.open_hold.OpenHold.{OpenHold}
-use Rattle.bc_serial.specs.Keyslots.{KeyslotsData, HaveNotKey, IsRidOf, IsKeyslots, HasRoom, MayEvict, evicted, journal_in, used_each, max_events}
+use Rattle.bc_serial.specs.Keyslots.{KeyslotsData, HaveNotKey, IsRidOf, IsKeyslots, JournalHasRoom, MayEvict, evicted, journal_in, used_each, max_events}
 use Rattle.bc_section.proofs.Lists.{list_at_map}
 use Rattle.bc_serial.proofs.KeptSlots.{may_evict, evict_keeps, evict_uses, written_back, small_key, device_of, at_below}
 use Rattle.bc_serial.proofs.TakenOut.{none_has_key}
@@ -19,7 +19,7 @@ evict_from-requires c =
     let is = subst (λ o. IsKeyslots s.script.now s.stack s.caps.items s.devices.items (map (λ v. v.items) s.ciphers.items) s.begun.value.items o) none c.self.invariant in
     let inside : c.args.key.0 < length (keys_of s.script.now) = subst (λ (k : KeyslotsData). c.args.key.0 < length (keys_of k.script)) (sym same) c.requires.key in
     let room : (i : ℕ) → i < length s.script.now.targets → length (list_at (map journal_in s.devices.items) i) + 1 ≤ max_events =
-    subst (λ (k : KeyslotsData). (i : ℕ) → i < length k.script.targets → HasRoom k i 1) (sym same) c.requires.room in
+    subst (λ (k : KeyslotsData). (i : ℕ) → i < length k.script.targets → JournalHasRoom k i 1) (sym same) c.requires.room in
     subst (Each (MayEvict c.args.key.0)) (sym c.deref_mut.ensures.value) (may_evict _ _ _ _ _ _ is c.args.key.0 inside room)
 
 pub invariant_of-self : goal.invariant_of-self
@@ -30,7 +30,7 @@ invariant_of-self c =
     let is = subst (λ o. IsKeyslots s.script.now s.stack s.caps.items s.devices.items (map (λ v. v.items) s.ciphers.items) s.begun.value.items o) none c.self.invariant in
     let inside : c.args.key.0 < length (keys_of s.script.now) = subst (λ (k : KeyslotsData). c.args.key.0 < length (keys_of k.script)) (sym same) c.requires.key in
     let room : (i : ℕ) → i < length s.script.now.targets → length (list_at (map journal_in s.devices.items) i) + 1 ≤ max_events =
-    subst (λ (k : KeyslotsData). (i : ℕ) → i < length k.script.targets → HasRoom k i 1) (sym same) c.requires.room in
+    subst (λ (k : KeyslotsData). (i : ℕ) → i < length k.script.targets → JournalHasRoom k i 1) (sym same) c.requires.room in
     let new : c.evict_from.new.devices ≡ map (evicted c.args.key.0) s.devices.items = c.evict_from.ensures.records ∙ ap (map (evicted c.args.key.0)) c.deref_mut.ensures.value in
     let many : length c.evict_from.new.devices ≡ s.devices.len = ap length new ∙ length-map s.devices.items (evicted c.args.key.0) ∙ sym s.devices.ok.0 in
     subst (λ (o : Option OpenHold). IsKeyslots s.script.now s.stack s.caps.items (take s.devices.len (c.evict_from.new.devices ++ drop (length c.evict_from.new.devices) s.devices.items)) (map (λ v. v.items) s.ciphers.items) s.begun.value.items o) (sym none)
@@ -61,7 +61,7 @@ returns-clause-gone c =
     let is = subst (λ o. IsKeyslots s.script.now s.stack s.caps.items s.devices.items (map (λ v. v.items) s.ciphers.items) s.begun.value.items o) none c.self.invariant in
     let inside : c.args.key.0 < length (keys_of s.script.now) = subst (λ (k : KeyslotsData). c.args.key.0 < length (keys_of k.script)) (sym same) c.requires.key in
     let room : (i : ℕ) → i < length s.script.now.targets → length (list_at (map journal_in s.devices.items) i) + 1 ≤ max_events =
-    subst (λ (k : KeyslotsData). (i : ℕ) → i < length k.script.targets → HasRoom k i 1) (sym same) c.requires.room in
+    subst (λ (k : KeyslotsData). (i : ℕ) → i < length k.script.targets → JournalHasRoom k i 1) (sym same) c.requires.room in
     let new : c.evict_from.new.devices ≡ map (evicted c.args.key.0) s.devices.items = c.evict_from.ensures.records ∙ ap (map (evicted c.args.key.0)) c.deref_mut.ensures.value in
     let many : length c.evict_from.new.devices ≡ s.devices.len = ap length new ∙ length-map s.devices.items (evicted c.args.key.0) ∙ sym s.devices.ok.0 in
     let back = written_back s.devices.len c.evict_from.new.devices s.devices.items many in

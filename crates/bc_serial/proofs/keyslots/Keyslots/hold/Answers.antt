@@ -14,13 +14,14 @@ use Rattle.bc_profile.specs.Programmings.{Holds}
 use Rattle.bc_profile.specs.Solo.{SoloData, row_in, slots_of as slots_in}
 use Rattle.bc_script.specs.Bios.{is_inline}
 use Rattle.bc_script.specs.Script.{keys_of}
-use Rattle.bc_compose.specs.Ordered.{slots_of}
+use Rattle.bc_compose.specs.OrderedHolds.{slot_count_of}
 use Rattle.bc_serial.specs.declared.open_hold.OpenHold.{OpenHold}
-use Rattle.bc_serial.specs.Keyslots.{KeyslotsData, giving_back, IsKeyslots, HasRoom, KeepsTo, journal_in, used_at, max_events}
-use Rattle.bc_section.proofs.Lists.{all_read, at_set, list_at_map}
+use Rattle.bc_serial.specs.Keyslots.{KeyslotsData, giving_back, IsKeyslots, JournalHasRoom, MeansItsWords, journal_in, used_at, max_events}
+use Rattle.bc_section.proofs.Lists.{all_read, list_at_map}
 use Rattle.bc_serial.proofs.KeptSlots.{holds_idle, slots_are, use_of_one, chosen, has_row, has_spare, held_inside, read_back, mapped_at, caps_is, hold_keeps, hold_events, hold_allowed, few_of_hold, small_slot, small_key}
 use Rattle.bc_serial.proofs.SlotRows.{row_is, row_reads, kept_means}
 use Rattle.bc_serial.proofs.keyslots.Keyslots.hold.Goals as goal
+use Rattle.bc_base.proofs.Members.{at_set}
 
 pub hold-slot-requires-clause-free : goal.hold-slot-requires-clause-free
 hold-slot-requires-clause-free c =
@@ -56,7 +57,7 @@ hold-slot-requires-clause-spare c =
     let named : c.args.key.0 < length (keys_of s.script.now) = subst (λ (k : KeyslotsData). c.args.key.0 < length (keys_of k.script)) (sym same) c.requires.key in
     let solo = c.index_mut.result.now in
     let it = chosen _ _ _ _ _ _ is c.args.device c.args.key.0 solo inside named (c.index_mut.ensures.value ∙ ap (λ k. get_or s.devices.items k solo) c.from-number.ensures) in
-    let room : length (list_at (map journal_in s.devices.items) c.args.device) + 2 ≤ max_events = subst (λ (k : KeyslotsData). HasRoom k c.args.device 2) (sym same) c.requires.room in
+    let room : length (list_at (map journal_in s.devices.items) c.args.device) + 2 ≤ max_events = subst (λ (k : KeyslotsData). JournalHasRoom k c.args.device 2) (sym same) c.requires.room in
     has_spare _ _ _ _ _ _ is c.args.device 2 solo it.solo_at room
 
 pub row-words-requires : goal.row-words-requires
@@ -123,8 +124,8 @@ keep_cipher-requires-clause-kept c =
     ∙ ap (λ w. read_words w (capabilities_of it.target.caps)) (c.row-words.ensures ∙ ap (λ d. row_in d slot) written
     ∙ row_is s.script.now it.target new c.args.key.0 slot c.hold-slot.result.1 it.k (ap (λ (d : SoloData). d.rows) c.hold-slot.ensures.records ∙ it.of.rows) it.is_key holds)
     ∙ row_reads s.script.now c.args.key.0 c.args.device it.target it.k c.entry_laws.ensures.read_back inline it.target_at it.is_key it.valid in
-    subst (λ caps. KeepsTo caps c.index_mut-3.result.now) (sym own)
-    (all_read (KeepsTo (capabilities_of it.target.caps)) kept.items slot c.index_mut-3.result.now old.1 (omega (arith, slot_in, old.0)) (c.index_mut-3.ensures.value ∙ ap (λ k. get_or kept.items k c.index_mut-3.result.now) c.from.ensures))
+    subst (λ caps. MeansItsWords caps c.index_mut-3.result.now) (sym own)
+    (all_read (MeansItsWords (capabilities_of it.target.caps)) kept.items slot c.index_mut-3.result.now old.1 (omega (arith, slot_in, old.0)) (c.index_mut-3.ensures.value ∙ ap (λ k. get_or kept.items k c.index_mut-3.result.now) c.from.ensures))
 
 pub keep_cipher-requires-clause-reads : goal.keep_cipher-requires-clause-reads
 keep_cipher-requires-clause-reads c =
@@ -176,7 +177,7 @@ invariant_of-self c =
     ∙ ap (λ w. read_words w (capabilities_of it.target.caps)) (c.row-words.ensures ∙ ap (λ d. row_in d slot) written
     ∙ row_is s.script.now it.target new c.args.key.0 slot c.hold-slot.result.1 it.k (ap (λ (d : SoloData). d.rows) c.hold-slot.ensures.records ∙ it.of.rows) it.is_key holds)
     ∙ row_reads s.script.now c.args.key.0 c.args.device it.target it.k c.entry_laws.ensures.read_back inline it.target_at it.is_key it.valid in
-    let room : length (list_at (map journal_in s.devices.items) c.args.device) + 2 ≤ max_events = subst (λ (k : KeyslotsData). HasRoom k c.args.device 2) (sym same) c.requires.room in
+    let room : length (list_at (map journal_in s.devices.items) c.args.device) + 2 ≤ max_events = subst (λ (k : KeyslotsData). JournalHasRoom k c.args.device 2) (sym same) c.requires.room in
     let more = events_of_hold (slots_in solo) c.args.key.0 in
     let long : length (list_at (map journal_in s.devices.items) c.args.device) ≡ length (journal_in solo) = ap length (list_at_map journal_in s.devices.items c.args.device solo it.solo_at) in
     let few : length (journal_in solo) + (length more + 1) ≤ max_events = let one = few_of_hold (slots_in solo) c.args.key.0 in omega (arith, room, long, one) in
@@ -218,13 +219,13 @@ returns c =
     ap (λ h. new.journal ++ giving_back h) (sym (ap (λ (d : SoloData). d.held) c.hold-slot.ensures.records))
     ∙ sym (list_at_map journal_in (slice_set s.devices.items c.args.device new) c.args.device new (at_set s.devices.items c.args.device solo new it.solo_at))
     ∙ ap (λ k. list_at (map journal_in (slice_set s.devices.items k new)) c.args.device) (sym c.from-number.ensures) in
-    let count : new.count ≡ slots_of c.args.self.now.script c.args.device =
-    ap (λ (d : SoloData). d.count) c.hold-slot.ensures.records ∙ it.of.count ∙ sym (slots_are s.script.now c.args.device it.target it.target_at) ∙ ap (λ (k : KeyslotsData). slots_of k.script c.args.device) same in
+    let count : new.count ≡ slot_count_of c.args.self.now.script c.args.device =
+    ap (λ (d : SoloData). d.count) c.hold-slot.ensures.records ∙ it.of.count ∙ sym (slots_are s.script.now c.args.device it.target it.target_at) ∙ ap (λ (k : KeyslotsData). slot_count_of k.script c.args.device) same in
     record {
       slot = slot;
       event = event;
       records = ap (λ (l : List (List Event)). record here { journals = l; opened = Some hold }) used
           ∙ ap (λ (k : KeyslotsData). record k { journals = used_at k.script c.args.device (uses.Hold c.args.key) k.journals; opened = Some hold }) same;
-      holds = subst (λ l. Holds (slots_of c.args.self.now.script c.args.device) l c.args.key.0 slot event) journal
+      holds = subst (λ l. Holds (slot_count_of c.args.self.now.script c.args.device) l c.args.key.0 slot event) journal
           (subst (λ n. Holds n (new.journal ++ events.Idle slot ∷ []) c.args.key.0 slot event) count (holds_idle new.count new.journal c.args.key.0 slot event slot c.hold-slot.ensures.holds));
     }

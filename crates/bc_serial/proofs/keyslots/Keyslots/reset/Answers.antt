@@ -5,7 +5,7 @@ use Rattle.bc_profile.specs.declared.event.Event.{Event}
 use Rattle.bc_profile.specs.declared.event.Event.TheVariants as events
 use Rattle.bc_profile.specs.declared.uses.Use.TheVariants as uses
 use Rattle.bc_serial.specs.declared.open_hold.OpenHold.{OpenHold}
-use Rattle.bc_serial.specs.Keyslots.{KeyslotsData, IsKeyslots, HasRoom, journal_in, used_at, max_events}
+use Rattle.bc_serial.specs.Keyslots.{KeyslotsData, IsKeyslots, JournalHasRoom, journal_in, used_at, max_events}
 use Rattle.bc_section.proofs.Lists.{list_at_map}
 use Rattle.bc_serial.proofs.KeptSlots.{at_read, free_is, has_spare, next_keeps, use_of_one, device_of}
 use Rattle.bc_serial.proofs.keyslots.Keyslots.reset.Goals as goal
@@ -32,7 +32,7 @@ reset-requires-clause-spare c =
     let below : c.args.device < length s.devices.items = let n = is.count in omega (arith, inside, n) in
     let at : At s.devices.items c.args.device c.index_mut.result.now =
     at_read s.devices.items c.args.device c.index_mut.result.now below (c.index_mut.ensures.value ∙ ap (λ k. get_or s.devices.items k c.index_mut.result.now) c.from.ensures) in
-    let room : length (list_at (map journal_in s.devices.items) c.args.device) + 1 ≤ max_events = subst (λ (k : KeyslotsData). HasRoom k c.args.device 1) (sym same) c.requires.room in
+    let room : length (list_at (map journal_in s.devices.items) c.args.device) + 1 ≤ max_events = subst (λ (k : KeyslotsData). JournalHasRoom k c.args.device 1) (sym same) c.requires.room in
     has_spare _ _ _ _ _ _ is c.args.device 1 c.index_mut.result.now at room
 
 pub invariant_of-self : goal.invariant_of-self
@@ -45,7 +45,7 @@ invariant_of-self c =
     let below : c.args.device < length s.devices.items = let n = is.count in omega (arith, inside, n) in
     let at : At s.devices.items c.args.device c.index_mut.result.now =
     at_read s.devices.items c.args.device c.index_mut.result.now below (c.index_mut.ensures.value ∙ ap (λ k. get_or s.devices.items k c.index_mut.result.now) c.from.ensures) in
-    let room : length (list_at (map journal_in s.devices.items) c.args.device) + 1 ≤ max_events = subst (λ (k : KeyslotsData). HasRoom k c.args.device 1) (sym same) c.requires.room in
+    let room : length (list_at (map journal_in s.devices.items) c.args.device) + 1 ≤ max_events = subst (λ (k : KeyslotsData). JournalHasRoom k c.args.device 1) (sym same) c.requires.room in
     let few : length (journal_in c.index_mut.result.now) + (1 + 0) ≤ max_events = subst (λ j. length j + 1 ≤ max_events) (list_at_map journal_in s.devices.items c.args.device c.index_mut.result.now at) room in
     subst (λ (o : Option OpenHold). IsKeyslots s.script.now s.stack s.caps.items (slice_set s.devices.items c.from.result c.reset.new.self) (map (λ v. v.items) s.ciphers.items) s.begun.value.items o) (sym none)
     (subst (λ k. IsKeyslots s.script.now s.stack s.caps.items (slice_set s.devices.items k c.reset.new.self) (map (λ v. v.items) s.ciphers.items) s.begun.value.items None) (sym c.from.ensures)

@@ -1,9 +1,9 @@
 use Rattle.std.proofs.Common.{None, ap, ◌∙◌}
 use Rattle.std.specs.Prelude.{slice_get}
 use Rattle.bc_threads.proofs.Affording.{without_one}
-use Rattle.bc_threads.proofs.Noting.{get_set_other}
 use Rattle.bc_threads.proofs.Refusing.{has_bio}
 use Rattle.bc_threads.proofs.sharing.SharingDeviceOutcomeInfallible.refuse.Goals as goal
+use Rattle.bc_section.proofs.Reaching.{get_set_other}
 
 pub take_bio-bio-requires : goal.take_bio-bio-requires
 take_bio-bio-requires g c =

@@ -1,6 +1,6 @@
 use Rattle.std.proofs.Common.{ap, sym, ◌∙◌, subst, arith, length, inl}
 use Rattle.bc_turn.specs.Turning.{mine}
-use Rattle.bc_turn.specs.Parts.{GoesOn}
+use Rattle.bc_turn.specs.PassParts.{GoesOn}
 use Rattle.bc_turn.proofs.Passes.{count_more, held_is}
 use Rattle.bc_turn.proofs.post.Post.give.Goals as goal
 

@@ -5,7 +5,7 @@ use mathlib.Core.List.{reverse}
 use Rattle.bc_base.specs.Lists.{Each}
 use Rattle.bc_turn.specs.Turning.{sum_of, names, has}
 use Rattle.bc_base.specs.Lists.{EachFrom}
-use Rattle.bc_turn.specs.Parts.{CellData, IsClosed, cut_to, accounts_from}
+use Rattle.bc_turn.specs.PassParts.{CellData, IsClosed, cut_to, accounts_from}
 use Rattle.bc_base.proofs.Lists.{each_back, each_front}
 use Rattle.bc_turn.proofs.Rounds.{round, has_some, cut_parts, cut_cells, named_all, none_holds, cut_again, cut_none, closes_one, more_closed}
 use Rattle.bc_turn.proofs.turns.Turns.close.Goals as goal

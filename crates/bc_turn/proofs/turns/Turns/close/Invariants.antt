@@ -3,7 +3,7 @@ use Rattle.std.specs.Prelude.{vec_len, vec_capacity}
 use mathlib.Core.List.{reverse}
 use Rattle.bc_base.specs.Lists.{Each}
 use Rattle.bc_base.specs.Lists.{EachFrom}
-use Rattle.bc_turn.specs.Parts.{IsClosed, cut_to}
+use Rattle.bc_turn.specs.PassParts.{IsClosed, cut_to}
 use Rattle.bc_turn.proofs.turns.Turns.close.Given as goal
 
 abbrev pub invariant-loop-cell : goal.invariant-loop-cell

@@ -5,7 +5,7 @@ use Rattle.std.proofs.lemmas.List.FromFn.{length-map-range_with_len}
 use mathlib.Core.List.{reverse}
 use Rattle.bc_base.specs.Lists.{Each}
 use Rattle.bc_turn.specs.Turning.{newcomers, view_of}
-use Rattle.bc_turn.specs.Parts.{CellData, new_pass, with_cell}
+use Rattle.bc_turn.specs.PassParts.{CellData, new_pass, with_cell}
 use Rattle.bc_turn.proofs.Rounds.{all_bases, more_cells, numbers_new, map-map'}
 use Rattle.bc_base.proofs.Lists.{each_back, each_front, each_append, each_reverse}
 use Rattle.bc_turn.proofs.turns.Turns.open.Goals as goal

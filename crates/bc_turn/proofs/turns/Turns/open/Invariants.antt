@@ -2,7 +2,7 @@ use Rattle.std.proofs.Common.{◌≡◌, ◌++◌, [], map, length}
 use Rattle.std.specs.List.{range_with_len}
 use mathlib.Core.List.{reverse}
 use Rattle.bc_base.specs.Lists.{Each}
-use Rattle.bc_turn.specs.Parts.{new_pass}
+use Rattle.bc_turn.specs.PassParts.{new_pass}
 use Rattle.bc_turn.proofs.turns.Turns.open.Given as goal
 
 abbrev pub invariant-loop-value : goal.invariant-loop-value

@@ -1,0 +1,5 @@
+use Rattle.bc_report.proofs.NoValue.{no_found_busy}
+use Rattle.bc_report.proofs.line_values.found_busy.Goals as goal
+
+pub returns-in_err-slot : goal.returns-in_err-slot
+returns-in_err-slot c = rw c.from_residual.ensures (no_found_busy c.args.fields c.in_err-slot.ensures)

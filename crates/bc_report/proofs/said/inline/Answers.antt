@@ -1,5 +1,0 @@
-use Rattle.bc_report.proofs.NoValue.{no_inline}
-use Rattle.bc_report.proofs.said.inline.Goals as goal
-
-pub returns-in_err-device : goal.returns-in_err-device
-returns-in_err-device c = rw c.from_residual.ensures (no_inline c.args.fields c.in_err-device.ensures)
