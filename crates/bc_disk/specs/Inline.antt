@@ -11,8 +11,8 @@ use Rattle.bc_pieces.specs.Pieces.{named_on, pieces_on}
 
 -- the pass has room for these pieces: an entry for each unit on its shard, and two events for each piece on its device;
 -- of a device without pieces nothing is asked
-pub record HasRoomOn {S : Type 0} (devices : QueueDevicesData S) (slots : List SlotFacts) (units : Pass Entry (OpeningData S))
-    (pieces : List (List NamedUnit)) : Type 0 where
+pub record HasRoomOn {S : Type 0} (devices : QueueDevicesData S) (slots : List SlotFacts)
+    (units : Pass Entry (OpeningData S)) (pieces : List (List NamedUnit)) : Type 0 where
   pub entries : (shard : ℕ) → sum_by (named_on (shards_of devices.queue.medium) shard) pieces
       ≤ spare_of devices.queue.medium units shard
   pub events : (device : ℕ) → 1 ≤ pieces_on devices.targets device pieces

@@ -33,7 +33,8 @@ said_by options = record {
 
 -- what numbers of `make` that were read say
 abbrev pub options_of_making : Making → MakeOptions
-options_of_making making = record { n = making.n; slots = making.slots; shards = making.shards; at_once = making.at_once }
+options_of_making making =
+    record { n = making.n; slots = making.slots; shards = making.shards; at_once = making.at_once }
 
 -- a text was not read: no script has it, and this is its error; or there was no memory
 abbrev pub IsNotRead : List ℕ → Status → Type 0
