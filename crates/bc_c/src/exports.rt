@@ -29,7 +29,8 @@ pub struct BlkcryptNumber {
 
 /// Whether a key is one: 0, or the number of the first test that it fails. A mode is 1 for
 /// AES-256-XTS or 2 for AES-128-CBC-ESSIV, `unit` a data unit's size in bytes, `number_bytes` how
-/// many bytes the numbers of its data units may have, and `raw` the key's bytes.
+/// many bytes the numbers of its data units may have, and `raw` the key's bytes. The tests 1 to 4 are
+/// those of [`Key::new`](bc_key::Key::new) in its order, and 5 comes before them: the mode is neither.
 #[unsafe(no_mangle)]
 pub extern "C" fn blkcrypt_check_key(mode: u32, unit: u32, number_bytes: u8, raw: &[u8]) -> u32
     ensures { result ≡ key_status mode unit number_bytes raw.now }
@@ -40,8 +41,10 @@ pub extern "C" fn blkcrypt_check_key(mode: u32, unit: u32, number_bytes: u8, raw
     }
 }
 
-/// Enciphers whole consecutive data units in place, each under the number that follows. Gives 0, or
-/// else the number of the first test that the call fails, and then the buffer is as it was.
+/// Enciphers whole consecutive data units in place, each under the number that follows. Mode, unit
+/// and key are those of [`blkcrypt_check_key`], with numbers of 16 bytes. Gives 0, or else the number
+/// of the first test that the call fails, and then the buffer is as it was: the key's tests, then 6
+/// where the buffer isn't whole data units, and 7 where some number has more than 16 bytes.
 #[unsafe(no_mangle)]
 pub extern "C" fn blkcrypt_encrypt_units(
     mode: u32,
@@ -58,8 +61,10 @@ pub extern "C" fn blkcrypt_encrypt_units(
     carry(Direction::Encrypt, mode, unit, raw, first, texts)
 }
 
-/// Deciphers whole consecutive data units in place, each under the number that follows. Gives 0, or
-/// else the number of the first test that the call fails, and then the buffer is as it was.
+/// Deciphers whole consecutive data units in place, each under the number that follows. Mode, unit
+/// and key are those of [`blkcrypt_check_key`], with numbers of 16 bytes. Gives 0, or else the number
+/// of the first test that the call fails, and then the buffer is as it was: the key's tests, then 6
+/// where the buffer isn't whole data units, and 7 where some number has more than 16 bytes.
 #[unsafe(no_mangle)]
 pub extern "C" fn blkcrypt_decrypt_units(
     mode: u32,

@@ -11,7 +11,8 @@ use bc_modes::UnitCipher;
 /// The numbers of data units may have so many bytes.
 pub const NUMBER_BYTES: u8 = 16;
 
-/// Whether the number of some unit has more bytes than that.
+/// Whether some of `units` consecutive data units, of which the first has the number `first`, has a
+/// number of more than [`NUMBER_BYTES`] bytes.
 pub fn runs_out(first: &Dun, units: usize) -> bool
     ensures { result ≡ runs_out first.now units }
 {
@@ -37,7 +38,9 @@ fn carry_unit(way: Direction, cipher: &UnitCipher, dun: &Dun, text: &mut [u8])
     }
 }
 
-/// Takes the units one way, in place.
+/// Enciphers or deciphers `units` consecutive data units of `size` bytes in place, each under the number
+/// that follows; `first` is the first one's. The size is the cipher's, `texts` has just these units, and
+/// [`runs_out`] answers `false`.
 #[tactic(auto, using(crate::proofs::Loops::no_wrap))]
 pub fn carry_units(
     way: Direction,

@@ -67,7 +67,7 @@ impl<S: Store> Closing<S> {
     ///
     /// # Errors
     ///
-    /// Out of memory again.
+    /// Out of memory again: then the rest comes back, as it was.
     pub fn go_on<R: Wait>(self, _rt: &R) -> Result<Closed<S>, Closing<S>>
         ensures closed { IfOk result (λ closed. IsClosedDisk S.owns S.contents S.calls S.faults self.disk self.passes
             closed.stores.items (map (λ order. order.items) closed.shards.items)

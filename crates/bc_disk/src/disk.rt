@@ -78,7 +78,8 @@ impl<S: Store> Disk<S> {
     }
 
     /// Why the disk refuses a bio, if it does: the first that applies of what [`Bio::check`] tests, and then
-    /// `Unsupported`, where the bio has a context that neither every device nor the fallback takes.
+    /// `Unsupported`, where the bio has a context that neither every device nor the fallback takes. The context's key
+    /// is one of the disk's.
     pub fn refusal(&self, bio: &Bio) -> Option<Refusal>
         requires key { HasKey (keys_in self.now) bio.now.context }
         ensures refusal { result ≡ refusal_on self.now (extent_of bio.now) }
@@ -115,7 +116,8 @@ impl<S: Store> Disk<S> {
         Some(Refusal::Unsupported)
     }
 
-    /// Whether the key goes inline: there are devices, and each of them supports its configuration.
+    /// Whether the key, one of the disk's, goes inline: there are devices, and each of them supports its
+    /// configuration.
     pub fn is_inline(&self, key: KeyNo) -> bool
         requires { key.0 < length (keys_in self.now) }
         ensures { result ≡ goes_inline self.now.targets (keys_in self.now) key }
@@ -124,11 +126,12 @@ impl<S: Store> Disk<S> {
         self.stack.caps().supports(&key.config())
     }
 
-    /// Plugs a bio, whose units have their bytes.
+    /// Plugs a bio, for [`Disk::submit_plug`]. Its units have their bytes, and its context's key is one of the disk's.
     ///
     /// # Errors
     ///
-    /// `Refused` where the disk refuses the bio, and else `Full` where the plug is full. The plug is then as it was.
+    /// `Refused` where the disk refuses the bio, and else `Full` where the plug is full. The bio comes back, and the
+    /// plug is as it was.
     pub fn plug(&self, plug: &mut Plug, bio: Bio) -> Result<(), PlugBack>
         requires plug { IsPlug plug.old }
         requires requests { AreRequests (keys_in self.now) plug.old.requests }
@@ -159,7 +162,8 @@ impl<S: Store> Disk<S> {
         self.shards
     }
 
-    /// How many entries more the pass's caller may have at a shard.
+    /// How many entries more the pass's caller may have at a shard, of which the first is 0. The pass is one of this
+    /// disk.
     pub fn spare_units(&self, pass: &Pass<S>, shard: u16) -> u32
         requires pass { IsPassOf self.now pass.now }
         requires shard { shard < shards_of self.now.queue.medium }
@@ -168,7 +172,8 @@ impl<S: Store> Disk<S> {
         self.queue.medium().spare(&pass.queue.units, shard)
     }
 
-    /// How many events more the pass's caller may make on a device.
+    /// How many events more the pass's caller may make on a device, of which the first is 0. The pass is one of this
+    /// disk.
     pub fn spare_events(&self, pass: &Pass<S>, device: u8) -> u32
         requires pass { IsPassOf self.now pass.now }
         requires device { device < length self.now.targets }

@@ -44,9 +44,9 @@ pub struct Opened<S: Store> {
 }
 
 impl<S: Store + Drop> Disk<S> {
-    /// Opens a disk of so many blocks, for as many callers as there are quotas. The stores are those of all its
-    /// shards, in order, and the stack was made for as many blocks. Without a fallback a key that not every device
-    /// supports is refused.
+    /// Opens a disk of so many blocks of 4096 bytes, for as many callers as there are quotas. The stores are those of
+    /// all its shards, in order, and the stack was made for as many blocks. Without a fallback a key that not every
+    /// device supports is refused. [`Disk::close`] gives the stores back.
     ///
     /// # Errors
     ///

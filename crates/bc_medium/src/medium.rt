@@ -63,7 +63,8 @@ impl<S: Store> Medium<S> {
         &self.keys
     }
 
-    /// How many entries more the caller may have at a shard.
+    /// How many entries more the pass's caller may have at a shard, of which the first is 0. The pass
+    /// is one of this medium.
     pub fn spare(&self, pass: &MediumPass<S>, shard: u16) -> u32
         requires pass { Belongs self.now pass.now }
         requires shard { shard < shards_of self.now }
@@ -247,7 +248,10 @@ impl<S: Store> Medium<S> {
 }
 
 impl<S: Store + Drop> Medium<S> {
-    /// One store for each shard, and quotas by caller and shard; a pass for each caller, in order.
+    /// One store for each shard, and quotas by caller and shard, counted in entries; a pass for each
+    /// caller, in order. There are 1 to 65535 stores, and 1 to 65535 callers, each of which has a quota
+    /// for each shard. [`Medium::close`] gives the stores back.
+    ///
     /// A store that tells its calls has made none, and the quotas of each shard add up to less than
     /// 2^32.
     ///

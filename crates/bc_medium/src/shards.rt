@@ -156,11 +156,11 @@ impl<S: Store> Shards<S> {
 }
 
 impl<S: Store + Drop> Shards<S> {
-    /// One store for each shard, each with room for so many entries. A store that tells its calls
-    /// has made none.
+    /// One store for each shard, 1 to 65535 of them, each with room for so many entries. A store that
+    /// tells its calls has made none. [`Shards::close`] gives the stores back.
     ///
     /// # Errors
-    /// Out of memory.
+    /// Out of memory: then the stores are let go.
     pub fn open(
         alloc: Global,
         mut stores: Vec<S>,

@@ -72,7 +72,8 @@ impl UnitCipher {
         UnitCipher { unit, schedules }
     }
 
-    /// Enciphers one data unit in place.
+    /// Enciphers one data unit in place, under its number: XTS after IEEE 1619 section 5, or CBC with
+    /// ESSIV. `text` has the data unit's size in bytes.
     pub fn encrypt(&self, dun: &Dun, text: &mut [u8])
         requires { length text.old ≡ bytes_of self.now.unit }
         ensures size { length self.now.raw ≡ key_size self.now.mode }
@@ -84,7 +85,8 @@ impl UnitCipher {
         }
     }
 
-    /// Deciphers one data unit in place.
+    /// Deciphers one data unit in place, as [`UnitCipher::encrypt`] enciphered it under the same number.
+    /// `text` has the data unit's size in bytes.
     pub fn decrypt(&self, dun: &Dun, text: &mut [u8])
         requires { length text.old ≡ bytes_of self.now.unit }
         ensures size { length self.now.raw ≡ key_size self.now.mode }

@@ -62,7 +62,8 @@ impl Plug {
     }
 
     /// Plugs a bio: after the last one's request, where it runs on at the back of the last one, and else in a request
-    /// of its own. Takes no memory.
+    /// of its own. All calls are given equal keys; the bio's key is one of them, and its end is a sector number of 32
+    /// bits. Takes no memory.
     ///
     /// # Errors
     ///
@@ -97,7 +98,7 @@ impl Plug {
         self.requests.len()
     }
 
-    /// Request number `n`, lent for carrying it out.
+    /// Request number `n`, from 0 and less than [`Plug::requests`], lent for carrying it out.
     pub fn request_mut(&mut self, n: usize) -> &mut Request
         requires { n < length self.old.requests }
         ensures* writes_back { sem 𝓛 (Lends the_row request_row self.entry result (with_request n self.old)) }

@@ -12,7 +12,7 @@ use crate::unread::Unread;
 use bc_text::{Lines, Parts};
 use std::alloc::Global;
 
-/// The report that the text says.
+/// The report that the text says. A text has fewer than 2^32 - 1 bytes.
 ///
 /// # Errors
 ///

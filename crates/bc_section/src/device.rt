@@ -86,7 +86,12 @@ pub trait Device<R, A, E> {
         ensures room { (after : List (ℕ × Op)) → affords self.old ((op, ops.Unplug) ∷ after) → affords self.new after };
 
     /// Submits the bios of these operations of a section as a window, and notes the answer of each.
-    /// None of them is refused.
+    /// None of them is refused. `window` has their numbers in the section, in ascending order, and
+    /// `answers` a place for each operation of the section.
+    ///
+    /// # Errors
+    ///
+    /// The device failed.
     fn window(
         &mut self,
         rt: &R,
@@ -110,7 +115,11 @@ pub trait Device<R, A, E> {
         ensures room { OnOk result ((after : List (ℕ × Op))
             → affords self.old (numbered section.now window.now ++ after) → affords self.new after) };
 
-    /// Takes a key out of all keyslots.
+    /// Takes a key out of all keyslots, and gives the answer.
+    ///
+    /// # Errors
+    ///
+    /// The device failed. That a slot with the key is held is an answer and no error.
     fn evict(&mut self, rt: &R, op: u32, key: KeyNo) -> Result<A, E>
         requires rules { IsScriptOp (facts self.old).script (ops.Evict key) }
         requires afforded { (after : List (ℕ × Op)) × affords self.old ((op, ops.Evict key) ∷ after) }
@@ -120,7 +129,11 @@ pub trait Device<R, A, E> {
         ensures room { OnOk result ((after : List (ℕ × Op)) → affords self.old ((op, ops.Evict key) ∷ after)
             → affords self.new after) };
 
-    /// Has a device program its keyslots again.
+    /// Has a device program its keyslots again, and gives the answer.
+    ///
+    /// # Errors
+    ///
+    /// The device failed.
     fn reset(&mut self, rt: &R, op: u32, device: u8) -> Result<A, E>
         requires rules { IsScriptOp (facts self.old).script (ops.Reset device) }
         requires afforded { (after : List (ℕ × Op)) × affords self.old ((op, ops.Reset device) ∷ after) }
@@ -131,8 +144,11 @@ pub trait Device<R, A, E> {
             → affords self.new after) };
 }
 
-/// Carries the operations of a section out, one after the other, and notes the answer of each. Bios
-/// between a plug and its end are held back, and submitted as a window at that end or the
+/// Carries the operations of a section out, one after the other, and notes the answer of each in
+/// `answers`, which has a place for each operation. The device is new to the section: its thread has
+/// no entry and no event yet, and it can carry out all the operations.
+///
+/// Bios between a plug and its end are held back, and submitted as a window at that end or the
 /// section's, before another plug, an eviction or a reset, and where the plug is full.
 ///
 /// # Errors

@@ -8,9 +8,9 @@ use bc_base::RamStore;
 use bc_script::Script;
 use std::alloc::{AllocError, Global};
 
-/// A store for each shard of the image, which fails where the script plans it. A fault that is planned on a shard that
-/// isn't there is without effect. The only store of one shard keeps the image itself; else each store has a copy of its
-/// part, and the image is dropped.
+/// A store for each shard of the image, which fails where the script plans it. The image has 4096 bytes for each block
+/// of the script's disk. A fault that is planned on a shard that isn't there is without effect. The only store of one
+/// shard keeps the image itself; else each store has a copy of its part, and the image is dropped.
 ///
 /// # Errors
 /// Out of memory.

@@ -28,10 +28,12 @@ use std::alloc::{AllocError, Global};
 use std::sync::Wait;
 use std::thread::Threads;
 
-/// Carries a script out by a thread for each of its sections, all at once. `image`, `shards`, the report and the
-/// image that is left are as in `serial`; which orders come about depends on how the threads interleave, but each run
-/// is lawful. The gate is passed before each operation, after its answer, and where a part of a request has its hold.
-/// There are no helpers yet.
+/// Carries a script out by a thread for each of its sections, all at once.
+///
+/// `image` is the disk as the run finds it: 4096 bytes for each block of the script's disk. `shards` is 1 to 64, and
+/// block `b` lies in shard `b % shards`. Which orders come about depends on how the threads interleave, but each run is
+/// lawful. The gate is passed before each operation, after its answer, and where a part of a request has its hold.
+/// `helpers` is 0: there are no helpers yet.
 ///
 /// # Errors
 ///

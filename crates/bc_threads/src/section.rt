@@ -40,7 +40,8 @@ impl<'s> Model for Section<'s> {
 }
 
 impl<'s> Section<'s> {
-    /// The section of a thread, with all memory that carrying it out takes.
+    /// The section of a thread of the script, of which the first is 0, with all memory that carrying it out takes.
+    /// [`work`](crate::work) carries it out.
     ///
     /// # Errors
     ///

@@ -35,7 +35,7 @@ pub enum Refusal {
 }
 
 impl Refusal {
-    /// The number that the process ends with.
+    /// The number that the process ends with: 1 for a bad command line, 9 out of memory, and else 2.
     pub fn code(&self) -> u8 {
         match self {
             Refusal::Usage => 1,

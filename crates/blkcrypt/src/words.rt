@@ -4,8 +4,11 @@ use bc_run::Status;
 use std::env;
 use std::io::ErrorKind;
 
-/// The words after the program's name. A word that isn't UTF-8 makes a faulty command line. No clause says which they
-/// are, since the system gives them.
+/// The words after the program's name. No clause says which they are, since the system gives them.
+///
+/// # Errors
+///
+/// `Usage` where a word isn't UTF-8, and `NoMemory` out of memory.
 pub fn words(rt: &HostRuntime) -> Result<Vec<String>, Status> {
     let all = match env::args(rt) {
         Ok(all) => all,

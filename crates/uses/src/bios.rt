@@ -7,8 +7,10 @@ use bc_bio::Bio;
 use bc_key::Keys;
 use std::alloc::Global;
 
-/// The first data unit of a bio, and the others, each with its sector and number. A bio that a disk of so many sectors
-/// refuses, or that has one unit alone, is given back.
+/// The first data unit of a bio, and the others, each with its sector and number. The context's key is one of `keys`.
+///
+/// # Errors
+/// The bio as it was, where a disk of so many sectors refuses it, where it has one unit alone, or out of memory.
 pub fn first_unit(alloc: Global, keys: &Keys, sectors: u32, bio: Bio) -> Result<(Bio, Bio), Bio>
     requires { HasKey keys.now.keys bio.context }
     ensures one { IfOk result (λ parts. length parts.0.units ≡ 1) }

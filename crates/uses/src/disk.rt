@@ -113,7 +113,8 @@ fn carry_out<S: Store, R: Wait>(
     access(rt, alloc, medium, pass, at, step.fill)
 }
 
-/// Carries out a caller's steps, one after the other, as far as there is memory.
+/// Carries out a caller's steps, one after the other, as far as there is memory. The pass is one of the medium, which
+/// has as many shards and sectors as the shape says.
 pub fn carry_out_all<S: Store, R: Wait>(
     rt: &R,
     alloc: Global,
@@ -199,7 +200,8 @@ fn turn_round<T>(items: &mut Vec<T>)
     items.as_mut_slice().reverse();
 }
 
-/// Opens a medium on these stores without keys, carries out the steps of all callers at once, and closes it.
+/// Opens a medium on these stores without keys, carries out the steps of all callers at once, and closes it. The stores
+/// have so many sectors, and the quotas are as [`Medium::open`] asks for them; the steps are by caller.
 ///
 /// # Errors
 /// Out of memory.

@@ -23,6 +23,9 @@ fn serial_words(alloc: Global) -> Result<Vec<String>, AllocError>
 }
 
 /// Carries out the script that a text says, over zeros. The sink holds the report.
+///
+/// # Errors
+/// The status of [`run`](bc_run::run) where it isn't `Ok`, and `NoMemory` where there is no memory to begin with.
 #[tactic(auto, using(bc_run::proofs::MakeEnds::script_ends))]
 pub fn report_of<R: Threads + Wait + Sync>(
     rt: &R,

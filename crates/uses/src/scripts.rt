@@ -6,6 +6,9 @@ use bc_script::{ParseError, parse};
 use std::alloc::Global;
 
 /// Whether the text is a script's. Where it isn't, prints the first line that fails a test, and which: `script line 4: key`.
+///
+/// # Errors
+/// Out of memory, or printing failed.
 pub fn is_script(rt: &impl Print, alloc: Global, text: &[u8]) -> anyhow::Result<bool>
     ensures { IfOk result (λ good. good ≡ is_none (error_of text.now)) }
 {

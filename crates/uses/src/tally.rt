@@ -39,6 +39,9 @@ impl Story for Tally {
 
 impl Tally {
     /// No marks, with room for so many.
+    ///
+    /// # Errors
+    /// Out of memory.
     pub fn new(alloc: Global, room: usize) -> Result<Tally, AllocError>
         ensures { IfOk result (λ tally. tally.callers.items ≡ []) }
     {
@@ -136,6 +139,9 @@ pub fn marks_of_two<R: Wait>(
 }
 
 /// Two callers make so many marks each in one tally, in threads of their own. Gives how many each has made.
+///
+/// # Errors
+/// Out of memory.
 pub fn add_up<R: Threads + Wait + Sync>(
     rt: &R,
     alloc: Global,

@@ -7,7 +7,8 @@ ghost use Rattle.bc_modes.specs.UnitCipher.{enc};
 use bc_key::{Dun, Key};
 use bc_modes::{UnitCipher, unit_laws};
 
-/// Enciphers two data units that lie one after the other, the second under the number that follows.
+/// Enciphers two data units that lie one after the other, the second under the number that follows. Each has
+/// the size of a data unit of the key, in bytes.
 pub fn encipher_two(key: &Key, number: &Dun, first: &mut [u8], second: &mut [u8])
     requires first { length first.old ≡ bytes_of key.now.config.unit }
     requires second { length second.old ≡ bytes_of key.now.config.unit }
