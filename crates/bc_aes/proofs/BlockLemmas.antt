@@ -2,8 +2,8 @@
 use Rattle.std.proofs.Common.{◌≡◌, ℕ, zero, suc, ◌+◌, ◌-◌, ◌*◌, ◌/◌, ◌%◌, ◌≤◌, List, [], ◌++◌, length, take, drop, refl, sym, ap, ap₂, subst, ◌∙◌, arith, inl, inr}
 use Rattle.std.specs.Prelude.{slice_range}
 use Rattle.std.proofs.lemmas.Bool.{cases_lt}
-use Rattle.std.proofs.lemmas.List.{take-take, drop-drop, drop_at, drop_all, take_at, take_all, append-nil, length-append, length-take-le, take-append-drop}
-use Rattle.std.proofs.lemmas.Slice.{between_is}
+use Rattle.std.proofs.lemmas.List.{take-take, drop-drop, drop_at, drop_all, take_at, take_all, append-nil, length-append, length-drop, length-take-le, take-append-drop}
+use Rattle.std.proofs.lemmas.Slice.{between_is, between-put_mid, take-put_mid_below, drop-put_mid}
 use borrow.Rule.Slice.PartMut.{put_mid}
 use Rattle.bc_aes.specs.Blocks.{block, EachBlock}
 
@@ -82,6 +82,20 @@ ciphered-put cipher n m p old now next was put place whole h long so_far read si
     let from : was ≡ slice_range now n (n + length put) = read ∙ ap (λ (k : ℕ). slice_range now n (n + k)) (sym size) in
     ciphered-more cipher n (length put) p old now next (omega arith) whole h long so_far before
     (subst (λ (v : List ℕ). EachBlock cipher (slice_range now n (n + length put)) v) (sym here) (subst (λ (v : List ℕ). EachBlock cipher v put) from each)) after
+
+-- the next bytes are ciphered where they stand
+pub ciphered-part : (cipher : List ℕ → List ℕ) (n m p : ℕ) (old now put : List ℕ) → p ≡ n + m → n % 16 ≡ 0 → n + m ≤ length old → length now ≡ length old
+    → Ciphered cipher n old now → EachBlock cipher (slice_range now n (n + m)) put → Ciphered cipher p old (put_mid n (n + m - n) now put)
+ciphered-part cipher n m p old now put place whole room long so_far each =
+    let k : ℕ = n + m - n in
+    let size : length put ≡ k = each.same_length ∙ length-take-le k (drop n now) (omega (arith, length-drop n now)) in
+    let before : take n (put_mid n k now put) ≡ take n now = take-put_mid_below n k now put n (omega arith) (omega arith) in
+    let here : slice_range (put_mid n k now put) n (n + m) ≡ put = between-put_mid n k now put (n + m) (omega arith) size in
+    let after : drop (n + m) (put_mid n k now put) ≡ drop (n + m) now = drop-put_mid n k now put (n + m) (omega arith) (omega arith) size in
+    let long' : length (put_mid n k now put) ≡ length old =
+    omega (arith, long, size, length-append (take n now) (put ++ drop k (drop n now)), length-append put (drop k (drop n now)), length-take-le n now (omega arith), length-drop k (drop n now), length-drop n now) in
+    ciphered-more cipher n m p old now (put_mid n k now put) place whole (omega arith) long' so_far before
+    (subst (λ (v : List ℕ). EachBlock cipher (slice_range now n (n + m)) v) (sym here) each) after
 
 pub ciphered-all : (cipher : List ℕ → List ℕ) (n : ℕ) (old new : List ℕ) → length old ≤ n → length new ≡ length old → Ciphered cipher n old new → EachBlock cipher old new
 ciphered-all cipher n old new h e all =

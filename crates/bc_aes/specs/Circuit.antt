@@ -60,23 +60,23 @@ slice_logic = record { xor = zip2 bit_xor; and = zip2 bit_and; zeros = replicate
 abbrev pub sub_byte_circuit : Circuit
 sub_byte_circuit = record {
   gates =
-      xor_of 4 2 ∷ xor_of 8 2 ∷ xor_of 9 6 ∷ xor_of 10 5 ∷ xor_of 10 9 ∷ xor_of 0 5 ∷ xor_of 0 10 ∷
-      xor_of 5 6 ∷ xor_of 2 15 ∷ xor_of 3 10 ∷ xor_of 0 6 ∷ xor_of 14 3 ∷ xor_of 0 14 ∷ xor_of 1 19 ∷
-      xor_of 1 14 ∷ xor_of 2 10 ∷ xor_of 2 13 ∷ xor_of 17 0 ∷ xor_of 2 1 ∷ xor_of 3 15 ∷ xor_of 15 3 ∷
-      xor_of 19 0 ∷ xor_of 29 1 ∷ and_of 15 10 ∷ and_of 13 9 ∷ xor_of 0 1 ∷ and_of 19 26 ∷ xor_of 0 3 ∷
-      and_of 26 7 ∷ and_of 19 23 ∷ xor_of 0 1 ∷ and_of 22 13 ∷ xor_of 0 3 ∷ and_of 30 16 ∷ and_of 33 15 ∷
-      xor_of 0 1 ∷ and_of 32 20 ∷ xor_of 0 3 ∷ xor_of 12 2 ∷ xor_of 11 1 ∷ xor_of 9 4 ∷ xor_of 8 3 ∷
-      xor_of 3 28 ∷ xor_of 3 23 ∷ xor_of 3 22 ∷ xor_of 3 22 ∷ xor_of 3 2 ∷ and_of 4 2 ∷ xor_of 2 0 ∷
-      and_of 2 0 ∷ xor_of 0 6 ∷ xor_of 6 5 ∷ xor_of 8 4 ∷ and_of 0 1 ∷ xor_of 0 8 ∷ xor_of 10 0 ∷ xor_of 7 1 ∷
-      and_of 11 0 ∷ xor_of 0 2 ∷ xor_of 10 1 ∷ and_of 9 0 ∷ xor_of 14 0 ∷ xor_of 0 3 ∷ xor_of 12 8 ∷
-      xor_of 13 2 ∷ xor_of 10 6 ∷ xor_of 2 3 ∷ and_of 1 54 ∷ and_of 9 53 ∷ and_of 14 69 ∷ and_of 5 49 ∷
-      and_of 9 65 ∷ and_of 21 54 ∷ and_of 9 56 ∷ and_of 7 55 ∷ and_of 12 59 ∷ and_of 10 68 ∷ and_of 18 66 ∷
-      and_of 23 71 ∷ and_of 14 77 ∷ and_of 18 70 ∷ and_of 30 72 ∷ and_of 18 79 ∷ and_of 16 82 ∷ and_of 21 80 ∷
-      xor_of 2 1 ∷ xor_of 8 7 ∷ xor_of 14 6 ∷ xor_of 11 10 ∷ xor_of 19 9 ∷ xor_of 20 17 ∷ xor_of 16 15 ∷
-      xor_of 24 21 ∷ xor_of 19 18 ∷ xor_of 10 9 ∷ xor_of 15 7 ∷ xor_of 6 3 ∷ xor_of 25 11 ∷ xor_of 27 4 ∷
-      xor_of 13 2 ∷ xor_of 18 3 ∷ xor_of 9 3 ∷ xor_of 13 4 ∷ xor_of 31 4 ∷ xor_of 3 2 ∷ xor_of 36 2 ∷
-      xor_of 7 3 ∷ xor_of 11 5 ∷ xor_of 20 8 ∷ xor_of 5 4 ∷ xor_of 17 4 ∷ xor_of 20 5 ∷ xor_of 25 7 ∷
-      xor_of 9 2 ∷ xor_of 19 4 ∷ [];
+      xor_of 7 4 ∷ xor_of 8 3 ∷ xor_of 9 3 ∷ xor_of 7 5 ∷ xor_of 7 5 ∷ xor_of 4 0 ∷ xor_of 12 11 ∷
+      xor_of 7 1 ∷ xor_of 8 1 ∷ xor_of 15 11 ∷ xor_of 14 10 ∷ xor_of 16 13 ∷ xor_of 9 8 ∷ xor_of 1 8 ∷
+      xor_of 9 4 ∷ xor_of 9 8 ∷ xor_of 7 2 ∷ xor_of 10 6 ∷ xor_of 17 0 ∷ xor_of 20 19 ∷ xor_of 13 0 ∷
+      xor_of 19 0 ∷ xor_of 20 6 ∷ xor_of 4 6 ∷ xor_of 21 10 ∷ xor_of 19 15 ∷ xor_of 25 14 ∷ and_of 5 19 ∷
+      and_of 15 22 ∷ xor_of 3 0 ∷ and_of 12 30 ∷ xor_of 0 2 ∷ and_of 29 18 ∷ and_of 12 24 ∷ xor_of 9 1 ∷
+      and_of 16 18 ∷ xor_of 13 4 ∷ xor_of 1 4 ∷ and_of 37 23 ∷ and_of 35 12 ∷ xor_of 0 1 ∷ and_of 39 25 ∷
+      xor_of 0 3 ∷ xor_of 13 15 ∷ xor_of 9 10 ∷ xor_of 8 2 ∷ xor_of 8 3 ∷ xor_of 3 6 ∷ xor_of 3 7 ∷
+      xor_of 2 25 ∷ xor_of 1 0 ∷ and_of 2 3 ∷ xor_of 6 0 ∷ and_of 3 5 ∷ xor_of 6 8 ∷ xor_of 5 3 ∷ and_of 0 1 ∷
+      and_of 4 6 ∷ and_of 3 4 ∷ xor_of 4 7 ∷ and_of 14 11 ∷ and_of 10 0 ∷ xor_of 11 10 ∷ xor_of 17 6 ∷
+      xor_of 5 4 ∷ xor_of 15 7 ∷ xor_of 4 3 ∷ xor_of 2 0 ∷ xor_of 4 2 ∷ xor_of 5 4 ∷ xor_of 4 3 ∷ xor_of 2 3 ∷
+      and_of 1 66 ∷ and_of 6 65 ∷ and_of 8 74 ∷ and_of 5 61 ∷ and_of 75 7 ∷ and_of 12 68 ∷ and_of 14 61 ∷
+      and_of 10 64 ∷ and_of 8 53 ∷ and_of 13 65 ∷ and_of 11 69 ∷ and_of 16 61 ∷ and_of 18 66 ∷ and_of 15 82 ∷
+      and_of 21 65 ∷ and_of 23 68 ∷ and_of 16 84 ∷ and_of 21 87 ∷ xor_of 13 1 ∷ xor_of 7 6 ∷ xor_of 13 5 ∷
+      xor_of 10 9 ∷ xor_of 19 15 ∷ xor_of 14 13 ∷ xor_of 23 20 ∷ xor_of 11 22 ∷ xor_of 18 17 ∷ xor_of 13 6 ∷
+      xor_of 2 3 ∷ xor_of 23 10 ∷ xor_of 26 3 ∷ xor_of 13 14 ∷ xor_of 13 3 ∷ xor_of 17 4 ∷ xor_of 10 4 ∷
+      xor_of 13 5 ∷ xor_of 30 5 ∷ xor_of 3 2 ∷ xor_of 36 2 ∷ xor_of 8 3 ∷ xor_of 12 5 ∷ xor_of 20 8 ∷
+      xor_of 5 4 ∷ xor_of 18 4 ∷ xor_of 21 5 ∷ xor_of 25 7 ∷ xor_of 9 2 ∷ xor_of 15 4 ∷ [];
   results = 6 ∷ 7 ∷ 2 ∷ 3 ∷ 4 ∷ 0 ∷ 1 ∷ 8 ∷ [];
 }
 
@@ -84,22 +84,22 @@ sub_byte_circuit = record {
 abbrev pub inv_sub_byte_circuit : Circuit
 inv_sub_byte_circuit = record {
   gates =
-      xor_of 7 4 ∷ xor_of 7 5 ∷ xor_of 9 0 ∷ xor_of 10 9 ∷ xor_of 8 7 ∷ xor_of 5 0 ∷ xor_of 3 0 ∷ xor_of 8 1 ∷
-      xor_of 6 0 ∷ xor_of 4 0 ∷ xor_of 15 0 ∷ xor_of 10 1 ∷ xor_of 15 9 ∷ xor_of 7 2 ∷ xor_of 19 9 ∷
-      xor_of 19 9 ∷ xor_of 17 5 ∷ xor_of 24 19 ∷ xor_of 8 0 ∷ xor_of 12 0 ∷ xor_of 6 0 ∷ xor_of 16 2 ∷
-      xor_of 27 4 ∷ and_of 11 2 ∷ and_of 23 21 ∷ xor_of 0 1 ∷ and_of 16 3 ∷ xor_of 0 3 ∷ and_of 20 14 ∷
-      and_of 27 23 ∷ xor_of 0 1 ∷ and_of 22 20 ∷ xor_of 0 3 ∷ and_of 28 14 ∷ and_of 21 14 ∷ xor_of 0 1 ∷
-      and_of 32 29 ∷ xor_of 0 3 ∷ xor_of 12 2 ∷ xor_of 11 1 ∷ xor_of 9 4 ∷ xor_of 8 3 ∷ xor_of 3 20 ∷
-      xor_of 3 27 ∷ xor_of 3 27 ∷ xor_of 3 30 ∷ xor_of 3 2 ∷ and_of 4 2 ∷ xor_of 2 0 ∷ and_of 2 0 ∷
-      xor_of 0 6 ∷ xor_of 6 5 ∷ xor_of 8 4 ∷ and_of 0 1 ∷ xor_of 0 8 ∷ xor_of 10 0 ∷ xor_of 7 1 ∷
-      and_of 11 0 ∷ xor_of 0 2 ∷ xor_of 10 1 ∷ and_of 9 0 ∷ xor_of 14 0 ∷ xor_of 0 3 ∷ xor_of 12 8 ∷
-      xor_of 13 2 ∷ xor_of 10 6 ∷ xor_of 2 3 ∷ and_of 1 46 ∷ and_of 9 65 ∷ and_of 14 46 ∷ and_of 5 56 ∷
-      and_of 9 65 ∷ and_of 21 61 ∷ and_of 9 54 ∷ and_of 7 54 ∷ and_of 12 68 ∷ and_of 10 64 ∷ and_of 18 76 ∷
-      and_of 23 68 ∷ and_of 14 71 ∷ and_of 18 78 ∷ and_of 30 72 ∷ and_of 18 77 ∷ and_of 16 70 ∷ and_of 21 80 ∷
-      xor_of 5 4 ∷ xor_of 12 3 ∷ xor_of 3 1 ∷ xor_of 1 0 ∷ xor_of 21 19 ∷ xor_of 14 1 ∷ xor_of 12 6 ∷
-      xor_of 19 14 ∷ xor_of 16 1 ∷ xor_of 22 19 ∷ xor_of 22 4 ∷ xor_of 6 3 ∷ xor_of 10 0 ∷ xor_of 27 16 ∷
-      xor_of 7 1 ∷ xor_of 31 28 ∷ xor_of 11 10 ∷ xor_of 23 5 ∷ xor_of 17 8 ∷ xor_of 36 3 ∷ xor_of 5 1 ∷
-      xor_of 18 12 ∷ xor_of 36 11 ∷ xor_of 37 19 ∷ xor_of 13 4 ∷ xor_of 11 7 ∷ xor_of 30 0 ∷ xor_of 29 18 ∷
-      xor_of 18 4 ∷ xor_of 2 4 ∷ xor_of 8 0 ∷ [];
+      xor_of 7 4 ∷ xor_of 7 5 ∷ xor_of 9 8 ∷ xor_of 7 6 ∷ xor_of 7 4 ∷ xor_of 6 5 ∷ xor_of 12 5 ∷ xor_of 5 1 ∷
+      xor_of 8 4 ∷ xor_of 6 4 ∷ xor_of 7 4 ∷ xor_of 7 5 ∷ xor_of 17 8 ∷ xor_of 19 14 ∷ xor_of 19 6 ∷
+      xor_of 10 1 ∷ xor_of 19 9 ∷ xor_of 22 19 ∷ xor_of 20 19 ∷ xor_of 24 22 ∷ xor_of 27 2 ∷ xor_of 7 1 ∷
+      xor_of 12 3 ∷ xor_of 19 4 ∷ xor_of 22 6 ∷ xor_of 15 1 ∷ xor_of 14 4 ∷ and_of 26 20 ∷ and_of 17 3 ∷
+      xor_of 6 0 ∷ and_of 22 9 ∷ xor_of 0 2 ∷ and_of 20 10 ∷ and_of 31 24 ∷ xor_of 7 1 ∷ and_of 19 20 ∷
+      xor_of 31 4 ∷ xor_of 1 4 ∷ and_of 34 12 ∷ and_of 22 15 ∷ xor_of 0 1 ∷ and_of 38 31 ∷ xor_of 0 3 ∷
+      xor_of 13 15 ∷ xor_of 9 10 ∷ xor_of 8 2 ∷ xor_of 8 3 ∷ xor_of 3 6 ∷ xor_of 3 7 ∷ xor_of 2 36 ∷
+      xor_of 1 0 ∷ and_of 2 3 ∷ xor_of 6 0 ∷ and_of 3 5 ∷ xor_of 6 8 ∷ xor_of 5 3 ∷ and_of 0 1 ∷ and_of 4 6 ∷
+      and_of 3 4 ∷ xor_of 4 7 ∷ and_of 14 11 ∷ and_of 10 0 ∷ xor_of 11 10 ∷ xor_of 17 6 ∷ xor_of 5 4 ∷
+      xor_of 15 7 ∷ xor_of 4 3 ∷ xor_of 2 0 ∷ xor_of 4 2 ∷ xor_of 5 4 ∷ xor_of 4 3 ∷ xor_of 2 3 ∷
+      and_of 1 47 ∷ and_of 6 66 ∷ and_of 8 53 ∷ and_of 5 53 ∷ and_of 72 7 ∷ and_of 12 68 ∷ and_of 14 63 ∷
+      and_of 10 53 ∷ and_of 8 56 ∷ and_of 13 71 ∷ and_of 11 71 ∷ and_of 16 82 ∷ and_of 18 76 ∷ and_of 15 73 ∷
+      and_of 21 84 ∷ and_of 23 71 ∷ and_of 16 71 ∷ and_of 21 86 ∷ xor_of 4 3 ∷ xor_of 11 14 ∷ xor_of 3 1 ∷
+      xor_of 1 0 ∷ xor_of 21 19 ∷ xor_of 13 1 ∷ xor_of 11 6 ∷ xor_of 18 13 ∷ xor_of 15 1 ∷ xor_of 21 18 ∷
+      xor_of 21 4 ∷ xor_of 6 3 ∷ xor_of 10 0 ∷ xor_of 27 15 ∷ xor_of 7 1 ∷ xor_of 31 27 ∷ xor_of 11 10 ∷
+      xor_of 22 5 ∷ xor_of 17 8 ∷ xor_of 36 3 ∷ xor_of 5 1 ∷ xor_of 18 12 ∷ xor_of 36 11 ∷ xor_of 37 19 ∷
+      xor_of 13 4 ∷ xor_of 11 7 ∷ xor_of 29 0 ∷ xor_of 40 18 ∷ xor_of 18 4 ∷ xor_of 2 4 ∷ xor_of 8 0 ∷ [];
   results = 3 ∷ 2 ∷ 6 ∷ 10 ∷ 14 ∷ 1 ∷ 0 ∷ 8 ∷ [];
 }

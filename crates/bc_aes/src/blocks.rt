@@ -32,14 +32,13 @@ pub(crate) fn put_bytes(text: &mut [u8], at: usize, bytes: &[u8])
     text[at..at + bytes.len()].copy_from_slice(bytes);
 }
 
-// Takes each piece of so many bytes out of a text of whole pieces, does a step with it, and puts it
-// back.
-macro_rules! each_piece {
-    ($text:ident, $size:literal, $piece:ident => $step:expr) => {
-        for i in 0..$text.len() / $size {
-            let mut $piece: [u8; $size] = bytes_at($text, $size * i);
+// Takes each block out of a text of whole blocks, does a step with it, and puts it back.
+macro_rules! each_block {
+    ($text:ident, $block:ident => $step:expr) => {
+        for i in 0..$text.len() / 16 {
+            let mut $block: [u8; 16] = bytes_at($text, 16 * i);
             $step;
-            put_bytes($text, $size * i, &$piece);
+            put_bytes($text, 16 * i, &$block);
         }
     };
 }
@@ -51,7 +50,7 @@ fn encrypt_singly(schedule: &[u32], text: &mut [u8])
     requires whole_blocks { length text.old % 16 ≡ 0 }
     ensures enciphers { EachBlock (encipher_by_words schedule.now) text.old text.new }
 {
-    each_piece!(text, 16, block => encrypt(schedule, &mut block));
+    each_block!(text, block => encrypt(schedule, &mut block));
 }
 
 /// Enciphers each block in place, eight by eight.
@@ -62,7 +61,9 @@ pub(crate) fn encrypt_pieces(keys: &[Slices], text: &mut [u8])
     ensures enciphers { (schedule : List ℕ) → AreRoundKeys schedule keys.now →
         EachBlock (encipher_by_keys keys.now schedule) text.old text.new }
 {
-    each_piece!(text, 128, piece => encrypt_eight(keys, &mut piece));
+    for i in 0..text.len() / 128 {
+        encrypt_eight(keys, &mut text[128 * i..128 * i + 128]);
+    }
 }
 
 /// Enciphers each block in place under a schedule and the same round keys in slices.
@@ -87,7 +88,7 @@ fn decrypt_singly(schedule: &[u32], unmixed_schedule: &[u32], raw: &mut [u8])
     requires whole_blocks { length raw.old % 16 ≡ 0 }
     ensures deciphers { EachBlock (decipher_by_words schedule.now) raw.old raw.new }
 {
-    each_piece!(raw, 16, block => decrypt(schedule, unmixed_schedule, &mut block));
+    each_block!(raw, block => decrypt(schedule, unmixed_schedule, &mut block));
 }
 
 /// Deciphers each block in place, eight by eight.
@@ -98,7 +99,9 @@ pub(crate) fn decrypt_pieces(keys: &[Slices], raw: &mut [u8])
     ensures deciphers { (schedule : List ℕ) → AreRoundKeys schedule keys.now →
         EachBlock (decipher_by_keys keys.now schedule) raw.old raw.new }
 {
-    each_piece!(raw, 128, piece => decrypt_eight(keys, &mut piece));
+    for i in 0..raw.len() / 128 {
+        decrypt_eight(keys, &mut raw[128 * i..128 * i + 128]);
+    }
 }
 
 /// Deciphers each block in place under a schedule, the unmixed one and the round keys in slices.

@@ -76,8 +76,9 @@ fn deciphered(keys: &[Slices], q: Slices) -> Slices
 
 /// Enciphers eight blocks in place under the round keys of a schedule, in slices.
 #[inline(never)]
-pub(crate) fn encrypt_eight(keys: &[Slices], piece: &mut [u8; 128])
-    requires { 2 ≤ length keys.now }
+pub(crate) fn encrypt_eight(keys: &[Slices], piece: &mut [u8])
+    requires long { 2 ≤ length keys.now }
+    requires size { length piece.old ≡ 128 }
     ensures enciphers { (schedule : List ℕ) → AreRoundKeys schedule keys.now →
         EachBlock (encipher_by_keys keys.now schedule) piece.old piece.new }
 {
@@ -87,8 +88,9 @@ pub(crate) fn encrypt_eight(keys: &[Slices], piece: &mut [u8; 128])
 
 /// Deciphers eight blocks in place under the round keys of a schedule, in slices.
 #[inline(never)]
-pub(crate) fn decrypt_eight(keys: &[Slices], piece: &mut [u8; 128])
-    requires { 2 ≤ length keys.now }
+pub(crate) fn decrypt_eight(keys: &[Slices], piece: &mut [u8])
+    requires long { 2 ≤ length keys.now }
+    requires size { length piece.old ≡ 128 }
     ensures deciphers { (schedule : List ℕ) → AreRoundKeys schedule keys.now →
         EachBlock (decipher_by_keys keys.now schedule) piece.old piece.new }
 {

@@ -2,7 +2,7 @@
 //! column c of block k. So one operation on a slice is that operation on one bit of each of 128
 //! bytes, and rows move as words of 32 bits.
 
-ghost use Rattle.std.specs.Prelude.{◌≡◌, ℕ, ◌*◌, ◌<◌, [], take, slice_index_or};
+ghost use Rattle.std.specs.Prelude.{◌≡◌, ℕ, ◌*◌, ◌<◌, [], length, take, slice_index_or};
 ghost use Rattle.bc_aes.specs.Blocks.{block};
 ghost use Rattle.bc_aes.specs.Slices.{slices_of, vector_of, by_rows, sliced_block, AreBytes, Exchanged};
 
@@ -106,8 +106,9 @@ pub(crate) fn by_rows(block: u8x16) -> u8x16
 
 /// Block i of a piece, as a vector of its rows.
 #[inline(always)]
-fn vector_at(piece: &[u8; 128], i: usize) -> u8x16
-    requires { i < 8 }
+fn vector_at(piece: &[u8], i: usize) -> u8x16
+    requires place { i < 8 }
+    requires size { length piece.now ≡ 128 }
     ensures holds { result ≡ by_rows (block piece.now i) }
 {
     by_rows(u8x16::from_slice(&piece[16 * i..]))
@@ -115,17 +116,19 @@ fn vector_at(piece: &[u8; 128], i: usize) -> u8x16
 
 /// Writes a vector as block i of a piece.
 #[inline(always)]
-fn put_vector(piece: &mut [u8; 128], i: usize, vector: u8x16)
-    requires { i < 8 }
+fn put_vector(piece: &mut [u8], i: usize, vector: u8x16)
+    requires place { i < 8 }
+    requires size { length piece.old ≡ 128 }
     ensures before { take (16 * i) piece.new ≡ take (16 * i) piece.old }
     ensures here { block piece.new i ≡ vector }
 {
     piece[16 * i..16 * i + 16].copy_from_slice(&vector.to_array());
 }
 
-/// Eight blocks, taken into slices.
+/// A piece, eight blocks, taken into slices.
 #[inline(always)]
-pub(crate) fn from_blocks(piece: &[u8; 128]) -> Slices
+pub(crate) fn from_blocks(piece: &[u8]) -> Slices
+    requires { length piece.now ≡ 128 }
     ensures takes { (k : ℕ) → k < 8 → sliced_block (slices_of result) k ≡ block piece.now k }
 {
     transposed(Slices {
@@ -142,7 +145,8 @@ pub(crate) fn from_blocks(piece: &[u8; 128]) -> Slices
 
 /// Writes the eight blocks that are in slices.
 #[inline(always)]
-pub(crate) fn to_blocks(q: Slices, piece: &mut [u8; 128])
+pub(crate) fn to_blocks(q: Slices, piece: &mut [u8])
+    requires { length piece.old ≡ 128 }
     ensures gives { (k : ℕ) → k < 8 → block piece.new k ≡ sliced_block (slices_of q) k }
 {
     let blocks = transposed(q);
