@@ -1,12 +1,13 @@
 #!/bin/sh
-# Measures the unit ciphers beside OpenSSL on this machine, by turns, and prints the middle and the best of each, and the
-# ratios.
+# Measures the unit ciphers beside OpenSSL on this machine, by turns, and prints the middle and the best of each; and of ours
+# to OpenSSL's without hardware AES the ratio in each round, the middle one, and the ratio of the best.
 #
 #     bench/speed.sh [ROUNDS]        15 rounds where no number is given
 #
 # It needs `rt` or a crates/bc_speed/out/bc_speed that is built, and `openssl`. Run it on a machine that does nothing else:
 # the ratios are worth no more than its quiet, and where it isn't quiet those of the best say more. OpenSSL runs twice: as it
-# is, and with hardware AES masked off, which is the yardstick for a cipher that has no hardware AES. MB are millions of bytes.
+# is, and with hardware AES masked off, which is the yardstick for a cipher that has no hardware AES. Each time OpenSSL takes a
+# second, and ours four times 32 MiB, which is a third of a second or so: shorter ones scatter more. MB are millions of bytes.
 set -u
 cd "$(dirname "$0")/.." || exit 1
 rounds=${1:-15}
@@ -18,9 +19,11 @@ command -v openssl >/dev/null || { echo "speed: no openssl here" >&2; exit 1; }
 scratch=$(mktemp -d) || exit 1
 trap 'rm -rf "$scratch"' EXIT
 
-# ours MODE WAY SIZE: MB/s
+# ours MODE WAY SIZE: MB/s over four runs
 ours() {
-    "$program" "$2" "$1" "$3" $((33554432 / $3)) | sed -n 's/^.*: \([0-9]*\) MB\/s$/\1/p'
+    for _ in 1 2 3 4; do
+        "$program" "$2" "$1" "$3" $((33554432 / $3)) | sed -n 's/^.*: \([0-9]*\) MB\/s$/\1/p'
+    done | awk '{ time += 1 / $1 } END { printf "%d\n", NR / time }'
 }
 
 # theirs MODE WAY SIZE: MB/s of the cipher that is nearest
@@ -58,9 +61,12 @@ for mode in xts essiv; do
                 theirs "$mode" "$way" "$size" >>"$scratch/hard"
                 round=$((round + 1))
             done
+            paste "$scratch/ours" "$scratch/soft" | awk '{ printf "%.4f\n", $1 / $2 }' >"$scratch/ratios"
             awk -v mode="$mode" -v way="$way" -v size="$size" -v om="$(middle ours)" -v ob="$(best ours)" \
-                -v sm="$(middle soft)" -v sb="$(best soft)" -v hm="$(middle hard)" -v hb="$(best hard)" 'BEGIN {
-                printf "%-6s %-8s %5s  %6d, %6d  %14d, %6d  %10d, %6d  %6.2f, %6.2f\n", mode, way, size, om, ob, sm, sb, hm, hb, om / sm, ob / sb
+                -v sm="$(middle soft)" -v sb="$(best soft)" -v hm="$(middle hard)" -v hb="$(best hard)" \
+                -v ratio="$(middle ratios)" 'BEGIN {
+                printf "%-6s %-8s %5s  %6d, %6d  %14d, %6d  %10d, %6d  %6.2f, %6.2f\n",
+                    mode, way, size, om, ob, sm, sb, hm, hb, ratio, ob / sb
             }'
         done
     done
